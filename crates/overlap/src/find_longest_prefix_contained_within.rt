@@ -70,15 +70,12 @@ pub fn scan(old: &[u32], new: &[u32], table: &[u32]) -> Range
         'fall: loop {
             if key == new[matched] {
                 matched += 1;
-                if matched == new.len() {
-                    break 'scan Range {
-                        start: next - matched,
-                        end: next,
-                    };
-                }
                 if end - start < matched {
                     start = next - matched;
                     end = next;
+                    if matched == new.len() {
+                        break 'scan Range { start, end };
+                    }
                 }
                 i = next;
                 continue 'scan;

@@ -1,0 +1,4 @@
+pub mod Endings
+pub mod Search
+pub mod Turns
+pub mod Answers
