@@ -1,3 +1,4 @@
+pub mod Overlaps
 pub mod Endings
 pub mod Search
 pub mod Turns

@@ -113,13 +113,13 @@ module _ {old new : List ℕ} where
     pub scanned-whole : i < length old → getD old i 0 ≡ getD new k 0 → k + 1 ≡ length new
         → range (i + 1 - (k + 1)) (i + 1) ≡ overlapOf old new
     scanned-whole h q w =
-        sym (overlap-seen new old (i + 1 - (k + 1)) (i + 1)
-        (seen-whole (length old) (seen-longer (g .seen) (hit (g .cand) q) (omega (arith, g .short))) (omega arith) (omega arith)))
+        overlap-seen new old (i + 1 - (k + 1)) (i + 1)
+        (seen-whole (length old) (seen-longer (g .seen) (hit (g .cand) q) (omega (arith, g .short))) (omega arith) (omega arith))
 
   -- all of `old` was gone through
   pub scanned-out : {s e k i : ℕ} → Scanned old new s e k i → length old ≤ i → range s e ≡ overlapOf old new
   scanned-out {s} {e} {k} {i} g h =
-      sym (overlap-seen new old s e (subst (λ (n : ℕ). Seen new old (length new) n s e) (omega (arith, g .top)) (g .seen)))
+      overlap-seen new old s e (subst (λ (n : ℕ). Seen new old (length new) n s e) (omega (arith, g .top)) (g .seen))
 
 -- the loops' measure: a place more leaves less
 pub nearer : {n i : ℕ} → i < n → n - (i + 1) < n - i

@@ -1,5 +1,6 @@
+use mathlib.Core.Path.{sym}
 use Rattle.overlap.proofs.Turns.{nearer}
-use Rattle.overlap.proofs.Search.{no-key}
+use Rattle.overlap.proofs.Overlaps.{of-none}
 use Prim.Native.Nat.{_-_}
 use native.Mathlib.Omega.{arith}
 use lib.ListN.{length}
@@ -25,7 +26,7 @@ abbrev μ-scan : tie.MeasureT-scan
 
 -- src/find_longest_prefix_contained_within.rt:58:9
 returns : tie.Need-returns Inv-fall μ-fall Inv-scan μ-scan
-returns c = no-key _ _ (c .if1 .taken)
+returns c = sym (of-none _ _ (c .if1 .taken))
 
 -- src/find_longest_prefix_contained_within.rt:64:5
 scan-holds : tie.Need-scan-holds Inv-fall μ-fall Inv-scan μ-scan
