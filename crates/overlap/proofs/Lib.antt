@@ -3,3 +3,4 @@ pub mod Endings
 pub mod Search
 pub mod Turns
 pub mod Answers
+pub mod Sheets

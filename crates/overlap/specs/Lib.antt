@@ -1,2 +1,3 @@
 pub mod Overlap
 pub mod Table
+pub mod Sheets
