@@ -63,7 +63,7 @@ module _ (old new : List ℕ) (k : ℕ) (other : Range) where
       go true e f = inl (s, record { here = e; before = λ x l h. l }, rw e)
       go false e f =
           let past : (x : ℕ) → s ≤ x → occurs old new k x ≡ true → suc s ≤ x =
-              λ x l h. ⊎-elim (λ (q : s ≡ x). let z : _≡_ {A = ℕ} 0 1 = cc in absurd (omega arith)) (λ (q : s < x). omega arith) (eq-or-lt-of-le l) in
+          λ x l h. ⊎-elim (λ (q : s ≡ x). let z : _≡_ {A = ℕ} 0 1 = cc in absurd (omega arith)) (λ (q : s < x). omega arith) (eq-or-lt-of-le l) in
           ⊎-elim (λ w. inl (w .0, record { here = w .1 .here; before = λ x l h. w .1 .before x (past x l h) h }, rw e (w .2)))
           (λ w. inr ((λ x l u h. w .0 x (past x l h) (omega arith) h), rw e (w .1))) f
 
@@ -138,12 +138,13 @@ module _ (old new : List ℕ) where
       let q : r .end - r .start ≡ f .end - f .start = omega arith in
       let c = o .early (r .start) (subst (λ (n : ℕ). occurs old new n (r .start) ≡ true) q (eq-occurs old new (r .end - r .start) (r .start) (g .keys))) in
       let d = g .early (f .start)
-          (subst (λ (n : ℕ). occurs old new n (f .start) ≡ true) (sym q) (eq-occurs old new (f .end - f .start) (f .start) (o .keys))) in
+      (subst (λ (n : ℕ). occurs old new n (f .start) ≡ true) (sym q) (eq-occurs old new (f .end - f .start) (f .start) (o .keys))) in
       ap₂ range (omega arith) (omega (arith, g .low, o .low))
 
   -- of no key, and in no key, there is none
   pub of-none : length new ≡ 0 → overlapOf old new ≡ range 0 0
-  of-none z = sym (the-only (record { low = omega arith; high = omega arith; fits = omega arith; keys = refl; most = λ l s lk h. omega arith; early = λ s h. omega arith }))
+  of-none z = sym (the-only
+      (record { low = omega arith; high = omega arith; fits = omega arith; keys = refl; most = λ l s lk h. omega arith; early = λ s h. omega arith }))
 
   pub in-none : length old ≡ 0 → overlapOf old new ≡ range 0 0
   in-none z = ap₂ range (omega (arith, overlaps .high, overlaps .low)) (omega (arith, overlaps .high))

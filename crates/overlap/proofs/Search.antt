@@ -19,7 +19,8 @@ module _ (p t : List ℕ) (k s : ℕ) where
     low = omega arith;
     same = λ a b ak q.
         let y : b ≡ s + a = omega arith in
-        ap (λ (n : ℕ). getD t n 0) y ∙ sym (getD-drop s t a 0) ∙ sym (getD-take k (drop s t) a 0 ak) ∙ ap (λ (l : List ℕ). getD l a 0) (occurs-eq t p k s h) ∙ getD-take k p a 0 ak;
+        ap (λ (n : ℕ). getD t n 0) y ∙ sym (getD-drop s t a 0) ∙ sym (getD-take k (drop s t) a 0 ak) ∙ ap (λ (l : List ℕ). getD l a 0)
+        (occurs-eq t p k s h) ∙ getD-take k p a 0 ak;
   }
 
   ends-keys : k ≤ length p → s + k ≤ length t → Ends p t (s + k) k → take k (drop s t) ≡ take k p

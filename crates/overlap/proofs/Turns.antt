@@ -3,7 +3,7 @@
 --     Scanned    the loop of `scan`, at i: `matched` keys end the first i, and start..end is the longest so far, short of the whole
 --     Falling    the loop within: `matched` is a candidate for what ends the first i + 1
 use Prim.Native.Nat.{ℕ, _+_, _-_, _≤_, _<_}
-use mathlib.Core.Path.{_≡_, refl, sym, subst, _∙_}
+use mathlib.Core.Path.{_≡_, refl, subst, _∙_}
 use mathlib.Core.List.{List}
 use native.Mathlib.Omega.{arith}
 use lib.ListN.{length, drop, getD, set, length-set}
