@@ -1,0 +1,94 @@
+//! The calls over lists as a caller meets them: this reading's refusals, the completed Rust's
+//! answers, then the rooms whose length only the answer tells.
+
+use std::ops::Range;
+
+use super::lists::{
+    ElongateRooms, List, MergeRooms, RawList, check_list, check_merge, check_overlap,
+};
+use super::refusal::{Refusal, room};
+use crate::completed::Completed;
+use crate::flat::{
+    self, Applied, CURSOR_STRIDE, Diff, Elongated, HISTORY_STRIDE, ITEM_STRIDE, Lent, Merged, Spans,
+};
+
+pub fn overlap(old: &[u32], new: &[u32], work: usize) -> Result<Range<usize>, Refusal> {
+    check_overlap(old, new, work)?;
+    Ok(flat::overlap(old, new))
+}
+
+pub fn elongate(raw: RawList, rooms: ElongateRooms) -> Result<Elongated, Refusal> {
+    raw.check(rooms)?;
+    Ok(flat::elongate(
+        raw.operations,
+        raw.spans,
+        raw.keys,
+        raw.joins,
+        raw.text,
+    ))
+}
+
+pub fn merge(lent: &Lent, left: List, right: List, rooms: MergeRooms) -> Result<Merged, Refusal> {
+    check_merge(lent, left, right, rooms)?;
+    Ok(flat::merge::<Completed>(
+        lent,
+        left.operations,
+        right.operations,
+        left.cursors,
+        right.cursors,
+    ))
+}
+
+pub fn apply(
+    lent: &Lent,
+    list: List,
+    text_room: usize,
+    cursors_room: usize,
+) -> Result<Applied, Refusal> {
+    check_list(lent, list)?;
+    let applied = flat::apply(lent, list.operations, list.cursors);
+    room(applied.text.len(), 1, text_room)?;
+    room(
+        applied.cursors.len() / CURSOR_STRIDE,
+        CURSOR_STRIDE,
+        cursors_room,
+    )?;
+    Ok(applied)
+}
+
+pub fn apply_with_history(
+    lent: &Lent,
+    operations: &[usize],
+    spans_room: usize,
+    text_room: usize,
+) -> Result<Spans, Refusal> {
+    check_list(lent, without_cursors(operations))?;
+    let history = flat::apply_with_history(lent, operations);
+    room(
+        history.spans.len() / HISTORY_STRIDE,
+        HISTORY_STRIDE,
+        spans_room,
+    )?;
+    room(history.text.len(), 1, text_room)?;
+    Ok(history)
+}
+
+pub fn to_diff(
+    lent: &Lent,
+    operations: &[usize],
+    items_room: usize,
+    text_room: usize,
+) -> Result<Diff, Refusal> {
+    check_list(lent, without_cursors(operations))?;
+    let diff = flat::to_diff(lent, operations);
+    room(diff.items.len() / ITEM_STRIDE, ITEM_STRIDE, items_room)?;
+    room(diff.text.len(), 1, text_room)?;
+    Ok(diff)
+}
+
+fn without_cursors(operations: &[usize]) -> List<'_> {
+    List {
+        operations,
+        cursors: &[],
+    }
+}

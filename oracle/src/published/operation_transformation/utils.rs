@@ -1,0 +1,2 @@
+pub mod cook_operations;
+pub mod elongate_operations;

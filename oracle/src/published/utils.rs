@@ -1,0 +1,2 @@
+pub mod find_longest_prefix_contained_within;
+pub mod string_builder;
