@@ -1,0 +1,14 @@
+-- Shown: `lent_fits` answers `lentFits`.
+-- How: each way through its tests is a case of the definition's tests.
+use borrow.Author.Tests.{le-leb, lt-leb}
+use Rattle.checks.proofs.lent_fits.Statement.{statement}
+use Rattle.checks.proofs.lent_fits.Tie as tie
+
+returns : tie.Need-returns
+returns c = rw (lt-leb _ _ (c .if1 .taken))
+
+returns-2 : tie.Need-returns-2
+returns-2 c = rw (le-leb _ _ (c .if1 .left))
+
+pub lent-fits-spec : {M : Type 1} → statement M
+lent-fits-spec = tie.close (tie.spec returns returns-2)

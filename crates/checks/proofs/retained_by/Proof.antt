@@ -1,0 +1,14 @@
+-- Shown: `retained_by` answers `retainedBy`.
+-- How: each way through its tests is a case of the definition's tests.
+use borrow.Author.Tests.{eq-eqb, ne-eqb}
+use Rattle.checks.proofs.retained_by.Statement.{statement}
+use Rattle.checks.proofs.retained_by.Tie as tie
+
+returns : tie.Need-returns
+returns c = rw (eq-eqb _ _ (c .if1 .taken))
+
+returns-2 : tie.Need-returns-2
+returns-2 c = rw (ne-eqb _ _ (c .if1 .left))
+
+pub retained-by-spec : {M : Type 1} → statement M
+retained-by-spec = tie.close (tie.spec returns returns-2)
