@@ -42,8 +42,8 @@ module _ (old new : List ℕ) (k s : ℕ) where
   pub occurs-in : k ≤ length new → 0 < k → occurs old new k s ≡ true → s + k ≤ length old
   occurs-in kn z h = omega (arith, simp (length-take, length-drop) at (ap length (occurs-eq h)))
 
--- of the n places from s on, r is the first where the first k keys occur
-record Place (old new : List ℕ) (k n s r : ℕ) : Type 0 where
+-- from place s on, r is the first where the first k keys occur
+record Place (old new : List ℕ) (k s r : ℕ) : Type 0 where
   here : occurs old new k r ≡ true
   before : (x : ℕ) → s ≤ x → occurs old new k x ≡ true → r ≤ x
 
@@ -51,7 +51,7 @@ record Place (old new : List ℕ) (k n s r : ℕ) : Type 0 where
 module _ (old new : List ℕ) (k : ℕ) (other : Range) where
   Finds : ℕ → ℕ → Type 0
   Finds n s =
-      ((r : ℕ) × Place old new k n s r × (first old new k n s other ≡ range r (r + k)))
+      ((r : ℕ) × Place old new k s r × (first old new k n s other ≡ range r (r + k)))
       ⊎ (((x : ℕ) → s ≤ x → x < s + n → occurs old new k x ≡ true → ⊥) × (first old new k n s other ≡ other))
 
   finds : (n s : ℕ) → Finds n s
@@ -78,7 +78,7 @@ pub record Overlap (old new : List ℕ) (k : ℕ) (r : Range) : Type 0 where
 
 module _ (old new : List ℕ) where
   -- all k keys occur, first at r
-  found : (k r : ℕ) → 0 < k → k ≤ length new → Place old new k (length old) 0 r → Overlap old new k (range r (r + k))
+  found : (k r : ℕ) → 0 < k → k ≤ length new → Place old new k 0 r → Overlap old new k (range r (r + k))
   found k r z kn p =
       let q : k ≡ r + k - r = omega arith in
       record {

@@ -1,0 +1,64 @@
+-- Plain and covering replay beside each other, what an accepted diff asks of the original, and that an answer is the only one.
+-- By the order of the checks, and the laws of edits. Assumes nothing.
+use mathlib.Core.Path.{_≡_, refl, sym, _∙_}
+use mathlib.Core.List.{List}
+use Prim.Native.Nat.{ℕ, _+_, _≤_}
+use native.Mathlib.Omega.{arith}
+use lib.ListN.{length}
+use lib.Dec.{ltb}
+use borrow.Author.Tests.{ltb-false}
+use Rattle.refusal.specs.declared.Counted.{Counted}
+use Rattle.diff.specs.Items.{itemsOf}
+use Rattle.diff.specs.Replay.{mentioned, kept, added, left}
+use Rattle.diff.specs.Checks.{Verdict, fine, refused, andThen, sizes, points, records, covers}
+use Rattle.diff.specs.Answers.{Diff, edits, textOf, plain, covering, roomed, Replayed}
+use Rattle.diff.proofs.Laws.{picked-fine, numbers-enough, replayed-length}
+
+then-fine : (a b : Verdict) → andThen a b ≡ fine → (a ≡ fine) × (b ≡ fine)
+then-fine fine b e = (refl, e)
+then-fine (refused r) b e = (e, cc)
+
+module _ (d : Diff) where
+  -- an accepted diff asks no more of the original than there is
+  pub plain-enough : plain d ≡ fine → mentioned (edits d) ≤ length (d .original)
+  unfolding plain
+  plain-enough e =
+      let is = itemsOf (d .items) (length (d .text)) in
+      let w = then-fine (sizes (d .original) is (d .text)) _ e .1 in
+      let v = then-fine (points 0 (d .text)) _ (then-fine (points 0 (d .original)) _ w .1) .1 in
+      numbers-enough 0 (length (d .original)) (edits d) (then-fine (records 0 is) _ v .1)
+
+  -- the length of the replayed text is what is retained and what is inserted
+  pub plain-length : plain d ≡ fine → length (textOf d) ≡ kept (edits d) + added (edits d)
+  unfolding textOf
+  plain-length e = replayed-length (d .original) (edits d) (plain-enough e)
+
+  -- covering replay accepts exactly when plain replay accepts and nothing is left
+  pub covering-plain : covering d ≡ fine → (plain d ≡ fine) × (left (length (d .original)) (edits d) ≡ 0)
+  unfolding covering covers
+  covering-plain e =
+      let w = then-fine (plain d) _ e in
+      let t = picked-fine (ltb 0 (left (length (d .original)) (edits d))) _ fine (w .1) in
+      (w .0, omega (arith, ltb-false 0 (left (length (d .original)) (edits d)) (t .0)))
+
+  pub plain-covering : plain d ≡ fine → left (length (d .original)) (edits d) ≡ 0 → covering d ≡ fine
+  unfolding covering covers
+  plain-covering e l = rw (e, l)
+
+  -- with the same answer and the same text
+  pub same-replay : (room room′ : List ℕ) (r : Counted) → covering d ≡ fine → Replayed covering d room r room′ → Replayed plain d room r room′
+  unfolding roomed
+  same-replay room room′ r e h =
+      let p = covering-plain e .0 in
+      record { answer = rw (p) (rw (e) at (h .answer)); leaving = rw (p) (rw (e) at (h .leaving)) }
+
+  -- the retains and deletes of a diff that covers sum to the original's length
+  pub covering-sum : covering d ≡ fine → mentioned (edits d) ≡ length (d .original)
+  unfolding left
+  covering-sum e = omega (arith, covering-plain e .1, plain-enough (covering-plain e .0))
+
+-- two answers that meet the statement of a replay are equal, and so are the rooms that they leave
+pub only-answer :
+    (check : Diff → Verdict) (d : Diff) (room : List ℕ) {r s : Counted} {a b : List ℕ}
+    → Replayed check d room r a → Replayed check d room s b → (r ≡ s) × (a ≡ b)
+only-answer check d room h k = (h .answer ∙ sym (k .answer), h .leaving ∙ sym (k .leaving))

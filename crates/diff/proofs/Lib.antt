@@ -1,0 +1,11 @@
+pub mod Signs
+pub mod Decoding
+pub mod Points
+pub mod Turns
+pub mod Stops
+pub mod Building
+pub mod Laws
+pub mod Judging
+pub mod Answering
+pub mod Covering
+pub mod Sheets

@@ -1,0 +1,78 @@
+-- What the two replays answer, and what they leave in the room.
+-- Assumes nothing.
+use mathlib.Core.Path.{_≡_}
+use Prim.Native.Nat.{ℕ}
+use mathlib.Core.List.{List}
+use lib.ListN.{length}
+use lib.IntN.{ℤ}
+use Rattle.room.specs.Placed.{answered}
+use Rattle.refusal.specs.declared.Counted.{Counted}
+use Rattle.refusal.specs.declared.Counted.the-variants.{Count, Refused}
+use Rattle.diff.specs.Items.{itemsOf}
+use Rattle.diff.specs.declared.replay.Judged.{Judged}
+use Rattle.diff.specs.declared.replay.Judged.the-variants.{Fine, Stopped}
+use Rattle.diff.specs.Replay.{Edit, editsOf, replayed, left}
+use Rattle.diff.specs.Checks.{Verdict, fine, refused, andThen, sizes, points, records, numbers, covers, fits}
+
+-- a diff as lent: the original, the numbers of the items, their text
+pub record Diff : Type 0 where
+  pub original : List ℕ
+  pub items : List ℤ
+  pub text : List ℕ
+
+abbrev pub diff : List ℕ → List ℤ → List ℕ → Diff
+diff o is t = record { original = o; items = is; text = t }
+
+unfoldable pub edits : Diff → List Edit
+edits d = editsOf (d .text) (itemsOf (d .items) (length (d .text)))
+
+-- "from_diff up to the replayed text"
+unfoldable pub textOf : Diff → List ℕ
+textOf d = replayed (d .original) (edits d)
+
+-- "For diffs: 3, 4, 1, 6 at the first offending item"
+unfoldable pub plain : Diff → Verdict
+plain d =
+    andThen (sizes (d .original) (itemsOf (d .items) (length (d .text))) (d .text))
+    (andThen (points 0 (d .original))
+    (andThen (points 0 (d .text))
+    (andThen (records 0 (itemsOf (d .items) (length (d .text)))) (numbers 0 (length (d .original)) (edits d)))))
+
+-- "9 (covering replay only)"
+unfoldable pub covering : Diff → Verdict
+covering d = andThen (plain d) (covers (length (d .original)) (edits d))
+
+-- a diff whose checks are done
+unfoldable pub always : Diff → Verdict
+always d = fine
+
+-- "All others: the exact length of the answer": the room is checked after all else
+unfoldable pub roomed : (Diff → Verdict) → Diff → List ℕ → Verdict
+roomed check d room = andThen (check d) (fits (length (textOf d)) room)
+
+-- the length where nothing is refused
+abbrev pub counted : Verdict → ℕ → Counted
+counted fine n = Count n
+counted (refused r) n = Refused r
+
+-- "A refusal writes nothing. On success a room past its answer is unchanged"
+abbrev pub leaves : Verdict → List ℕ → List ℕ → List ℕ
+leaves fine text room = answered text room
+leaves (refused r) text room = room
+
+-- the length of the replayed text alone
+unfoldable pub lengthOf : (Diff → Verdict) → Diff → Counted
+lengthOf check d = counted (check d) (length (textOf d))
+
+-- a replay with its checks, into a room: the answer, and the room afterwards
+pub record Replayed (check : Diff → Verdict) (d : Diff) (room : List ℕ) (r : Counted) (room′ : List ℕ) : Type 0 where
+  pub answer : r ≡ counted (roomed check d room) (length (textOf d))
+  pub leaving : room′ ≡ leaves (roomed check d room) (textOf d) room
+
+-- what the checks of a plain replay find, for both replays to go on with
+abbrev pub found : Verdict → ℕ → ℕ → Judged
+found fine l n = Fine l n
+found (refused r) l n = Stopped r
+
+unfoldable pub judged : Diff → Judged
+judged d = found (plain d) (left (length (d .original)) (edits d)) (length (textOf d))

@@ -1,0 +1,7 @@
+pub mod Items
+pub mod Replay
+pub mod Builder
+pub mod Checks
+pub mod Passes
+pub mod Answers
+pub mod Sheets
