@@ -1,0 +1,16 @@
+pub mod Decoded
+pub mod Sums
+pub mod Meetings
+pub mod OneTurn
+pub mod Moving
+pub mod Places
+pub mod Turns
+pub mod Whole
+pub mod Count
+pub mod Carrying
+pub mod CursorLaws
+pub mod OrderLaws
+pub mod OutputLaws
+pub mod WorkRoom
+pub mod Sound
+pub mod Sheets

@@ -1,0 +1,12 @@
+pub mod Lent
+pub mod Operations
+pub mod OrderRule
+pub mod Meeting
+pub mod Cursors
+pub mod Turn
+pub mod Merge
+pub mod Outputs
+pub mod Tiling
+pub mod Carried
+pub mod Reached
+pub mod Sheets

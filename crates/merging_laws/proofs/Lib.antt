@@ -1,0 +1,4 @@
+pub mod Decoding
+pub mod Encoding
+pub mod Accepted
+pub mod Outputs
