@@ -1,0 +1,5 @@
+pub mod Places
+pub mod Comparing
+pub mod Lending
+pub mod Readers
+pub mod Pairs

@@ -1,0 +1,1 @@
+// What the order of operations asks of its caller, shown of accepted lists: laws alone, see proofs/.
