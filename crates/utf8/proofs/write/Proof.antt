@@ -1,0 +1,40 @@
+-- `write` puts the bytes of code points into the room, or refuses 4, then 7, and writes nothing.
+-- Each way by the first number that is no code point and the room's length. Assumes nothing.
+use native.Mathlib.Omega.{arith}
+use Rattle.utf8.proofs.Ways.{all-scalar, write-bad, write-short, write-good}
+use borrow.Author.Needs.{needs}
+use Rattle.utf8.proofs.write.Statement.{statement}
+use Rattle.utf8.proofs.write.Tie as tie
+
+scalars-of-requires : tie.Need-scalars-of-requires
+scalars-of-requires c κs = search needs
+
+returns : tie.Need-returns
+returns c = write-bad _ _ (c .before .scalars-of .ensures) (c .if1 .taken) _
+
+width-of-requires : tie.Need-width-of-requires
+width-of-requires c κs = search needs
+
+returns-2 : tie.Need-returns-2
+returns-2 c = write-short _ _ (c .before .before .before .scalars-of .ensures) (c .before .before .if1 .left) _ _ (c .before .width-of .ensures) (c .if2 .taken)
+
+spill-requires : tie.Need-spill-requires
+spill-requires c κs = (all-scalar _ _ (c .before .before .before .before .scalars-of .ensures) (c .before .before .before .if1 .left), omega (arith, c .before .before .width-of .ensures))
+
+same-length : tie.Need-same-length
+same-length c = search needs
+
+returns-3 : tie.Need-returns-3
+returns-3 c = write-good _ _ (c .before .before .before .before .before .before .before .scalars-of .ensures) (c .before .before .before .before .before .before .if1 .left) _ _ _ (c .before .before .before .before .before .width-of .ensures) (c .before .before .before .before .if2 .left) (c .before .before .spill .ensures)
+
+pub write-spec : {M : Type 1} → statement M
+write-spec =
+    tie.close
+    (tie.spec
+    scalars-of-requires
+    returns
+    width-of-requires
+    returns-2
+    spill-requires
+    same-length
+    returns-3)

@@ -1,0 +1,186 @@
+-- The ways through the judge of one sequence and of many, over plain lists.
+-- A test that held makes the sequence of its kind; one that failed leaves no kind that the first byte allows. Assumes nothing.
+use mathlib.Core.Path.{_≡_, refl, sym, ap, _∙_}
+use mathlib.Core.Bool.{Bool, true, false, _&&_, _||_}
+use mathlib.Core.List.{List}
+use Prim.Native.Nat.{ℕ, zero, suc, _+_, _-_, _≤_, _<_}
+use native.Mathlib.Omega.{arith}
+use native.Mathlib.Decide.{decLt}
+use lib.Dec.{ltb}
+use borrow.Author.Tests.{ltb-true}
+use lib.ListN.{length, getD, drop}
+use Rattle.utf8_read.specs.Grammar.{tail, utf8-2, utf8-3, utf8-4, utf8-char}
+use Rattle.utf8_read.specs.Reading.{good-from, good-end}
+use Rattle.utf8_read.specs.Window.{ones, misfit, Local, Ascii, Clean, Stretch, Reached}
+use Rattle.utf8_read.proofs.Tests.{never, or-none, and-both}
+use Rattle.utf8_read.proofs.Rules.{in-two, in-three, in-four}
+use Rattle.utf8_read.proofs.Sequences.{At, stands, none, found, Fits, fits}
+use Rattle.utf8_read.proofs.Leads.{Lead, lead, says-2, says-3, says-4, says-none}
+use Rattle.utf8_read.proofs.Steps.{next-good, stop-good, end-good}
+use Rattle.utf8_read.proofs.Walk.{clean-next, clean-start, starts-here, clean-here, walked, local-join, local-none, ascii-local}
+
+module _ (s : List ℕ) (at : ℕ) (h : at < length s) where
+  pub long-1 : ones (getD s at 0) ≡ 0 → 1 ≡ utf8-char (drop at s)
+  long-1 o = sym (stands {s = s} {at = at} (At.one (lead (getD s at 0) 0 o) (omega arith)))
+
+  pub short-2 : ones (getD s at 0) ≡ 2 → length s - at < 2 → 0 ≡ utf8-char (drop at s)
+  short-2 o l = sym (none s at (omega arith) (λ n a. let w = says-2 a (lead (getD s at 0) 2 o) in omega arith))
+
+  pub long-2 : at + 2 ≤ length s → utf8-2 (getD s at 0) (getD s (at + 1) 0) ≡ true → 2 ≡ utf8-char (drop at s)
+  long-2 l t = sym (stands {s = s} {at = at} (At.two (in-two _ _ t) l))
+
+  pub bad-2 : ones (getD s at 0) ≡ 2 → utf8-2 (getD s at 0) (getD s (at + 1) 0) ≡ false → 0 ≡ utf8-char (drop at s)
+  bad-2 o t = sym (none s at (omega arith) (λ n a. never (sym (says-2 a (lead (getD s at 0) 2 o) .test) ∙ t)))
+
+  pub short-3 : ones (getD s at 0) ≡ 3 → length s - at < 3 → 0 ≡ utf8-char (drop at s)
+  short-3 o l = sym (none s at (omega arith) (λ n a. let w = says-3 a (lead (getD s at 0) 3 o) in omega arith))
+
+  pub long-3 : at + 3 ≤ length s → utf8-3 (getD s at 0) (getD s (at + 1) 0) (getD s (at + 2) 0) ≡ true → 3 ≡ utf8-char (drop at s)
+  long-3 l t = sym (stands {s = s} {at = at} (At.three (in-three _ _ _ t) l))
+
+  pub bad-3 : ones (getD s at 0) ≡ 3 → utf8-3 (getD s at 0) (getD s (at + 1) 0) (getD s (at + 2) 0) ≡ false → 0 ≡ utf8-char (drop at s)
+  bad-3 o t = sym (none s at (omega arith) (λ n a. never (sym (says-3 a (lead (getD s at 0) 3 o) .test) ∙ t)))
+
+  pub short-4 : ones (getD s at 0) ≡ 4 → length s - at < 4 → 0 ≡ utf8-char (drop at s)
+  short-4 o l = sym (none s at (omega arith) (λ n a. let w = says-4 a (lead (getD s at 0) 4 o) in omega arith))
+
+  pub long-4 : at + 4 ≤ length s → utf8-4 (getD s at 0) (getD s (at + 1) 0) (getD s (at + 2) 0) (getD s (at + 3) 0) ≡ true → 4 ≡ utf8-char (drop at s)
+  long-4 l t = sym (stands {s = s} {at = at} (At.four (in-four _ _ _ _ t) l))
+
+  pub bad-4 : ones (getD s at 0) ≡ 4 → utf8-4 (getD s at 0) (getD s (at + 1) 0) (getD s (at + 2) 0) (getD s (at + 3) 0) ≡ false → 0 ≡ utf8-char (drop at s)
+  bad-4 o t = sym (none s at (omega arith) (λ n a. never (sym (says-4 a (lead (getD s at 0) 4 o) .test) ∙ t)))
+
+  pub no-first : (n : ℕ) → n ≡ ones (getD s at 0) → (n ≡ 0 → ⊥) → (n ≡ 2 → ⊥) → (n ≡ 3 → ⊥) → (n ≡ 4 → ⊥) → 0 ≡ utf8-char (drop at s)
+  no-first n o z t r f = sym (none s at (omega arith) (λ l a. says-none a n (lead (getD s at 0) n (sym o)) z t r f))
+
+-- one byte more of a window, and of a stretch of ASCII
+pub local-more :
+    (s : List ℕ) (a p e : ℕ) (bad m : Bool) → (bad ≡ false → Local s a (p + 3))
+    → m ≡ misfit (getD s p 0) (getD s (p + 1) 0) (getD s (p + 2) 0) (getD s (p + 3) 0) → e ≡ p + 4 → (bad || m) ≡ false → Local s a e
+local-more s a p e bad m f g q n i l h =
+    let o = or-none bad m n in
+    elim (decLt (i + 3) (p + 3)) [ yes k ↦ f (o .0) i l k | no k ↦ (let z : i ≡ p = omega arith in rw z (sym g ∙ o .1)) ]
+
+-- what holds of each element of a stretch: of none, of one more, of two stretches
+pub each-more :
+    (P : ℕ → Type 0) (s : List ℕ) (a p e : ℕ) (ok t : Bool) → (ok ≡ true → (k : ℕ) → a ≤ k → k < p → P (getD s k 0)) → (t ≡ true → P (getD s p 0)) → e ≡ p + 1
+    → (ok && t) ≡ true → (k : ℕ) → a ≤ k → k < e → P (getD s k 0)
+each-more P s a p e ok t f g q n k l h =
+    let o = and-both ok t n in
+    elim (decLt k p) [ yes w ↦ f (o .0) k l w | no w ↦ (let z : k ≡ p = omega arith in rw z (g (o .1))) ]
+
+pub each-join :
+    (P : ℕ → Type 0) (s : List ℕ) (a b c d : ℕ) → c ≤ b → ((k : ℕ) → a ≤ k → k < b → P (getD s k 0)) → ((k : ℕ) → c ≤ k → k < d → P (getD s k 0))
+    → (k : ℕ) → a ≤ k → k < d → P (getD s k 0)
+each-join P s a b c d m f g k l h = elim (decLt k b) [ yes n ↦ f k l n | no n ↦ g k (omega arith) h ]
+
+pub ascii-none : (s : List ℕ) (a e : ℕ) → e ≤ a → Ascii s a e
+ascii-none s a e h k l m = absurd (omega arith)
+
+pub ascii-more : (s : List ℕ) (a p e : ℕ) (ok : Bool) → (ok ≡ true → Ascii s a p) → e ≡ p + 1 → (ok && ltb (getD s p 0) 0x80) ≡ true → Ascii s a e
+ascii-more s a p e ok f q n = each-more (λ (x : ℕ). x < 0x80) s a p e ok (ltb (getD s p 0) 0x80) f (ltb-true (getD s p 0) 0x80) q n
+
+pub ascii-join : (s : List ℕ) (a b c d : ℕ) → c ≤ b → Ascii s a b → Ascii s c d → Ascii s a d
+ascii-join = each-join (λ (x : ℕ). x < 0x80)
+
+pub three-calm :
+    (s : List ℕ) (j : ℕ) (a b c : Bool) → (a ≡ true → Ascii s j (j + 16)) → (b ≡ true → Ascii s (j + 16) (j + 16 + 16))
+    → (c ≡ true → Ascii s (j + 19) (j + 19 + 16)) → (a && b && c) ≡ true → Ascii s j (j + 35)
+three-calm s j a b c fa fb fc t k l h =
+    let t₂ = and-both (a && b) c t in
+    let t₁ = and-both a b (t₂ .0) in
+    let b₁ = ascii-join s j (j + 16) (j + 16) (j + 16 + 16) (omega arith) (fa (t₁ .0)) (fb (t₁ .1)) in
+    ascii-join s j (j + 16 + 16) (j + 19) (j + 19 + 16) (omega arith) b₁ (fc (t₂ .1)) k l (omega arith)
+
+pub four-calm :
+    (s : List ℕ) (j : ℕ) (a b c d : Bool) → (a ≡ true → Ascii s j (j + 16)) → (b ≡ true → Ascii s (j + 16) (j + 16 + 16))
+    → (c ≡ true → Ascii s (j + 32) (j + 32 + 16)) → (d ≡ true → Ascii s (j + 48) (j + 48 + 16)) → (a && b && c && d) ≡ true → Ascii s j (j + 64)
+four-calm s j a b c d fa fb fc fd t k l h =
+    let t₃ = and-both (a && b && c) d t in
+    let t₂ = and-both (a && b) c (t₃ .0) in
+    let t₁ = and-both a b (t₂ .0) in
+    let b₁ = ascii-join s j (j + 16) (j + 16) (j + 16 + 16) (omega arith) (fa (t₁ .0)) (fb (t₁ .1)) in
+    let b₂ = ascii-join s j (j + 16 + 16) (j + 32) (j + 32 + 16) (omega arith) b₁ (fc (t₂ .1)) in
+    ascii-join s j (j + 32 + 16) (j + 48) (j + 48 + 16) (omega arith) b₂ (fd (t₃ .1)) k l (omega arith)
+
+pub here : (s : List ℕ) (at : ℕ) → at ≤ length s → Clean s at → Reached s at at
+here s at m c = record { least = omega arith; most = m; clean = c; good = refl }
+
+-- going back from the end of a stretch
+module _ {s : List ℕ} {at e : ℕ} (t : Stretch s at e) where
+  pub not-first : (p : ℕ) → at ≤ p → p < e → tail (getD s p 0) ≡ true → at < p
+  not-first p l h y = elim (decLt at p) [
+    | yes k ↦ k
+    | no k ↦ (let z : at ≡ p = omega arith in never (sym y ∙ rw (← z) (starts-here s at e (t .third) (omega arith) (t .fit) (t .clean))))
+  ]
+
+  pub stayed : Reached s at at
+  stayed = here s at (omega (arith, t .least, t .most)) (t .clean)
+
+  pub came : (p : ℕ) → at ≤ p → p < e → tail (getD s p 0) ≡ false → Reached s at p
+  came p l h y =
+      let m = t .most in
+      let o = t .third in
+      let c = clean-here s at p e (omega arith) l h (t .fit) y in
+      record {
+        least = l;
+        most = omega arith;
+        clean = c;
+        good = walked s at p o l (omega arith) (λ j a b. t .fit j a (omega arith)) (t .clean) c;
+      }
+
+pub stretch-none : (s : List ℕ) (at : ℕ) → 3 ≤ at → at ≤ length s → Clean s at → Stretch s at at
+stretch-none s at h m c = record { third = h; least = omega arith; most = m; clean = c; fit = local-none s at }
+
+-- a stretch goes on by what fits, and by ASCII
+pub stretch-on : {s : List ℕ} {at e : ℕ} → Stretch s at e → 32 ≤ length s - e → Local s (e - 3 + 3) (e - 3 + 35) → Stretch s at (e + 32)
+stretch-on {s} {at} {e} t h loc =
+    let l = t .least in
+    let m = t .most in
+    let o = t .third in
+    record {
+      third = o;
+      least = omega arith;
+      most = omega arith;
+      clean = t .clean;
+      fit = local-join s at e (e + 32) (t .fit) (λ j a b. loc j (omega arith) (omega arith));
+    }
+
+pub stretch-calm :
+    {s : List ℕ} {at e : ℕ} (f : ℕ) → Stretch s at e → Ascii s (e - 3) (e - 3 + 35) → e + 32 ≤ f → f ≤ length s → Ascii s (e + 32) f → Stretch s at f
+stretch-calm {s} {at} {e} f t w n k p =
+    let l = t .least in
+    let o = t .third in
+    let c = ascii-join s (e - 3) (e - 3 + 35) (e + 32) f (omega arith) w p in
+    let loc = ascii-local s (e - 3) (f - 3) (λ i a b. c i a (omega arith)) in
+    record {
+      third = o;
+      least = omega arith;
+      most = k;
+      clean = t .clean;
+      fit = local-join s at e f (t .fit) (λ j a b. loc j (omega arith) (omega arith));
+    }
+
+-- how far the judge has come
+pub record Going (s : List ℕ) (at : ℕ) : Type 0 where
+  pub most : at ≤ length s
+  pub clean : Clean s at
+  pub good : at + good-from 0 (drop at s) ≡ good-end s
+
+pub going : (s : List ℕ) → Going s 0
+going s = record { most = omega arith; clean = clean-start s; good = omega arith }
+
+pub by-run : {s : List ℕ} {at p : ℕ} → Going s at → Reached s at p → Going s p
+by-run g r = record { most = r .most; clean = r .clean; good = sym (r .good) ∙ g .good }
+
+pub by-one : {s : List ℕ} {at : ℕ} (n : ℕ) → Going s at → n ≡ utf8-char (drop at s) → (n ≡ 0 → ⊥) → Going s (at + n) × (0 < n)
+by-one zero g e z = absurd (z refl)
+by-one {s} {at} (suc k) g e z =
+    let a = found s at k (g .most) (sym e) in
+    (record { most = fits a .ends; clean = clean-next a (g .clean); good = sym (next-good a) ∙ g .good }, omega arith)
+
+pub at-end : {s : List ℕ} {at : ℕ} → Going s at → length s ≤ at → at ≡ good-end s
+at-end {s} {at} g h = omega (arith, g .good, end-good s at h)
+
+pub at-bad : {s : List ℕ} {at n : ℕ} → Going s at → n ≡ utf8-char (drop at s) → n ≡ 0 → at ≡ good-end s
+at-bad {s} {at} g e z = omega (arith, g .good, stop-good (drop at s) (sym e ∙ z))

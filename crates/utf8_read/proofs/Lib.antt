@@ -1,0 +1,11 @@
+pub mod Bytes
+pub mod Counting
+pub mod Filling
+pub mod Judging
+pub mod Leads
+pub mod Pointing
+pub mod Rules
+pub mod Sequences
+pub mod Steps
+pub mod Tests
+pub mod Walk

@@ -1,0 +1,18 @@
+-- `begins_two` compares the count of one bits with 2.
+-- The count is the definition's. Assumes nothing.
+use borrow.Author.Needs.{needs}
+use Rattle.utf8_read.proofs.begins_two.Statement.{statement}
+use Rattle.utf8_read.proofs.begins_two.Tie as tie
+
+ones-of-requires : tie.Need-ones-of-requires
+ones-of-requires c κs = search needs
+
+returns : tie.Need-returns
+returns c = rw (c .ones-of .ensures)
+
+pub begins-two-spec : {M : Type 1} → statement M
+begins-two-spec =
+    tie.close
+    (tie.spec
+    ones-of-requires
+    returns)

@@ -1,0 +1,64 @@
+-- `calm_end` goes on by blocks of ASCII bytes.
+-- One block, then as many as come four at a time. Assumes nothing.
+use Prim.Native.Nat.{_+_, _-_, _≤_}
+use lib.ListN.{length}
+use native.Mathlib.Omega.{arith}
+use borrow.Author.Tests.{not-false}
+use Rattle.utf8_read.specs.Window.{Ascii}
+use Rattle.utf8_read.proofs.Judging.{ascii-none, ascii-join}
+use borrow.Author.Needs.{needs}
+use Rattle.utf8_read.proofs.calm_end.Statement.{statement}
+use Rattle.utf8_read.proofs.calm_end.Tie as tie
+
+abbrev Inv-calm : tie.InvT-calm
+Inv-calm bytes at end₀ end = (at ≤ end) × (end ≤ length bytes) × Ascii bytes at end
+
+abbrev μ-calm : tie.MeasureT-calm
+μ-calm bytes at end₀ end = length bytes - end
+
+calm-holds : tie.Need-calm-holds Inv-calm μ-calm
+calm-holds c = (omega arith, c .before .pre, ascii-none (c .before .args .bytes .now) (c .before .args .at) _ (omega arith))
+
+sub-calm : tie.Need-sub-calm Inv-calm μ-calm
+sub-calm c = c .calm .inv .1
+
+calm-requires : tie.Need-calm-requires Inv-calm μ-calm
+calm-requires c κs = search needs
+
+returns : tie.Need-returns Inv-calm μ-calm
+returns c = c .before .before .before .calm .inv
+
+add-calm-far : tie.Need-add-calm-far Inv-calm μ-calm
+add-calm-far c = search needs
+
+calm-far-requires : tie.Need-calm-far-requires Inv-calm μ-calm
+calm-far-requires c κs = search needs
+
+calm-less : tie.Need-calm-less Inv-calm μ-calm
+calm-less c = omega (arith, c .calm-far .ensures .0, c .calm-far .ensures .1)
+
+calm-again : tie.Need-calm-again Inv-calm μ-calm
+calm-again c = let b = ascii-join (c .before .before .before .before .before .before .args .bytes .now) (c .before .before .before .before .before .before .args .at) (c .before .before .before .before .calm .end) (c .before .before .before .before .calm .end) (c .before .before .before .before .calm .end + 16) (omega arith) (c .before .before .before .before .calm .inv .2) (c .before .before .calm2 .ensures (not-false _ (c .before .if1 .left))) in (
+  omega (arith, c .calm-far .ensures .0),
+  c .calm-far .ensures .1,
+  ascii-join (c .before .before .before .before .before .before .args .bytes .now) (c .before .before .before .before .before .before .args .at) (c .before .before .before .before .calm .end + 16) (c .before .before .before .before .calm .end + 16) _ (omega arith) b (c .calm-far .ensures .2),
+)
+
+returns-2 : tie.Need-returns-2 Inv-calm μ-calm
+returns-2 c = c .before .calm .inv
+
+pub calm-end-spec : {M : Type 1} → statement M
+calm-end-spec =
+    tie.close
+    (tie.spec
+    Inv-calm
+    μ-calm
+    calm-holds
+    sub-calm
+    calm-requires
+    returns
+    add-calm-far
+    calm-far-requires
+    calm-less
+    calm-again
+    returns-2)

@@ -1,0 +1,35 @@
+-- `calm_window` finds a window of ASCII.
+-- The three blocks overlap to the whole window. Assumes nothing.
+use Rattle.utf8_read.proofs.Judging.{three-calm}
+use borrow.Author.Needs.{needs}
+use Rattle.utf8_read.proofs.calm_window.Statement.{statement}
+use Rattle.utf8_read.proofs.calm_window.Tie as tie
+
+calm-requires : tie.Need-calm-requires
+calm-requires c κs = search needs
+
+add-calm : tie.Need-add-calm
+add-calm c = search needs
+
+calm-requires-2 : tie.Need-calm-requires-2
+calm-requires-2 c κs = search needs
+
+add-calm-2 : tie.Need-add-calm-2
+add-calm-2 c = search needs
+
+calm-requires-3 : tie.Need-calm-requires-3
+calm-requires-3 c κs = search needs
+
+returns : tie.Need-returns
+returns c = three-calm (c .before .before .before .before .args .bytes .now) (c .before .before .before .before .args .j) _ _ _ (c .before .before .calm .ensures) (c .before .calm2 .ensures) (c .calm3 .ensures)
+
+pub calm-window-spec : {M : Type 1} → statement M
+calm-window-spec =
+    tie.close
+    (tie.spec
+    calm-requires
+    add-calm
+    calm-requires-2
+    add-calm-2
+    calm-requires-3
+    returns)

@@ -1,0 +1,16 @@
+-- Shown: `misfit_of` answers `misfit`.
+-- How: its steps are those of the definition.
+use Rattle.utf8_read.specs.Window.{misfit}
+use borrow.Author.Needs.{needs}
+use Rattle.utf8_read.proofs.misfit_of.Statement.{statement}
+use Rattle.utf8_read.proofs.misfit_of.Tie as tie
+
+is-tail-requires : tie.Need-is-tail-requires
+is-tail-requires c κs = search needs
+
+returns : tie.Need-returns
+unfolding misfit
+returns c = rw (← c .is-tail .ensures)
+
+pub misfit-of-spec : {M : Type 1} → statement M
+misfit-of-spec = tie.close (tie.spec is-tail-requires returns)

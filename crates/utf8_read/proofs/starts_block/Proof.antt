@@ -1,0 +1,61 @@
+-- Shown: `starts_block` answers `starts`.
+-- How: by the invariant of its loop, below, and the laws of proofs/Counting.antt.
+use Rattle.utf8_read.proofs.Counting.{none, at-most, block-more}
+use Rattle.utf8_read.specs.Window.{starts}
+use native.Mathlib.Omega.{arith}
+use lib.ListN.{take, drop, getD, length-take}
+use mathlib.Core.Path.{_≡_, ap, _∙_}
+use mathlib.Core.List.{[], _∷_}
+use Prim.Native.Nat.{ℕ, _+_, _-_, _≤_}
+use borrow.Author.Needs.{needs}
+use Rattle.utf8_read.proofs.starts_block.Statement.{statement}
+use Rattle.utf8_read.proofs.starts_block.Tie as tie
+
+abbrev Inv-block : tie.InvT-block
+Inv-block bytes at n₀ k₀ n k = (k ≤ 64) × (n ≡ starts (take k (drop at bytes)))
+
+abbrev μ-block : tie.MeasureT-block
+μ-block bytes at n₀ k₀ n k = 64 - k
+
+block-holds : tie.Need-block-holds Inv-block μ-block
+block-holds c = (omega arith, none)
+
+add-start-of : tie.Need-add-start-of Inv-block μ-block
+add-start-of c = omega arith
+
+shared-slice-read-start-of : tie.Need-shared-slice-read-start-of Inv-block μ-block
+shared-slice-read-start-of c = omega arith
+
+start-of-requires : tie.Need-start-of-requires Inv-block μ-block
+start-of-requires c κs = search needs
+
+add-n : tie.Need-add-n Inv-block μ-block
+add-n c = omega (arith, c .before .before .before .block .inv .1, at-most (take (c .before .before .before .block .k) (drop (c .before .before .before .before .before .args .at) (c .before .before .before .before .before .args .bytes .now))), length-take (c .before .before .before .block .k) (drop (c .before .before .before .before .before .args .at) (c .before .before .before .before .before .args .bytes .now)), c .start-of .ensures, at-most (getD (c .before .before .before .before .before .args .bytes .now) (c .before .before .before .before .before .args .at + c .before .before .before .block .k) 0 ∷ []))
+
+add-k : tie.Need-add-k Inv-block μ-block
+add-k c = omega arith
+
+block-less : tie.Need-block-less Inv-block μ-block
+block-less c = omega arith
+
+block-again : tie.Need-block-again Inv-block μ-block
+block-again c = (omega arith, block-more (c .before .before .before .before .before .args .bytes .now) (c .before .before .before .before .before .args .at) (c .before .before .before .block .k) _ _ (omega arith) (c .before .before .before .block .inv .1) (c .start-of .ensures))
+
+returns : tie.Need-returns Inv-block μ-block
+returns c = c .before .block .inv .1 ∙ ap (λ (k : ℕ). starts (take k (drop (c .before .before .before .args .at) (c .before .before .before .args .bytes .now)))) (let z : c .before .block .k ≡ 64 = omega arith in z)
+
+pub starts-block-spec : {M : Type 1} → statement M
+starts-block-spec =
+    tie.close
+    (tie.spec
+    Inv-block
+    μ-block
+    block-holds
+    add-start-of
+    shared-slice-read-start-of
+    start-of-requires
+    add-n
+    add-k
+    block-less
+    block-again
+    returns)

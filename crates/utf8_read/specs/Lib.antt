@@ -1,0 +1,4 @@
+pub mod Grammar
+pub mod Reading
+pub mod Table
+pub mod Window

@@ -1,0 +1,396 @@
+// UTF-8, read (RFC 3629): how far bytes are good sequences, how many code points these hold, and the
+// code points themselves. The judge goes by windows of 32 bytes, which the compiler makes vectors of;
+// one sequence at a time is judged only at the ends and where a window does not fit.
+ghost use mathlib.Core.Path.{_≡_};
+ghost use mathlib.Core.Bool.{true, false};
+ghost use Prim.Native.Nat.{_+_, _%_, _<_, _≤_, _^_, min};
+ghost use lib.ListN.{length, take, drop};
+ghost use lib.Dec.{eqb};
+ghost use mathlib.Core.List.{[], _∷_};
+ghost use Rattle.room.specs.Placed.{Put, answered};
+ghost use Rattle.utf8_read.specs.Grammar.{tail, utf8-2, utf8-3, utf8-4, utf8-char};
+ghost use Rattle.utf8_read.specs.Table.{more};
+ghost use Rattle.utf8_read.specs.Reading.{good-end, points};
+ghost use Rattle.utf8_read.specs.Window.{ones, misfit, Local, Ascii, Clean, Reached, Stretch, starts, Pointed};
+
+// The one bits at the top of a byte: the zero bits at the top of its complement.
+fn ones_of(b: u8) -> u32
+    ensures { λ r. ⌜ r ≡ ones b ⌝ }
+{
+    u8::leading_zeros(!b)
+}
+
+// A byte under the mark 10.
+fn is_tail(b: u8) -> bool
+    ensures { λ r. ⌜ r ≡ tail b ⌝ }
+{
+    b & 0xc0 == 0x80
+}
+
+// The grammar's rules for two, three and four bytes.
+fn is_two(a: u8, b: u8) -> bool
+    ensures { λ r. ⌜ r ≡ utf8-2 a b ⌝ }
+{
+    ((0xc2 <= a) & (a <= 0xdf)) & is_tail(b)
+}
+
+fn is_three(a: u8, b: u8, c: u8) -> bool
+    ensures { λ r. ⌜ r ≡ utf8-3 a b c ⌝ }
+{
+    let tb = is_tail(b);
+    let tc = is_tail(c);
+    ((a == 0xe0) & (((0xa0 <= b) & (b <= 0xbf)) & tc))
+        | ((((0xe1 <= a) & (a <= 0xec)) & (tb & tc))
+            | (((a == 0xed) & (((0x80 <= b) & (b <= 0x9f)) & tc))
+                | (((0xee <= a) & (a <= 0xef)) & (tb & tc))))
+}
+
+fn is_four(a: u8, b: u8, c: u8, d: u8) -> bool
+    ensures { λ r. ⌜ r ≡ utf8-4 a b c d ⌝ }
+{
+    let tb = is_tail(b);
+    let tcd = is_tail(c) & is_tail(d);
+    ((a == 0xf0) & (((0x90 <= b) & (b <= 0xbf)) & tcd))
+        | ((((0xf1 <= a) & (a <= 0xf3)) & (tb & tcd))
+            | ((a == 0xf4) & (((0x80 <= b) & (b <= 0x8f)) & tcd)))
+}
+
+// How many bytes the sequence at a place takes; 0 where none stands there.
+fn length_at(bytes: &[u8], at: usize) -> usize
+    requires { ⌜ at < length (now bytes) ⌝ }
+    ensures { λ r. ⌜ r ≡ utf8-char (drop at (now (bytes .entry))) ⌝ }
+{
+    let left = bytes.len() - at;
+    let a = bytes[at];
+    let n = ones_of(a);
+    match n {
+        0 => 1,
+        2 => {
+            if left < 2 {
+                return 0;
+            }
+            if is_two(a, bytes[at + 1]) {
+                return 2;
+            }
+            0
+        }
+        3 => {
+            if left < 3 {
+                return 0;
+            }
+            if is_three(a, bytes[at + 1], bytes[at + 2]) {
+                return 3;
+            }
+            0
+        }
+        4 => {
+            if left < 4 {
+                return 0;
+            }
+            if is_four(a, bytes[at + 1], bytes[at + 2], bytes[at + 3]) {
+                return 4;
+            }
+            0
+        }
+        _ => 0,
+    }
+}
+
+// Whether d cannot stand after a, b and c. No way out before the end: a loop over it is made of vectors.
+fn misfit_of(a: u8, b: u8, c: u8, d: u8) -> bool
+    ensures { λ r. ⌜ r ≡ misfit a b c d ⌝ }
+{
+    let due = (0xc0 <= c) | (0xe0 <= b) | (0xf0 <= a);
+    (is_tail(d) != due)
+        | ((0xc0 <= d) & (d < 0xc2))
+        | (0xf5 <= d)
+        | ((c == 0xe0) & (d < 0xa0))
+        | ((c == 0xed) & (0xa0 <= d))
+        | ((c == 0xf0) & (d < 0x90))
+        | ((c == 0xf4) & (0x90 <= d))
+}
+
+// Whether one of the 32 bytes past the first three from j on does not fit.
+fn misfits(bytes: &[u8], j: usize) -> bool
+    requires { ⌜ j + 35 ≤ length (now bytes) ⌝ }
+    ensures { λ r. ⌜ (r ≡ false → Local (now (bytes .entry)) (j + 3) (j + 35)) ⌝ }
+{
+    let mut bad = false;
+    let mut k: usize = 0;
+    'window: while k < 32 {
+        let p = j + k;
+        bad = bad | misfit_of(bytes[p], bytes[p + 1], bytes[p + 2], bytes[p + 3]);
+        k += 1;
+    }
+    bad
+}
+
+// Whether the 16 bytes from a place on are ASCII.
+fn calm(bytes: &[u8], at: usize) -> bool
+    requires { ⌜ at + 16 ≤ length (now bytes) ⌝ }
+    ensures { λ r. ⌜ (r ≡ true → Ascii (now (bytes .entry)) at (at + 16)) ⌝ }
+{
+    let mut ok = true;
+    let mut k: usize = 0;
+    'calm: while k < 16 {
+        ok = ok & (bytes[at + k] < 0x80);
+        k += 1;
+    }
+    ok
+}
+
+// Whether the 35 bytes of a window are: three blocks, the last one over the end of the second.
+fn calm_window(bytes: &[u8], j: usize) -> bool
+    requires { ⌜ j + 35 ≤ length (now bytes) ⌝ }
+    ensures { λ r. ⌜ (r ≡ true → Ascii (now (bytes .entry)) j (j + 35)) ⌝ }
+{
+    calm(bytes, j) & calm(bytes, j + 16) & calm(bytes, j + 19)
+}
+
+// How far 64 ASCII bytes at a time go from a place on.
+fn calm_far(bytes: &[u8], at: usize) -> usize
+    requires { ⌜ at ≤ length (now bytes) ⌝ }
+    ensures { λ r. ⌜ (at ≤ r) × (r ≤ length (now (bytes .entry))) × Ascii (now (bytes .entry)) at r ⌝ }
+{
+    let mut end = at;
+    'far: while 64 <= bytes.len() - end {
+        let four = calm(bytes, end)
+            & calm(bytes, end + 16)
+            & calm(bytes, end + 32)
+            & calm(bytes, end + 48);
+        if !four {
+            return end;
+        }
+        end += 64;
+    }
+    end
+}
+
+// The last first byte of a sequence before e, all bytes from at to e fitting.
+fn back(bytes: &[u8], at: usize, e: usize) -> usize
+    requires { ⌜ Stretch (now bytes) at e ⌝ }
+    ensures { λ r. ⌜ Reached (now (bytes .entry)) at r ⌝ }
+{
+    if e == at {
+        return at;
+    }
+    let mut p = e - 1;
+    'back: while is_tail(bytes[p]) {
+        p -= 1;
+    }
+    p
+}
+
+// A place that good sequences from at reach, as far on as windows fit.
+fn run(bytes: &[u8], at: usize) -> usize
+    requires { ⌜ (at ≤ length (now bytes)) × Clean (now bytes) at ⌝ }
+    ensures { λ r. ⌜ Reached (now (bytes .entry)) at r ⌝ }
+{
+    if at < 3 {
+        return at;
+    }
+    let mut e = at;
+    'run: while 32 <= bytes.len() - e {
+        let j = e - 3;
+        let next = e + 32;
+        if calm_window(bytes, j) {
+            e = calm_far(bytes, next);
+        } else {
+            if misfits(bytes, j) {
+                return back(bytes, at, e);
+            }
+            e = next;
+        }
+    }
+    back(bytes, at, e)
+}
+
+// The offset of the first byte of the first bad sequence; the length where none is bad.
+pub fn good_end_of(bytes: &[u8]) -> usize
+    ensures { λ r. ⌜ r ≡ good-end (now (bytes .entry)) ⌝ }
+{
+    let mut at = 0;
+    'judge: while at < bytes.len() {
+        let p = run(bytes, at);
+        if p == bytes.len() {
+            return p;
+        }
+        let n = length_at(bytes, p);
+        if n == 0 {
+            return p;
+        }
+        at = p + n;
+    }
+    at
+}
+
+// 1 for a byte that is no tail.
+fn start_of(b: u8) -> u8
+    ensures { λ r. ⌜ r ≡ starts (b ∷ []) ⌝ }
+{
+    if is_tail(b) { 0 } else { 1 }
+}
+
+// How many of the 64 bytes from a place on are no tails: in a byte, so that 16 are counted at a time.
+fn starts_block(bytes: &[u8], at: usize) -> u8
+    requires { ⌜ at + 64 ≤ length (now bytes) ⌝ }
+    ensures { λ r. ⌜ r ≡ starts (take 64 (drop at (now (bytes .entry)))) ⌝ }
+{
+    let mut n: u8 = 0;
+    let mut k: usize = 0;
+    'block: while k < 64 {
+        n += start_of(bytes[at + k]);
+        k += 1;
+    }
+    n
+}
+
+// How many bytes are no tails: the code points of a good text.
+pub fn starts_of(bytes: &[u8]) -> usize
+    ensures { λ r. ⌜ r ≡ starts (now (bytes .entry)) ⌝ }
+{
+    let mut n: usize = 0;
+    let mut at: usize = 0;
+    'many: while 64 <= bytes.len() - at {
+        n += starts_block(bytes, at) as usize;
+        at += 64;
+    }
+    'rest: while at < bytes.len() {
+        n += start_of(bytes[at]) as usize;
+        at += 1;
+    }
+    n
+}
+
+// A code point and how many bytes it takes.
+pub struct Point {
+    pub code: u32,
+    pub len: usize,
+}
+
+fn wide(b: u8) -> u32
+    ensures { λ r. ⌜ r ≡ b ⌝ }
+{
+    b as u32
+}
+
+// x with the six bits of b after it.
+fn push(x: u32, b: u8) -> u32
+    requires { ⌜ x < 2 ^ 15 ⌝ }
+    ensures { λ r. ⌜ r ≡ more x b ⌝ }
+{
+    (x << 6) | wide(b & 0x3f)
+}
+
+// The numbers of two, three and four bytes.
+fn two_of(a: u8, b: u8) -> u32
+    ensures { λ r. ⌜ r ≡ more (a % 32) b ⌝ }
+{
+    push(wide(a & 0x1f), b)
+}
+
+fn three_of(a: u8, b: u8, c: u8) -> u32
+    ensures { λ r. ⌜ r ≡ more (more (a % 16) b) c ⌝ }
+{
+    push(push(wide(a & 0x0f), b), c)
+}
+
+fn four_of(a: u8, b: u8, c: u8, d: u8) -> u32
+    ensures { λ r. ⌜ r ≡ more (more (more (a % 8) b) c) d ⌝ }
+{
+    push(push(push(wide(a & 0x07), b), c), d)
+}
+
+// Whether the first byte of a sequence of more than one begins two, and three. Each counts for itself:
+// the compiler makes a mask of a count that is compared with one number.
+fn begins_two(a: u8) -> bool
+    ensures { λ r. ⌜ r ≡ eqb (ones a) 2 ⌝ }
+{
+    ones_of(a) == 2
+}
+
+fn begins_three(a: u8) -> bool
+    ensures { λ r. ⌜ r ≡ eqb (ones a) 3 ⌝ }
+{
+    ones_of(a) == 3
+}
+
+// The code point of the good sequence at a place.
+fn point_at(bytes: &[u8], at: usize) -> Point
+    requires { ⌜ (at < length (now bytes)) × (0 < utf8-char (drop at (now bytes))) ⌝ }
+    ensures { λ r. ⌜ Pointed (now (bytes .entry)) at r ⌝ }
+{
+    let a = bytes[at];
+    if a < 0x80 {
+        let code = wide(a);
+        return Point { code, len: 1 };
+    }
+    if begins_two(a) {
+        let code = two_of(a, bytes[at + 1]);
+        return Point { code, len: 2 };
+    }
+    if begins_three(a) {
+        let code = three_of(a, bytes[at + 1], bytes[at + 2]);
+        return Point { code, len: 3 };
+    }
+    let code = four_of(a, bytes[at + 1], bytes[at + 2], bytes[at + 3]);
+    Point { code, len: 4 }
+}
+
+// How far blocks of 16 ASCII bytes go from a place on.
+fn calm_end(bytes: &[u8], at: usize) -> usize
+    requires { ⌜ at ≤ length (now bytes) ⌝ }
+    ensures { λ r. ⌜ (at ≤ r) × (r ≤ length (now (bytes .entry))) × Ascii (now (bytes .entry)) at r ⌝ }
+{
+    let mut end = at;
+    'calm: while 16 <= bytes.len() - end {
+        if !calm(bytes, end) {
+            return end;
+        }
+        end = calm_far(bytes, end + 16);
+    }
+    end
+}
+
+// Bytes as code points, put at a place of a room.
+fn widen(src: &[u8], out: &mut [u32], at: usize) -> usize
+    requires { ⌜ at + length (now src) ≤ length (now out) ⌝ }
+    ensures { λ r. ⌜ Put (now (src .entry)) (now (out .entry)) at (now (out .exit)) r ⌝ }
+{
+    let mut j = 0;
+    'put: while j < src.len() {
+        out[at + j] = wide(src[j]);
+        j += 1;
+    }
+    at + j
+}
+
+// 16 places on, or the end.
+pub fn near(len: usize, at: usize) -> usize
+    requires { ⌜ at ≤ len ⌝ }
+    ensures { λ r. ⌜ r ≡ min len (at + 16) ⌝ }
+{
+    if len - at < 16 { len } else { at + 16 }
+}
+
+// The code points of a good text, put into a room that holds them: ASCII by blocks, and where a block
+// is not ASCII its 16 bytes one sequence at a time.
+pub fn fill(bytes: &[u8], out: &mut [u32])
+    requires { ⌜ (good-end (now bytes) ≡ length (now bytes)) × (length (points (now bytes)) ≤ length (now out)) ⌝ }
+    ensures { λ r. ⌜ now (out .exit) ≡ answered (points (now (bytes .entry))) (now (out .entry)) ⌝ }
+{
+    let mut at = 0;
+    let mut n = 0;
+    'fill: while at < bytes.len() {
+        let end = calm_end(bytes, at);
+        n = widen(&bytes[at..end], out, n);
+        at = end;
+        let stop = near(bytes.len(), at);
+        'some: while at < stop {
+            let p = point_at(bytes, at);
+            out[n] = p.code;
+            at += p.len;
+            n += 1;
+        }
+    }
+}

@@ -1,0 +1,3 @@
+pub mod Encodes
+pub mod Scalar
+pub mod Spilling

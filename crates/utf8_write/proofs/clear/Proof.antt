@@ -1,0 +1,65 @@
+-- `clear` finds 16 numbers that are code points.
+-- The flag says it of the numbers so far. Assumes nothing.
+use Prim.Native.Nat.{ℕ, _+_, _-_, _≤_}
+use mathlib.Core.Path.{_≡_, sym, _∙_}
+use mathlib.Core.Bool.{true}
+use lib.ListN.{getD}
+use native.Mathlib.Omega.{arith}
+use Rattle.utf8_read.specs.Table.{scalar}
+use Rattle.utf8_read.proofs.Judging.{each-more}
+use Rattle.utf8_write.specs.Writing.{Scalars}
+use borrow.Author.Needs.{needs}
+use Rattle.utf8_write.proofs.clear.Statement.{statement}
+use Rattle.utf8_write.proofs.clear.Tie as tie
+
+abbrev Inv-clear : tie.InvT-clear
+Inv-clear text at ok₀ k₀ ok k = (k ≤ 16) × (ok ≡ true → Scalars text at (at + k))
+
+abbrev μ-clear : tie.MeasureT-clear
+μ-clear text at ok₀ k₀ ok k = 16 - k
+
+clear-holds : tie.Need-clear-holds Inv-clear μ-clear
+clear-holds c = (omega arith, λ _ k l m. absurd (omega arith))
+
+add-is-scalar : tie.Need-add-is-scalar Inv-clear μ-clear
+add-is-scalar c = search needs
+
+mul-is-scalar : tie.Need-mul-is-scalar Inv-clear μ-clear
+mul-is-scalar c = search needs
+
+shared-slice-read-is-scalar : tie.Need-shared-slice-read-is-scalar Inv-clear μ-clear
+shared-slice-read-is-scalar c = search needs
+
+is-scalar-requires : tie.Need-is-scalar-requires Inv-clear μ-clear
+is-scalar-requires c κs = search needs
+
+add-k : tie.Need-add-k Inv-clear μ-clear
+add-k c = search needs
+
+clear-less : tie.Need-clear-less Inv-clear μ-clear
+clear-less c = search needs
+
+clear-again : tie.Need-clear-again Inv-clear μ-clear
+clear-again c = (
+  omega arith,
+  each-more (λ (x : ℕ). scalar x ≡ true) (c .before .before .before .before .before .args .text .now) (c .before .before .before .before .before .args .at) (c .before .before .before .before .before .args .at + c .before .before .before .clear .k) _ (c .before .before .before .clear .ok) _ (c .before .before .before .clear .inv .1) (λ t. sym (c .is-scalar .ensures) ∙ t) (omega arith),
+)
+
+returns : tie.Need-returns Inv-clear μ-clear
+returns c = λ t k l m. c .before .clear .inv .1 t k l (omega arith)
+
+pub clear-spec : {M : Type 1} → statement M
+clear-spec =
+    tie.close
+    (tie.spec
+    Inv-clear
+    μ-clear
+    clear-holds
+    add-is-scalar
+    mul-is-scalar
+    shared-slice-read-is-scalar
+    is-scalar-requires
+    add-k
+    clear-less
+    clear-again
+    returns)

@@ -1,0 +1,70 @@
+-- `narrow` puts ASCII numbers into a room of bytes.
+-- The loop's invariant and its ways are those of Copying. Assumes nothing.
+use Prim.Native.Nat.{_-_}
+use lib.ListN.{length}
+use native.Mathlib.Omega.{arith}
+use Rattle.room.proofs.Copying.{Copying, begins, goes-on, ends}
+use borrow.Author.Needs.{needs}
+use Rattle.utf8_write.proofs.narrow.Statement.{statement}
+use Rattle.utf8_write.proofs.narrow.Tie as tie
+
+abbrev Inv-put : tie.InvT-put
+Inv-put src out₀ at j₀ out j = Copying src out₀ at out j
+
+abbrev μ-put : tie.MeasureT-put
+μ-put src out₀ at j₀ out j = length src - j
+
+put-holds : tie.Need-put-holds Inv-put μ-put
+put-holds c = begins _ _ _
+
+mul-low : tie.Need-mul-low Inv-put μ-put
+mul-low c = search needs
+
+shared-slice-read-low : tie.Need-shared-slice-read-low Inv-put μ-put
+shared-slice-read-low c = search needs
+
+low-requires : tie.Need-low-requires Inv-put μ-put
+low-requires c κs = c .before .before .before .before .before .pre .0 (c .before .before .put .j) (omega arith) (omega arith)
+
+add-out : tie.Need-add-out Inv-put μ-put
+add-out c = search needs
+
+slice-write-out : tie.Need-slice-write-out Inv-put μ-put
+slice-write-out c = search needs
+
+add-j : tie.Need-add-j Inv-put μ-put
+add-j c = search needs
+
+put-less : tie.Need-put-less Inv-put μ-put
+put-less c = search needs
+
+put-again : tie.Need-put-again Inv-put μ-put
+put-again c = rw (c .low .ensures) (goes-on 0 (c .before .before .before .put .inv) (c .before .before .before .before .before .before .pre .1) (c .before .before .put-test .taken))
+
+add-result : tie.Need-add-result Inv-put μ-put
+add-result c = search needs
+
+same-length : tie.Need-same-length Inv-put μ-put
+same-length c = c .before .put .inv .kept
+
+returns : tie.Need-returns Inv-put μ-put
+returns c = ends (c .before .put .inv) (omega arith)
+
+pub narrow-spec : {M : Type 1} → statement M
+narrow-spec =
+    tie.close
+    (tie.spec
+    Inv-put
+    μ-put
+    put-holds
+    mul-low
+    shared-slice-read-low
+    low-requires
+    add-out
+    slice-write-out
+    add-j
+    put-less
+    put-again
+    add-result
+    same-length
+    returns)

@@ -1,0 +1,118 @@
+-- `spill` puts the bytes of code points at the start of the room.
+-- Both loops keep how far the room is filled: by runs of ASCII, and by one code point at a time. Assumes nothing.
+use Prim.Native.Nat.{_-_, _<_}
+use lib.ListN.{length}
+use native.Mathlib.Omega.{arith}
+use Rattle.utf8_write.proofs.Scalar.{scalar-below, each}
+use Rattle.utf8_write.proofs.Spilling.{Spilling, Grown, begins, part-ascii, run-fits, by-run, code-fits, by-code, not-yet, as-long, ends}
+use borrow.Author.Needs.{needs}
+use Rattle.utf8_write.proofs.spill.Statement.{statement}
+use Rattle.utf8_write.proofs.spill.Tie as tie
+
+abbrev Inv-some : tie.InvT-some
+Inv-some text out₀ i₀ at₀ end stop out i at = Grown text out₀ i₀ at₀ out i at
+
+abbrev μ-some : tie.MeasureT-some
+μ-some text out₀ i₀ at₀ end stop out i at = length text - i
+
+abbrev Inv-spill : tie.InvT-spill
+Inv-spill text out₀ i₀ at₀ out i at = Spilling text out₀ out i at
+
+abbrev μ-spill : tie.MeasureT-spill
+μ-spill text out₀ i₀ at₀ out i at = length text - i
+
+spill-holds : tie.Need-spill-holds Inv-some μ-some Inv-spill μ-spill
+spill-holds c = begins _ _
+
+plain-end-requires : tie.Need-plain-end-requires Inv-some μ-some Inv-spill μ-spill
+plain-end-requires c κs = c .before .spill .inv .most
+
+mul-narrow : tie.Need-mul-narrow Inv-some μ-some Inv-spill μ-spill
+mul-narrow c = search needs
+
+sub-narrow : tie.Need-sub-narrow Inv-some μ-some Inv-spill μ-spill
+sub-narrow c = search needs
+
+part-narrow-start : tie.Need-part-narrow-start Inv-some μ-some Inv-spill μ-spill
+part-narrow-start c = search needs
+
+part-narrow-end : tie.Need-part-narrow-end Inv-some μ-some Inv-spill μ-spill
+part-narrow-end c = search needs
+
+narrow-requires : tie.Need-narrow-requires Inv-some μ-some Inv-spill μ-spill
+narrow-requires c κs = (
+  part-ascii _ _ _ (c .before .before .plain-end .ensures .0) (c .before .before .plain-end .ensures .1) (c .before .before .plain-end .ensures .2),
+  run-fits (c .before .before .before .before .spill .inv) _ (c .before .before .plain-end .ensures .0) (c .before .before .plain-end .ensures .1) (c .before .before .plain-end .ensures .2) (c .before .before .before .before .before .before .before .pre .1),
+)
+
+near-requires : tie.Need-near-requires Inv-some μ-some Inv-spill μ-spill
+near-requires c κs = c .before .before .before .before .before .plain-end .ensures .1
+
+some-holds : tie.Need-some-holds Inv-some μ-some Inv-spill μ-spill
+some-holds c = not-yet _ _ _ _
+
+spill-less : tie.Need-spill-less Inv-some μ-some Inv-spill μ-spill
+spill-less c = omega (arith, c .some-test .left, c .before .some .inv .least, c .before .before .near .ensures, c .before .before .before .before .before .before .before .before .plain-end .ensures .0, c .before .before .before .before .before .before .before .before .plain-end .ensures .1, c .before .before .before .before .before .before .before .before .before .spill-test .taken)
+
+spill-again : tie.Need-spill-again Inv-some μ-some Inv-spill μ-spill
+spill-again c = c .before .some .inv .grown _ (c .before .before .before .before .before .before .before .before .before .before .before .before .before .pre .1)
+    (by-run (c .before .before .before .before .before .before .before .before .before .before .spill .inv) _ (c .before .before .before .before .before .before .before .before .plain-end .ensures .0) (c .before .before .before .before .before .before .before .before .plain-end .ensures .1) (c .before .before .before .before .before .before .before .before .plain-end .ensures .2) _ _ (c .before .before .before .before .before .narrow .ensures))
+
+mul-put-code : tie.Need-mul-put-code Inv-some μ-some Inv-spill μ-spill
+mul-put-code c = omega (arith, c .before .before .before .near .ensures)
+
+shared-slice-read-put-code : tie.Need-shared-slice-read-put-code Inv-some μ-some Inv-spill μ-spill
+shared-slice-read-put-code c = omega (arith, c .before .before .before .before .near .ensures)
+
+put-code-requires : tie.Need-put-code-requires Inv-some μ-some Inv-spill μ-spill
+put-code-requires c κs = let f =
+    c .before .before .before .some .inv .grown _ (c .before .before .before .before .before .before .before .before .before .before .before .before .before .before .before .pre .1)
+    (by-run (c .before .before .before .before .before .before .before .before .before .before .before .before .spill .inv) _ (c .before .before .before .before .before .before .before .before .before .before .plain-end .ensures .0) (c .before .before .before .before .before .before .before .before .before .before .plain-end .ensures .1) (c .before .before .before .before .before .before .before .before .before .before .plain-end .ensures .2) _ _ (c .before .before .before .before .before .before .before .narrow .ensures)) in
+    let l : c .before .before .before .some .i < length (c .before .before .before .before .before .before .before .before .before .before .before .before .before .before .before .args .text .now) = omega (arith, c .before .before .before .before .near .ensures) in
+    (omega (arith, scalar-below _ (each _ _ (c .before .before .before .before .before .before .before .before .before .before .before .before .before .before .before .pre .0) l)), code-fits f l (c .before .before .before .before .before .before .before .before .before .before .before .before .before .before .before .pre .1))
+
+add-i : tie.Need-add-i Inv-some μ-some Inv-spill μ-spill
+add-i c = omega (arith, c .before .before .before .before .before .before .before .near .ensures)
+
+some-less : tie.Need-some-less Inv-some μ-some Inv-spill μ-spill
+some-less c = omega (arith, c .before .before .before .before .before .before .before .near .ensures)
+
+some-again : tie.Need-some-again Inv-some μ-some Inv-spill μ-spill
+some-again c = record {
+  least = omega (arith, c .before .before .before .before .before .before .some .inv .least);
+  grown = λ d h g. by-code (c .before .before .before .before .before .before .some .inv .grown d h g) (omega (arith, c .before .before .before .before .before .before .before .near .ensures)) _ _ (c .before .before .put-code .ensures);
+}
+
+same-length : tie.Need-same-length Inv-some μ-some Inv-spill μ-spill
+same-length c = as-long (c .before .spill .inv) (c .before .before .before .before .pre .1)
+
+returns : tie.Need-returns Inv-some μ-some Inv-spill μ-spill
+returns c = ends (c .before .spill .inv) (omega arith)
+
+pub spill-spec : {M : Type 1} → statement M
+spill-spec =
+    tie.close
+    (tie.spec
+    Inv-some
+    μ-some
+    Inv-spill
+    μ-spill
+    spill-holds
+    plain-end-requires
+    mul-narrow
+    sub-narrow
+    part-narrow-start
+    part-narrow-end
+    narrow-requires
+    near-requires
+    some-holds
+    spill-less
+    spill-again
+    mul-put-code
+    shared-slice-read-put-code
+    put-code-requires
+    add-i
+    some-less
+    some-again
+    same-length
+    returns)
