@@ -1,0 +1,11 @@
+pub mod Picks
+pub mod DigitLaws
+pub mod Texts
+pub mod NoBeginning
+pub mod Canonical
+pub mod ReadBack
+pub mod Accepts
+pub mod Finding
+pub mod TextLaws
+pub mod Rests
+pub mod RecordLaws

@@ -1,0 +1,144 @@
+// The leaves of an edit file's lines, at a place of any bytes: a number, a line of one number, a code point. Line keys are byte strings.
+ghost use mathlib.Core.Path.{_≡_};
+ghost use Prim.Native.Nat.{_+_, _*_, _≤_, _<_};
+ghost use lib.ListN.{length, drop};
+ghost use Rattle.edit_format.specs.Tests.{begins};
+ghost use Rattle.edit_lines.specs.Scan.{cap, scan, closedAt, lineAt, endedAt, pointAt};
+
+// A number and the place after it. A number above every size is held as CAP.
+pub enum Number {
+    Value { value: u32, next: usize },
+    Bad,
+}
+
+// A code point and the place after the space or the LF that follows it.
+pub enum Point {
+    More { point: u32, next: usize },
+    Last { point: u32, next: usize },
+    Bad,
+}
+
+pub const CAP: u32 = 2000000;
+
+// One digit more.
+fn capped(n: u32, base: u32, digit: u32) -> u32
+    requires { ⌜ (n ≤ 2000000) × (base ≤ 16) × (digit ≤ 16) ⌝ }
+    ensures { λ r. ⌜ r ≡ cap (n * base + digit) ⌝ }
+{
+    let m = n * base + digit;
+    if m < CAP { m } else { CAP }
+}
+
+// A number in a base of 10 or 16, with no leading zero.
+fn number_at(bytes: &[u8], at: usize, base: u32) -> Number
+    requires { ⌜ (at ≤ length (now bytes)) × (1 < base) × (base ≤ 16) ⌝ }
+    ensures { λ r. ⌜ r ≡ scan base at (drop at (now (bytes .entry))) ⌝ }
+{
+    if bytes.len() <= at {
+        return Number::Bad;
+    }
+    let first = edit_format::value(bytes[at]);
+    if base <= first {
+        return Number::Bad;
+    }
+    let mut n = first;
+    let mut i = at + 1;
+    'digits: while i < bytes.len() {
+        let digit = edit_format::value(bytes[i]);
+        if base <= digit {
+            return Number::Value { value: n, next: i };
+        }
+        if n == 0 {
+            return Number::Bad;
+        }
+        n = capped(n, base, digit);
+        i += 1;
+    }
+    Number::Value { value: n, next: i }
+}
+
+// Whether a key stands at a place.
+pub fn has_key(bytes: &[u8], at: usize, key: &[u8]) -> bool
+    requires { ⌜ at ≤ length (now bytes) ⌝ }
+    ensures { λ r. ⌜ r ≡ begins (now (key .entry)) (drop at (now (bytes .entry))) ⌝ }
+{
+    if bytes.len() - at < key.len() {
+        return false;
+    }
+    let mut i = 0;
+    'key: while i < key.len() {
+        if bytes[at + i] != key[i] {
+            return false;
+        }
+        i += 1;
+    }
+    true
+}
+
+// LF after a number.
+fn closed(bytes: &[u8], n: Number) -> Number
+    ensures { λ r. ⌜ r ≡ closedAt (now (bytes .entry)) n ⌝ }
+{
+    match n {
+        Number::Value { value, next } => {
+            if next < bytes.len() {
+                if bytes[next] == b'\n' {
+                    return Number::Value {
+                        value,
+                        next: next + 1,
+                    };
+                }
+            }
+            Number::Bad
+        }
+        Number::Bad => Number::Bad,
+    }
+}
+
+// A line of one decimal number.
+pub fn number_line(bytes: &[u8], at: usize, key: &[u8]) -> Number
+    requires { ⌜ at ≤ length (now bytes) ⌝ }
+    ensures { λ r. ⌜ r ≡ lineAt (now (key .entry)) (now (bytes .entry)) at ⌝ }
+{
+    if has_key(bytes, at, key) {
+        return closed(bytes, number_at(bytes, at + key.len(), 10));
+    }
+    Number::Bad
+}
+
+// What follows a number of an add line.
+fn ended(bytes: &[u8], n: Number) -> Point
+    ensures { λ r. ⌜ r ≡ endedAt (now (bytes .entry)) n ⌝ }
+{
+    match n {
+        Number::Value { value, next } => {
+            if edit_format::is_point(value) {
+                if next < bytes.len() {
+                    let b = bytes[next];
+                    if b == b'\n' {
+                        return Point::Last {
+                            point: value,
+                            next: next + 1,
+                        };
+                    }
+                    if b == b' ' {
+                        return Point::More {
+                            point: value,
+                            next: next + 1,
+                        };
+                    }
+                }
+            }
+            Point::Bad
+        }
+        Number::Bad => Point::Bad,
+    }
+}
+
+// A code point of an add line.
+pub fn point_at(bytes: &[u8], at: usize) -> Point
+    requires { ⌜ at ≤ length (now bytes) ⌝ }
+    ensures { λ r. ⌜ r ≡ pointAt (now (bytes .entry)) at ⌝ }
+{
+    ended(bytes, number_at(bytes, at, 16))
+}

@@ -1,0 +1,7 @@
+pub mod Adding
+pub mod ItemLines
+pub mod HeadLines
+pub mod Judging
+pub mod Filling
+pub mod Signs
+pub mod Filled
