@@ -1,0 +1,6 @@
+pub mod Raws
+pub mod Elongated
+pub mod Places
+pub mod Currents
+pub mod Good
+pub mod Writes
