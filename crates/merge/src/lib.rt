@@ -1,0 +1,191 @@
+// The turns of a merge.
+use cursor_position::Progress;
+use merging::Op;
+use merging::Shift;
+use operation::Last;
+use operation::Met;
+use turns::Ahead;
+use turns::Memory;
+ghost use mathlib.Core.Path.{_≡_};
+ghost use Prim.Native.Nat.{_+_, _≤_};
+ghost use lib.ListN.{length};
+ghost use Rattle.operation.specs.Views.{LastFits, Lies, Placeable, size};
+ghost use Rattle.merge.specs.Meetings.{Shifted, Facing, Meets};
+ghost use Rattle.merge.specs.Turning.{Turnable, Turns};
+
+// What a turn does to the cursors of its side: a is taken, last is remembered of the other side,
+// which has filled the work room up to fill.
+pub fn shift_of(
+    spans: &[u32],
+    a: Op,
+    last: Last,
+    fill: usize,
+    met: Met,
+    seen: usize,
+    merged: usize,
+    work: &[u32],
+    half: usize,
+) -> Shift
+    requires { ⌜ Lies (now spans) a × (met .lost ≤ size a) × Placeable (now work) half fill last met ⌝ }
+    ensures { λ r. ⌜ Shifted (now (spans .entry)) (now (work .entry)) half fill a last met seen merged r ⌝ }
+{
+    let place = operation::place_of(a, last, met, fill, work, half, merged);
+    let length = operation::length_of(spans, a);
+    let removed = operation::removed_of(spans, a, met.lost);
+    Shift {
+        seen,
+        length,
+        removed,
+        start: place.start,
+        shared: place.shared,
+        merged,
+    }
+}
+
+// What a taken operation meets: how much it loses, what becomes of the cursors of its side, and what
+// stays remembered of the other side.
+pub struct Meeting {
+    pub lost: usize,
+    pub shift: Shift,
+    pub last: Last,
+}
+
+// The side that takes a has filled the work room up to table; what is remembered of the other side
+// stands in it up to fill.
+pub fn meet(
+    spans: &[u32],
+    keys: &[u32],
+    a: Op,
+    last: Last,
+    fill: usize,
+    seen: usize,
+    merged: usize,
+    work: &mut [u32],
+    half: usize,
+    table: usize,
+) -> Meeting
+    requires { ⌜ Facing (now spans) (now keys) (now work) half fill table a last ⌝ }
+    ensures { λ r. ⌜ Meets (now (spans .entry)) (now (keys .entry)) (now (work .entry)) (now (work .exit)) half fill table a last seen merged r ⌝ }
+{
+    let met = operation::merge_operations_consuming_insert(keys, a, last, fill, work, table);
+    let shift = shift_of(spans, a, last, fill, met, seen, merged, work, half);
+    let left = operation::used_up(a, last, met, fill);
+    Meeting {
+        lost: met.lost,
+        shift,
+        last: left,
+    }
+}
+
+// A side between two turns: what is ahead, what is remembered, how much of its own text was taken,
+// and how many of its cursors have moved.
+pub struct Side {
+    pub ahead: Ahead,
+    pub memory: Memory,
+    pub seen: usize,
+    pub cursor: usize,
+}
+
+// What the merge has so far: its text's length, the original text it consumed, its operations and its
+// cursors.
+pub struct Totals {
+    pub merged: usize,
+    pub consumed: usize,
+    pub operations: usize,
+    pub cursors: usize,
+}
+
+pub struct Turned {
+    pub own: Side,
+    pub other: Side,
+    pub totals: Totals,
+}
+
+// A turn of the side `own`, whose number is `number`: it takes a.
+pub fn turn(
+    spans: &[u32],
+    keys: &[u32],
+    operations: &[usize],
+    cursors: &[usize],
+    a: Op,
+    own: Side,
+    other: Side,
+    totals: Totals,
+    number: usize,
+    work: &mut [u32],
+    half: usize,
+    out: &mut [usize],
+    moved: &mut [usize],
+) -> Turned
+    requires { ⌜ Turnable (now spans) (now keys) (now operations) (now cursors) (now work) half a own other totals number (now out) (now moved) ⌝ }
+    ensures { λ r. ⌜ Turns (now (spans .entry)) (now (keys .entry)) (now (operations .entry)) (now (cursors .entry)) (now (work .entry)) (now (work .exit)) half a own other totals number (now (out .entry)) (now (out .exit)) (now (moved .entry)) (now (moved .exit)) r ⌝ }
+{
+    let ahead = own.ahead;
+    let memory = own.memory;
+    let facing = other.ahead;
+    let next = facing.next;
+    let heard = other.memory;
+    let last = heard.last;
+    let split = operation::split_retain_before(a, next);
+    let b = split.front;
+    let tail = split.tail;
+    let meeting = meet(
+        spans,
+        keys,
+        b,
+        last,
+        heard.fill,
+        own.seen,
+        totals.merged,
+        work,
+        half,
+        memory.fill,
+    );
+    let shift = meeting.shift;
+    let left = meeting.last;
+    let progress = cursor_position::move_with(
+        b,
+        cursors,
+        Progress {
+            next: own.cursor,
+            count: totals.cursors,
+        },
+        shift,
+        moved,
+    );
+    let result = operation::shortened(b, meeting.lost);
+    let kept = turns::remember_operation(spans, keys, result, memory, work, half);
+    let text = shift.length - shift.removed;
+    let place = turns::emit(
+        out,
+        totals.operations,
+        number,
+        totals.consumed,
+        result,
+        text,
+    );
+    let coming = turns::advance(operations, tail, ahead.behind, ahead.at);
+    Turned {
+        own: Side {
+            ahead: coming,
+            memory: kept,
+            seen: own.seen + shift.length,
+            cursor: progress.next,
+        },
+        other: Side {
+            ahead: facing,
+            memory: Memory {
+                last: left,
+                fill: heard.fill,
+            },
+            seen: other.seen,
+            cursor: other.cursor,
+        },
+        totals: Totals {
+            merged: totals.merged + text,
+            consumed: totals.consumed + turns::span_of(result),
+            operations: place,
+            cursors: progress.count,
+        },
+    }
+}

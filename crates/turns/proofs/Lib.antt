@@ -1,0 +1,4 @@
+pub mod Parts
+pub mod Coming
+pub mod Memories
+pub mod Emitted
