@@ -44,7 +44,7 @@ itemsMost = 8192
 abbrev pub textMost : ℕ
 textMost = 131070
 
--- 3: "a size limit below is passed"; "The limit itself passes"
+-- 3: "a size limit below is passed"; "The limit itself passes": the original, the items, the text as lent, and what the items use of it, ranges counted as often as they are used
 unfoldable pub sizes : List ℕ → List Item → List ℕ → Verdict
 sizes original is lent =
     andThen (refuseIf (ltb originalMost (length original)) Size)
@@ -60,7 +60,7 @@ unfoldable pub points : ℕ → List ℕ → Verdict
 points i [] = fine
 points i (x ∷ xs) = pick (isPoint x) (points (i + 1) xs) (refused (CodePoint i))
 
--- 1: "unknown kind [..]; token or range outside what was lent"; the "index of first such operation or item", counted from the one given
+-- 1: "unknown kind"; "token or range outside what was lent"; the "index of first such operation or item", counted from the one given
 unfoldable pub records : ℕ → List Item → Verdict
 records i [] = fine
 records i (Retain n ∷ is) = records (i + 1) is

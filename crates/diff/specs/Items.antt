@@ -9,7 +9,8 @@ use Rattle.room.specs.Choice.{pick}
 use Rattle.diff.specs.declared.diff.Item.{Item}
 use Rattle.diff.specs.declared.diff.Item.the-variants.{Retain, Delete, Insert, Neither}
 
--- "retains positive [..], deletes negative [..]; 0 retains nothing; the size of the most negative 64-bit number is 9223372036854775808"
+-- "retains positive with neighbours joined, deletes negative and never joined"; "0 retains nothing; the size of the most negative 64-bit number is
+-- 9223372036854775808"
 unfoldable pub numbered : ℤ → Item
 numbered (pos n) = Retain n
 numbered (negsuc n) = Delete (suc n)
@@ -27,7 +28,7 @@ itemOf (pos (suc zero)) a b lent = ranged a b lent
 itemOf (pos (suc (suc k))) a b lent = Neither
 itemOf (negsuc k) a b lent = Neither
 
--- the item at a place: "kind, number or start, length"
+-- the item at a place: three numbers, its kind, its number or start, and its length
 unfoldable pub itemAt : List ℤ → ℕ → ℕ → Item
 itemAt xs lent i = itemOf (getD xs (i * 3) (pos 0)) (getD xs (i * 3 + 1) (pos 0)) (getD xs (i * 3 + 2) (pos 0)) lent
 

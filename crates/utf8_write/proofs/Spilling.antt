@@ -8,24 +8,25 @@ use native.Mathlib.Decide.{decLt}
 use native.Mathlib.Numerals.{add-one}
 use lib.ListN.{length, getD, take, drop, length-append, take-append-drop, length-drop, drop-of-length-le}
 use lib.Seq.{take-suc, take-add, take-all, getD-drop, getD-take, drop-drop, length-take-le}
+use borrow.Author.Tests.{le-leb, lt-leb}
 use Rattle.room.specs.Placed.{placed, answered, Put}
 use Rattle.room.proofs.Answers.{one-more, same-room}
 use Rattle.utf8_read.specs.Table.{encode}
 use Rattle.utf8_read.specs.Window.{Ascii}
 use Rattle.utf8_read.proofs.Sequences.{front-1}
-use Rattle.utf8_write.specs.Writing.{encode-all}
+use Rattle.utf8_write.specs.Writing.{encode-all, step}
 use Rattle.utf8_write.proofs.Encodes.{row-1, row-2, row-3, row-4, none, one, parts}
 
-pub width-1 : (x : ℕ) → x < 0x80 → 1 ≡ length (encode x)
+width-1 : (x : ℕ) → x < 0x80 → 1 ≡ length (encode x)
 width-1 x h = rw (row-1 x h)
 
-pub width-2 : (x : ℕ) → 0x80 ≤ x → x < 0x800 → 2 ≡ length (encode x)
+width-2 : (x : ℕ) → 0x80 ≤ x → x < 0x800 → 2 ≡ length (encode x)
 width-2 x g h = rw (row-2 x g h)
 
-pub width-3 : (x : ℕ) → 0x800 ≤ x → x < 0x10000 → 3 ≡ length (encode x)
+width-3 : (x : ℕ) → 0x800 ≤ x → x < 0x10000 → 3 ≡ length (encode x)
 width-3 x g h = rw (row-3 x g h)
 
-pub width-4 : (x : ℕ) → 0x10000 ≤ x → 4 ≡ length (encode x)
+width-4 : (x : ℕ) → 0x10000 ≤ x → 4 ≡ length (encode x)
 width-4 x g = rw (row-4 x g)
 
 pub at-most-4 : (x : ℕ) → length (encode x) ≤ 4
@@ -55,6 +56,30 @@ wide-none = rw none
 pub wide-most : (s : List ℕ) → wide s ≤ 4 * length s
 wide-most [] = omega (arith, wide-none)
 wide-most (x ∷ s) = omega (arith, wide-both (x ∷ []) s, wide-one x, at-most-4 x, wide-most s)
+
+pub step-yes : (x n : ℕ) → n ≤ x → 1 ≡ step x n
+unfolding step
+step-yes x n h = rw (le-leb n x h)
+
+pub step-no : (x n : ℕ) → x < n → 0 ≡ step x n
+unfolding step
+step-no x n h = rw (lt-leb n x h)
+
+pub step-most : (x n : ℕ) → step x n ≤ 1
+step-most x n = elim (decLt x n) [ yes h ↦ omega (arith, step-no x n h) | no h ↦ omega (arith, step-yes x n (omega arith)) ]
+
+-- a step at each change of length
+pub steps : (x : ℕ) → 1 + step x 0x80 + step x 0x800 + step x 0x10000 ≡ length (encode x)
+steps x = elim (decLt x 0x80) [
+  | yes h ↦ omega (arith, width-1 x h, step-no x 0x80 h, step-no x 0x800 (omega arith), step-no x 0x10000 (omega arith))
+  | no a ↦ elim (decLt x 0x800) [
+    | yes h ↦ omega (arith, width-2 x (omega arith) h, step-yes x 0x80 (omega arith), step-no x 0x800 h, step-no x 0x10000 (omega arith))
+    | no b ↦ elim (decLt x 0x10000) [
+      | yes h ↦ omega (arith, width-3 x (omega arith) h, step-yes x 0x80 (omega arith), step-yes x 0x800 (omega arith), step-no x 0x10000 h)
+      | no c ↦ omega (arith, width-4 x (omega arith), step-yes x 0x80 (omega arith), step-yes x 0x800 (omega arith), step-yes x 0x10000 (omega arith))
+    ]
+  ]
+]
 
 -- one number more of a block
 pub block-more : (s : List ℕ) (at k n m : ℕ) → at + k < length s → n ≡ wide (take k (drop at s)) → m ≡ length (encode (getD s (at + k) 0)) → n + m ≡ wide (take (k + 1) (drop at s))

@@ -4,6 +4,7 @@ use mathlib.Core.Path.{_≡_}
 use mathlib.Core.Bool.{true}
 use mathlib.Core.List.{List, [], _∷_, _++_}
 use lib.ListN.{getD}
+use lib.Dec.{leb}
 use Rattle.room.specs.Choice.{pick}
 use Rattle.utf8_read.specs.Table.{scalar, encode}
 
@@ -20,3 +21,7 @@ encode-all (x ∷ xs) = encode x ++ encode-all xs
 -- a stretch of code points
 abbrev pub Scalars : List ℕ → ℕ → ℕ → Type 0
 Scalars s a e = (k : ℕ) → a ≤ k → k < e → scalar (getD s k 0) ≡ true
+
+-- 1 for a number that is not below another
+unfoldable pub step : ℕ → ℕ → ℕ
+step x least = pick (leb least x) 1 0

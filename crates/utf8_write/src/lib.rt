@@ -8,7 +8,7 @@ ghost use lib.ListN.{length, take, drop};
 ghost use Rattle.room.specs.Placed.{Put, answered};
 ghost use Rattle.utf8_read.specs.Table.{scalar, six, encode};
 ghost use Rattle.utf8_read.specs.Window.{Ascii};
-ghost use Rattle.utf8_write.specs.Writing.{scalars, encode-all, Scalars};
+ghost use Rattle.utf8_write.specs.Writing.{scalars, encode-all, Scalars, step};
 
 // A number that is a code point: no surrogate, and at most 10FFFF.
 fn is_scalar(x: u32) -> bool
@@ -59,20 +59,18 @@ pub fn scalars_of(text: &[u32]) -> usize
     i
 }
 
-// How many bytes a number takes.
+// 1 for a number that is not below another.
+fn at_least(x: u32, least: u32) -> u32
+    ensures { λ r. ⌜ r ≡ step x least ⌝ }
+{
+    if least <= x { 1 } else { 0 }
+}
+
+// How many bytes a number takes: a sum, so that a loop over it is made of vectors.
 fn width(x: u32) -> u32
     ensures { λ r. ⌜ r ≡ length (encode x) ⌝ }
 {
-    if x < 0x80 {
-        return 1;
-    }
-    if x < 0x800 {
-        return 2;
-    }
-    if x < 0x10000 {
-        return 3;
-    }
-    4
+    1 + at_least(x, 0x80) + at_least(x, 0x800) + at_least(x, 0x10000)
 }
 
 // How many bytes the 16 numbers from a place on take.
