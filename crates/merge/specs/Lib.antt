@@ -1,2 +1,3 @@
 pub mod Meetings
 pub mod Turning
+pub mod Choosing

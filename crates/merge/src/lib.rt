@@ -1,9 +1,11 @@
 // The turns of a merge.
 use cursor_position::Progress;
 use merging::Op;
+use merging::Order;
 use merging::Shift;
 use operation::Last;
 use operation::Met;
+use operation::Next;
 use turns::Ahead;
 use turns::Memory;
 ghost use mathlib.Core.Path.{_≡_};
@@ -11,7 +13,9 @@ ghost use Prim.Native.Nat.{_+_, _≤_};
 ghost use lib.ListN.{length};
 ghost use Rattle.operation.specs.Views.{LastFits, Lies, Placeable, size};
 ghost use Rattle.merge.specs.Meetings.{Shifted, Facing, Meets};
+ghost use Rattle.order.specs.Readable.{ofText};
 ghost use Rattle.merge.specs.Turning.{Turnable, Turns};
+ghost use Rattle.merge.specs.Choosing.{NextReadable, choiceOf};
 
 // What a turn does to the cursors of its side: a is taken, last is remembered of the other side,
 // which has filled the work room up to fill.
@@ -186,6 +190,46 @@ pub fn turn(
             consumed: totals.consumed + turns::span_of(result),
             operations: place,
             cursors: progress.count,
+        },
+    }
+}
+
+// The side of a turn, with the operation that it takes.
+pub enum Choice {
+    Nothing,
+    Left(Op),
+    Right(Op),
+}
+
+// The smaller of the two next operations; ties use the priority of the streams, and what is not less
+// goes right.
+pub fn choose(
+    text: &[u32],
+    spans: &[u32],
+    keys: &[u32],
+    left: Next,
+    right: Next,
+    priority: Order,
+) -> Choice
+    requires { ⌜ NextReadable (now text) (now spans) (now keys) left × NextReadable (now text) (now spans) (now keys) right ⌝ }
+    ensures { λ r. ⌜ r ≡ choiceOf (ofText (now (text .entry)) (now (spans .entry)) (now (keys .entry))) priority left right ⌝ }
+{
+    match left {
+        Next::Done => match right {
+            Next::Done => Choice::Nothing,
+            Next::Here(b) => Choice::Right(b),
+        },
+        Next::Here(a) => match right {
+            Next::Done => Choice::Left(a),
+            Next::Here(b) => {
+                let rule = order::cmp_priority(text, spans, keys, a, b);
+                let first = rule.then(priority);
+                match first {
+                    Order::Less => Choice::Left(a),
+                    Order::Equal => Choice::Right(b),
+                    Order::Greater => Choice::Right(b),
+                }
+            }
         },
     }
 }
