@@ -1,3 +1,6 @@
 pub mod Meetings
 pub mod Turning
 pub mod Choosing
+pub mod OneTurn
+pub mod Sides
+pub mod Running

@@ -45,7 +45,7 @@ use Rattle.merge.specs.Meetings.{Facing, Meets}
 use Rattle.merge.specs.Turning.{Sound, memoryOf, cursorsLeft, taken, result, shiftBy, Turnable, Made, Turns}
 
 -- a retain is cut, never grown
-kept-most : (o l : ℕ) (rs : List Op) → keptLength o l rs ≤ l
+pub kept-most : (o l : ℕ) (rs : List Op) → keptLength o l rs ≤ l
 unfolding keptLength
 kept-most o l [] = omega arith
 kept-most o l (x ∷ rs) = go (ltb o (orderOf x)) x
@@ -262,6 +262,7 @@ module _ {spans keys ops cs w : List ℕ} {half : ℕ} {a : Op} {own other : Sid
         fits = M .fits;
         own-fits = P .remembers .fits (rw (P .rest) (rest-sound (taken a other) (r .lost) (M .most) taken-sound .reaches));
         filled = omega (arith, P .remembers .fill, few, front-tokens a (heads (other .ahead .next) []));
+        grown = omega (arith, P .remembers .fill);
         heard-fill = refl;
         since = λ base h. M .since base h;
         own-since = λ base l h. P .remembers .since base l h;

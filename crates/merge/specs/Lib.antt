@@ -1,3 +1,4 @@
 pub mod Meetings
 pub mod Turning
 pub mod Choosing
+pub mod Running

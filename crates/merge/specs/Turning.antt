@@ -93,6 +93,7 @@ pub record Turns (spans keys ops cs w w′ : List ℕ) (half : ℕ) (a : Op) (ow
   pub fits : LastFits (r .other .memory .last)
   pub own-fits : LastFits (r .own .memory .last)
   pub filled : r .own .memory .fill ≤ own .memory .fill + tokens a
+  pub grown : own .memory .fill ≤ r .own .memory .fill
   pub heard-fill : r .other .memory .fill ≡ other .memory .fill
   pub since : (base : ℕ) → Since (other .memory .last) base (other .memory .fill) → Since (r .other .memory .last) base (r .other .memory .fill)
   pub own-since : (base : ℕ) → base ≤ own .memory .fill → Since (own .memory .last) base (own .memory .fill) → Since (r .own .memory .last) base (r .own .memory .fill)
