@@ -84,7 +84,7 @@ retained-most n (o ∷ os) at h =
 
 -- shapes
 
-all-in : (n : ℕ) (ts : List Token) → runGood n ts ≡ true → AllIn n ts
+pub all-in : (n : ℕ) (ts : List Token) → runGood n ts ≡ true → AllIn n ts
 unfolding runGood AllIn
 all-in n [] h = tt
 all-in n (t ∷ ts) h =

@@ -59,7 +59,7 @@ fn wide(x: u32) -> usize
 }
 
 // A sum that stops at 1,000,000, which is above every limit.
-fn capped(a: usize, b: usize) -> usize
+pub fn capped(a: usize, b: usize) -> usize
     requires { ⌜ a ≤ 1000000 ⌝ }
     ensures { λ r. ⌜ r ≡ min 1000000 (a + b) ⌝ }
 {
@@ -242,7 +242,7 @@ fn list_fits(
 }
 
 // Whether every token of a run has text, and all of it is lent.
-fn run_good(spans: &[u32], keys: &[u32], n: usize, first: usize, count: usize) -> bool
+pub fn run_good(spans: &[u32], keys: &[u32], n: usize, first: usize, count: usize) -> bool
     requires { ⌜ first + count ≤ tokensLent (now spans) (now keys) ⌝ }
     ensures { λ r. ⌜ r ≡ runGood n (tokensFrom (now (spans .entry)) (now (keys .entry)) first count) ⌝ }
 {

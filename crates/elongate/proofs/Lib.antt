@@ -3,3 +3,7 @@ pub mod Placing
 pub mod Pieces
 pub mod Cooking
 pub mod Walking
+pub mod Checking
+pub mod Arranging
+pub mod Joining
+pub mod Answering

@@ -45,16 +45,16 @@ inserts-append (r ∷ rs) ss =
 -- the first operation of a list, by its kind
 
 module _ (r : Raw) (rs : List Raw) where
-  parts-retain : r .kind ≡ 2 → parts kindOf (r ∷ rs) ≡ record { deletes = []; inserts = []; rest = r ∷ arranged kindOf rs }
+  pub parts-retain : r .kind ≡ 2 → parts kindOf (r ∷ rs) ≡ record { deletes = []; inserts = []; rest = r ∷ arranged kindOf rs }
   unfolding parts
   parts-retain h = rw (eq-eqb (r .kind) 2 h, parts)
 
-  parts-delete : r .kind ≡ 0 → parts kindOf (r ∷ rs)
+  pub parts-delete : r .kind ≡ 0 → parts kindOf (r ∷ rs)
       ≡ record { deletes = r ∷ parts kindOf rs .deletes; inserts = parts kindOf rs .inserts; rest = parts kindOf rs .rest }
   unfolding parts
   parts-delete h = rw (ne-eqb (r .kind) 2 (λ e. omega arith), eq-eqb (r .kind) 0 h, parts)
 
-  parts-insert : (r .kind ≡ 2 → ⊥) → (r .kind ≡ 0 → ⊥) → parts kindOf (r ∷ rs)
+  pub parts-insert : (r .kind ≡ 2 → ⊥) → (r .kind ≡ 0 → ⊥) → parts kindOf (r ∷ rs)
       ≡ record { deletes = parts kindOf rs .deletes; inserts = r ∷ parts kindOf rs .inserts; rest = parts kindOf rs .rest }
   unfolding parts
   parts-insert h g = rw (ne-eqb (r .kind) 2 h, ne-eqb (r .kind) 0 g, parts)

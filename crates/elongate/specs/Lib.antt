@@ -4,3 +4,4 @@ pub mod Places
 pub mod Currents
 pub mod Good
 pub mod Writes
+pub mod Verdicts

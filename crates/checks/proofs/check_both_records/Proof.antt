@@ -1,5 +1,5 @@
--- Shown: the left list's verdict on records, and after it the right's.
--- How: each way through it is a law of proofs/Chains.antt.
+-- `check_both_records` gives refusal 1 of both lists.
+-- A chain of two checks, by Chains. Assumes nothing.
 use Rattle.checks.proofs.Chains.{stops, goes-on}
 use mathlib.Core.Path.{sym, _∙_}
 use borrow.Author.Needs.{needs}

@@ -1,5 +1,5 @@
--- Shown: `check_cursors` answers `withinFrom`.
--- How: loop `cursors` keeps `Marking`, and each way through it is a law of proofs/Tiled.antt.
+-- `check_cursors` gives refusal 5 of cursors.
+-- The loop keeps `Marking`, whose ways are in Tiled. Assumes nothing.
 use Rattle.checks.proofs.Tiled.{Marking, marks-begin, marks-on, marks-past, marks-end}
 use mathlib.Core.Path.{refl}
 use Prim.Native.Nat.{_-_}

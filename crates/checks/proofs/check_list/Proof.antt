@@ -1,5 +1,5 @@
--- Shown: `check_list` answers `listVerdict`.
--- How: each way through it is a law of proofs/Accepted.antt and proofs/Chains.antt.
+-- `check_list` gives the verdict on one list.
+-- A chain of checks, by Chains; the sizes and the tiling keep the text below the cap. Assumes nothing.
 use Rattle.checks.proofs.Accepted.{text-small}
 use Rattle.checks.proofs.Chains.{stops, goes-on, too-big, fits, first-no, second-no, both-yes}
 use Rattle.checks.specs.Lists.{listVerdict}

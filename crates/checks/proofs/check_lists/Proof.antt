@@ -1,5 +1,5 @@
--- Shown: `check_lists` answers `listsVerdict`.
--- How: each way through it is a law of proofs/Accepted.antt, proofs/Chains.antt, proofs/Bools.antt.
+-- `check_lists` gives the verdict on the two lists of a merge.
+-- A chain of checks, by Chains; the sizes and the tilings keep the texts below the cap. Assumes nothing.
 use Rattle.checks.proofs.Accepted.{text-small}
 use Rattle.checks.proofs.Chains.{stops, goes-on, too-big, fits, first-no, second-no, both-yes, first-passed, rest-passed}
 use Rattle.checks.proofs.Bools.{and-left, and-right}

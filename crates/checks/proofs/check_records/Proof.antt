@@ -1,5 +1,5 @@
--- Shown: `check_records` answers `recordsFrom`.
--- How: loop `records` keeps `Recording`, and each way through it is a law of proofs/Shapely.antt.
+-- `check_records` gives refusal 1 of a list.
+-- The loop keeps `Recording`, whose ways are in Shapely. Assumes nothing.
 use Rattle.checks.proofs.Shapely.{Recording, records-begin, records-on, records-bad, records-end}
 use mathlib.Core.Path.{refl, sym, _∙_}
 use Prim.Native.Nat.{_-_}

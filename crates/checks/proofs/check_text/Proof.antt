@@ -1,5 +1,5 @@
--- Shown: `check_text` answers `pointsFrom`.
--- How: loop `points` keeps `Reading`, and each way through it is a law of proofs/Points.antt.
+-- `check_text` gives refusal 4 of a text.
+-- The loop keeps `Reading`, whose ways are in Points. Assumes nothing.
 use Rattle.checks.proofs.Points.{Reading, reads-begin, reads-on, reads-bad, reads-end}
 use lib.ListN.{length}
 use mathlib.Core.Path.{sym, _∙_}

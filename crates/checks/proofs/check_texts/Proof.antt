@@ -1,5 +1,5 @@
--- Shown: `check_texts` answers `pointsVerdict`.
--- How: each way through it is a law of proofs/Chains.antt.
+-- `check_texts` gives refusal 4 of both texts.
+-- A chain of two checks, by Chains. Assumes nothing.
 use Rattle.checks.proofs.Chains.{stops, goes-on}
 use mathlib.Core.Path.{sym, _∙_}
 use borrow.Author.Needs.{needs}

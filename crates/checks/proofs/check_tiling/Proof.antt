@@ -1,5 +1,5 @@
--- Shown: `check_tiling` answers `tilingOf`.
--- How: loop `tiles` keeps `Tiled`, and each way through it is a law of proofs/Tiled.antt.
+-- `check_tiling` gives refusal 2 of a list.
+-- The loop keeps `Tiled`, whose ways are in the file of that name. Assumes nothing.
 use Rattle.checks.proofs.Tiled.{Tiled, tiled-begin, tiled-insert, tiled-order, tiled-long, tiled-on, tiled-end, tiled-short}
 use mathlib.Core.Path.{refl}
 use Prim.Native.Nat.{_-_}

@@ -1,5 +1,5 @@
--- Shown: `check_within` answers `withinFrom` of the list's text length.
--- How: the capped length decides as the exact one does.
+-- `check_within` gives refusal 5 of a list's cursors.
+-- The text is below the cap, so its capped length is its length. Assumes nothing.
 use Rattle.checks.specs.Texts.{textLength}
 use Rattle.records.specs.Operations.{operationsOf}
 use native.Mathlib.Omega.{arith}

@@ -1,5 +1,5 @@
--- Shown: `claimed` answers the `total` of `claimedBy`.
--- How: loop `sum` keeps `Totals`, and each way through it is a law of proofs/Sums.antt.
+-- `claimed` sums the tokens that a list claims, up to the cap.
+-- The loop keeps `Totals`, whose ways are in Sums. Assumes nothing.
 use Rattle.checks.proofs.Sums.{Totals, totals-begin, totals-on, totals-end}
 use Rattle.checks.specs.Texts.{claimedBy}
 use mathlib.Core.Path.{refl}

@@ -1,5 +1,5 @@
--- Shown: `claimed_by` answers `claimedBy`.
--- How: each way through its tests is a case of the definition's tests.
+-- `claimed_by` gives the tokens that an operation claims.
+-- By its kind. Assumes nothing.
 use borrow.Author.Tests.{eq-eqb, ne-eqb}
 use Rattle.checks.proofs.claimed_by.Statement.{statement}
 use Rattle.checks.proofs.claimed_by.Tie as tie

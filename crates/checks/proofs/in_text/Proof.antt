@@ -1,5 +1,5 @@
--- Shown: `in_text` answers `inText`.
--- How: its steps are those of the definition.
+-- `in_text` tells whether a token lies in the text.
+-- Its two casts keep their numbers. Assumes nothing.
 use borrow.Author.Needs.{needs}
 use Rattle.checks.proofs.in_text.Statement.{statement}
 use Rattle.checks.proofs.in_text.Tie as tie

@@ -1,5 +1,5 @@
--- Shown: `inserted` answers the `total` of `insertedBy`, capped.
--- How: loop `sum` keeps `Totals`, and each way through it is a law of proofs/Sums.antt.
+-- `inserted` sums the text that a list inserts, up to the cap.
+-- The loop keeps `Totals`, whose ways are in Sums. Assumes nothing.
 use Rattle.checks.proofs.Sums.{Totals, totals-begin, totals-on, totals-end, cap-cap}
 use Rattle.checks.specs.Texts.{insertedBy}
 use mathlib.Core.Path.{refl}

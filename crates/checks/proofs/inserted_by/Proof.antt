@@ -1,5 +1,5 @@
--- Shown: `inserted_by` answers `insertedBy`, capped.
--- How: each way through it is a law of proofs/Sums.antt.
+-- `inserted_by` gives the text that an operation inserts, up to the cap.
+-- By its kind and whether its range is lent. Assumes nothing.
 use Rattle.checks.proofs.Sums.{inserted-other, inserted-out, inserted-run, lent-fits}
 use mathlib.Core.Path.{sym, _∙_}
 use borrow.Author.Needs.{needs}

@@ -1,5 +1,5 @@
--- Shown: `is_point` answers `isPoint`.
--- How: each way through its tests is a case of the definition's tests.
+-- `is_point` tells a code point from what is none.
+-- By the three ranges that its tests part. Assumes nothing.
 use borrow.Author.Tests.{lt-ltb, le-ltb}
 use Rattle.checks.proofs.is_point.Statement.{statement}
 use Rattle.checks.proofs.is_point.Tie as tie

@@ -1,5 +1,5 @@
--- Shown: `is_record` answers `isRecord`.
--- How: each way through it is a law of proofs/Shapely.antt.
+-- `is_record` tells whether an operation is a record of its kind.
+-- One law of Shapely for each answer. Assumes nothing.
 use Rattle.checks.proofs.Shapely.{record-side, record-insert, record-unknown, record-part}
 use borrow.Author.Needs.{needs}
 use Rattle.checks.proofs.is_record.Statement.{statement}

@@ -1,5 +1,5 @@
--- Shown: `is_run` answers `isRun`.
--- How: each way through it is a law of proofs/Shapely.antt and proofs/Sums.antt.
+-- `is_run` tells whether an insert's tokens are good.
+-- One law of Shapely for each answer. Assumes nothing.
 use Rattle.checks.proofs.Shapely.{run-none, run-out, run-is}
 use Rattle.checks.proofs.Sums.{lent-fits}
 use mathlib.Core.Path.{sym, _∙_}

@@ -1,5 +1,5 @@
--- Shown: `lent_fits` answers `lentFits`.
--- How: each way through its tests is a case of the definition's tests.
+-- `lent_fits` tells whether the lent texts keep their sizes.
+-- By its two tests. Assumes nothing.
 use borrow.Author.Tests.{le-leb, lt-leb}
 use Rattle.checks.proofs.lent_fits.Statement.{statement}
 use Rattle.checks.proofs.lent_fits.Tie as tie

@@ -1,5 +1,5 @@
--- Shown: `list_fits` answers `listFits`.
--- How: each way through it is a law of proofs/Fits.antt.
+-- `list_fits` tells whether a list keeps its sizes.
+-- One law of Fits for each test. Assumes nothing.
 use Rattle.checks.proofs.Fits.{fits-operations, fits-cursors, fits-tokens, fits-text}
 use borrow.Author.Needs.{needs}
 use Rattle.checks.proofs.list_fits.Statement.{statement}

@@ -1,5 +1,5 @@
--- Shown: `lists_fit` answers whether both lists fit.
--- How: each way through it is a law of proofs/Chains.antt.
+-- `lists_fit` tells whether both lists keep their sizes.
+-- A conjunction of two tests, by Chains. Assumes nothing.
 use Rattle.checks.proofs.Chains.{first-no, second-is}
 use borrow.Author.Tests.{not-true, not-false}
 use mathlib.Core.Path.{sym, _∙_}

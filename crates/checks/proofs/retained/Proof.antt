@@ -1,5 +1,5 @@
--- Shown: `retained` answers the `total` of `retainedBy`, capped.
--- How: loop `sum` keeps `Totals`, and each way through it is a law of proofs/Sums.antt.
+-- `retained` sums what a list retains, up to the cap.
+-- The loop keeps `Totals`, whose ways are in Sums. Assumes nothing.
 use Rattle.checks.proofs.Sums.{Totals, totals-begin, totals-on, totals-end}
 use Rattle.checks.specs.Texts.{retainedBy}
 use mathlib.Core.Path.{refl}

@@ -1,5 +1,5 @@
--- Shown: `retained_by` answers `retainedBy`.
--- How: each way through its tests is a case of the definition's tests.
+-- `retained_by` gives what an operation retains.
+-- By its kind. Assumes nothing.
 use borrow.Author.Tests.{eq-eqb, ne-eqb}
 use Rattle.checks.proofs.retained_by.Statement.{statement}
 use Rattle.checks.proofs.retained_by.Tie as tie

@@ -1,5 +1,5 @@
--- Shown: `run_good` answers `runGood`.
--- How: loop `run` keeps `Looking`, and each way through it is a law of proofs/Shapely.antt.
+-- `run_good` tells whether the tokens of a run are good.
+-- The loop keeps `Looking`, whose ways are in Shapely. Assumes nothing.
 use Rattle.checks.proofs.Shapely.{Looking, looks-begin, looks-empty, looks-out, looks-on, looks-end}
 use mathlib.Core.Path.{refl, sym, _∙_}
 use Prim.Native.Nat.{_-_}

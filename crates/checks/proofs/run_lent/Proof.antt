@@ -1,5 +1,5 @@
--- Shown: `run_lent` answers `runLent`.
--- How: each way through it is a law of proofs/Sums.antt.
+-- `run_lent` tells whether a range of tokens is lent.
+-- A difference in place of a sum that might wrap, by Sums. Assumes nothing.
 use Rattle.checks.proofs.Sums.{lent-less, lent-test}
 use borrow.Author.Needs.{needs}
 use Rattle.checks.proofs.run_lent.Statement.{statement}

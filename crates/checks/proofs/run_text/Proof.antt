@@ -1,5 +1,5 @@
--- Shown: `run_text` answers `runText`, capped.
--- How: loop `run` keeps `Adding`, and each way through it is a law of proofs/Sums.antt.
+-- `run_text` sums the text of a run of tokens, up to the cap.
+-- The loop keeps `Adding`, whose ways are in Sums. Assumes nothing.
 use Rattle.checks.proofs.Sums.{Adding, adding-begins, adding-in, adding-out, adding-ends}
 use mathlib.Core.Path.{refl, sym, _∙_}
 use Prim.Native.Nat.{_-_}

@@ -1,5 +1,5 @@
--- Shown: `advance` meets its contract.
--- How: its steps are those of the definition.
+-- `advance` steps from a place.
+-- By the kind of place. Assumes nothing.
 use borrow.Author.Needs.{needs}
 use Rattle.elongate.proofs.advance.Statement.{statement}
 use Rattle.elongate.proofs.advance.Tie as tie

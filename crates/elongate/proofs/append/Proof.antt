@@ -1,5 +1,5 @@
--- Shown: `append` meets its contract.
--- How: each way through it is a law of proofs/Pieces.antt.
+-- `append` puts the tokens of a raw operation into their rooms.
+-- The parts that are copied are the tokens' numbers, by Pieces. Assumes nothing.
 use Rattle.elongate.proofs.Pieces.{spans-part, keys-part, joins-part}
 use mathlib.Core.Path.{_∙_}
 use borrow.Author.Needs.{needs}

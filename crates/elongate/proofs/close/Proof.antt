@@ -1,5 +1,5 @@
--- Shown: `close` meets its contract.
--- How: each way through it is a law of proofs/Cooking.antt.
+-- `close` puts the current operation into its room.
+-- By whether there is one, with the laws of Cooking. Assumes nothing.
 use Rattle.elongate.proofs.Cooking.{closes-none, closes-some, closes-fits}
 use borrow.Author.Needs.{needs}
 use Rattle.elongate.proofs.close.Statement.{statement}

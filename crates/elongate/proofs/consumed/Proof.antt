@@ -1,5 +1,5 @@
--- Shown: `consumed` answers `consumes`.
--- How: each way through its tests is a case of the definition's tests.
+-- `consumed` gives what an operation consumes.
+-- By its kind. Assumes nothing.
 use borrow.Author.Tests.{eq-eqb, ne-eqb}
 use Rattle.elongate.proofs.consumed.Statement.{statement}
 use Rattle.elongate.proofs.consumed.Tie as tie

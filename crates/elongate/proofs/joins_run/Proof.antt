@@ -1,5 +1,5 @@
--- Shown: `joins_run` answers whether a run joins the one before it.
--- How: each way through its tests is a case of the definition's tests.
+-- `joins_run` tells whether a run joins the current operation.
+-- By its tests, in the definition's order. Assumes nothing.
 use borrow.Author.Tests.{eq-eqb, ne-eqb}
 use Rattle.elongate.proofs.joins_run.Statement.{statement}
 use Rattle.elongate.proofs.joins_run.Tie as tie

@@ -1,5 +1,5 @@
--- Shown: `renew` answers `fresh`.
--- How: each way through it is a law of proofs/Cooking.antt.
+-- `renew` makes the next current operation.
+-- What the last consumed is at most its length, so the sums fit. Assumes nothing.
 use Rattle.elongate.proofs.Cooking.{consumes-most}
 use native.Mathlib.Omega.{arith}
 use borrow.Author.Needs.{needs}

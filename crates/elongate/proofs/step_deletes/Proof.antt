@@ -1,5 +1,5 @@
--- Shown: `step_deletes` meets its contract.
--- How: each way through it is a law of proofs/Walks.antt.
+-- `step_deletes` steps through a stretch for its deletes.
+-- One law of Walks for each answer. Assumes nothing.
 use Rattle.elongate.proofs.Walks.{ends-stretch, meets-retain, takes-delete, skips-insert}
 use borrow.Author.Needs.{needs}
 use Rattle.elongate.proofs.step_deletes.Statement.{statement}

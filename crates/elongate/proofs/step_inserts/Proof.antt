@@ -1,5 +1,5 @@
--- Shown: `step_inserts` meets its contract.
--- How: each way through it is a law of proofs/Walks.antt.
+-- `step_inserts` steps through a stretch for its inserts and the retain behind them.
+-- One law of Walks for each answer. Assumes nothing.
 use Rattle.elongate.proofs.Walks.{skips-delete, takes-insert, takes-retain, gives-none}
 use borrow.Author.Needs.{needs}
 use Rattle.elongate.proofs.step_inserts.Statement.{statement}

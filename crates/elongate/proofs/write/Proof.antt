@@ -1,5 +1,5 @@
--- Shown: `write` meets its contract.
--- How: by the invariant of its loop, below, and the laws of proofs/Walking.antt and proofs/Walks.antt.
+-- `write` writes all operations and tokens.
+-- The loop keeps `Walking`; each way through a turn is a law of that file. Assumes nothing.
 use Rattle.elongate.proofs.Walking.{Walking, walk-starts, appends, lent-run, some-run, tokens-most, sums-most, walk-joins, walk-parts, parts-fits, ends-fits, ends-most, walk-ends}
 use Rattle.elongate.proofs.Walks.{walk-begins, took, took-run, skipped, ended}
 use Rattle.elongate.specs.Places.{kindOf, left, work, Lies}
@@ -157,6 +157,7 @@ extend-requires c κs =
 walk-less-2 : tie.Need-walk-less-2 Inv-walk μ-walk
 walk-less-2 c =
     let c20 = c .before .before .before .before .before .before .before .before .before .before .before .before .before .before .before .before .before .before .before .before in
+    let c20 = c20 in
     let c22 = c20 .before .before in
     took (c22 .advance .ensures) (c20 .i .given .1) .1 .1 .0
 
@@ -210,6 +211,7 @@ renew-requires c κs =
 walk-less-3 : tie.Need-walk-less-3 Inv-walk μ-walk
 walk-less-3 c =
     let c24 = c .before .before .before .before .before .before .before .before .before .before .before .before .before .before .before .before .before .before .before .before .before .before .before .before in
+    let c24 = c24 in
     let c26 = c24 .before .before in
     took (c26 .advance .ensures) (c24 .i .given .1) .1 .1 .0
 
