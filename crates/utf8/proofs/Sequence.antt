@@ -1,13 +1,13 @@
 -- A code point and its sequence: the encoding is a good sequence that decodes to it, and the only one.
 -- By the four rows: quotients and remainders of a number that is made of parts. Assumes nothing.
 use mathlib.Core.Path.{_≡_, refl, sym, ap, _∙_}
-use mathlib.Core.Bool.{Bool, true, false, _&&_, _||_}
+use mathlib.Core.Bool.{true, _&&_}
 use mathlib.Core.Logic.{⊎-elim}
-use mathlib.Core.List.{List, [], _∷_, _++_, append-nil}
-use Prim.Native.Nat.{ℕ, zero, suc, _+_, _*_, _-_, _/_, _%_, _≤_, _<_}
+use mathlib.Core.List.{List, [], _∷_, _++_}
+use Prim.Native.Nat.{ℕ, suc, _+_, _*_, _-_, _/_, _%_, _≤_, _<_}
 use native.Mathlib.Omega.{arith}
 use native.Mathlib.Decide.{decLt}
-use lib.ListN.{length, getD, take, drop}
+use lib.ListN.{length, take, drop}
 use lib.Seq.{take-length}
 use lib.Dec.{ltb, leb}
 use borrow.Author.Tests.{lt-ltb, le-ltb, le-leb, ltb-true, leb-true}
@@ -15,7 +15,7 @@ use Rattle.utf8_read.specs.Grammar.{utf8-char}
 use Rattle.utf8_read.specs.Table.{scalar, six, more, encode, decode}
 use Rattle.utf8_read.proofs.Tests.{and-both, or-one}
 use Rattle.utf8_read.proofs.Rules.{Within, Two, Three, Four}
-use Rattle.utf8_read.proofs.Sequences.{At, found, stands, fits, front-1, front-2, front-3, front-4, value-1, value-2, value-3, value-4}
+use Rattle.utf8_read.proofs.Sequences.{At, found, stands, front-1, front-2, front-3, front-4, value-1, value-2, value-3, value-4}
 use Rattle.utf8_write.proofs.Encodes.{row-1, row-2, row-3, row-4}
 use Rattle.utf8_write.proofs.Scalar.{scalar-below}
 
@@ -156,7 +156,8 @@ back-4 a b c d t =
     let high : x ≤ 0x10ffff = elim (decLt a 0xf4) [ yes l ↦ most-3 a b c d fa l | no l ↦ most-4 a b c d fa fb (t .least (omega arith)) ] in
     record {
       same =
-          four-cells a b c d (0xf0 + x / 262144) (six (x / 4096)) (six (x / 64)) (six x) (first-4 a _ fa (m .first)) (tail-4 b _ fb (m .second)) (tail-4 c _ fc (m .third)) (tail-4 d _ fd (m .fourth))
+          four-cells a b c d (0xf0 + x / 262144) (six (x / 4096)) (six (x / 64)) (six x) (first-4 a _ fa (m .first)) (tail-4 b _ fb (m .second))
+          (tail-4 c _ fc (m .third)) (tail-4 d _ fd (m .fourth))
           ∙ sym (row-4 x low);
       whole = scalar-high x (omega (arith, low)) high;
     }

@@ -3,19 +3,19 @@
 use mathlib.Core.Path.{_≡_, refl, sym, ap, _∙_}
 use mathlib.Core.Bool.{true}
 use mathlib.Core.List.{List, [], _∷_, _++_}
-use Prim.Native.Nat.{ℕ, zero, suc, _+_, _≤_, _<_}
+use Prim.Native.Nat.{ℕ, zero, suc, _+_, _≤_}
 use native.Mathlib.Omega.{arith}
 use native.Mathlib.Nat.{zero-add}
-use lib.ListN.{length, take, drop, length-append, length-take, drop-of-length-le}
+use lib.ListN.{length, take, drop, length-append, drop-of-length-le}
 use lib.Seq.{take-add, take-length, drop-drop, drop-append-seam, take-append-seam, length-take-le}
 use Rattle.utf8_read.specs.Grammar.{utf8-char}
 use Rattle.utf8_read.specs.Table.{scalar, encode, decode}
 use Rattle.utf8_read.specs.Reading.{good-from, good-end, points-from, points}
 use Rattle.utf8_read.proofs.Sequences.{At, found, fits}
-use Rattle.utf8_read.proofs.Steps.{next-good, next-points, stop-good, stop-points, end-good, end-points, good-most}
+use Rattle.utf8_read.proofs.Steps.{next-good, next-points, stop-good, stop-points, good-most}
 use Rattle.utf8_write.specs.Writing.{scalars, encode-all}
 use Rattle.utf8_write.proofs.Encodes.{parts}
-use Rattle.utf8_write.proofs.Scalar.{first-good, first-of, no-scalars, scalars-most}
+use Rattle.utf8_write.proofs.Scalar.{first-good, first-of, no-scalars}
 use Rattle.utf8.proofs.Sequence.{encoded-at, scalar-at, stands-first, decodes}
 
 no-bytes : encode-all [] ≡ []

@@ -23,9 +23,9 @@ pub fn read_length(bytes: &[u8]) -> Counted
 pub fn read(bytes: &[u8], out: &mut [u32]) -> Counted
     ensures { λ r. ⌜ Answered (read-of (now (bytes .entry)) (length (now (out .entry)))) r (points (now (bytes .entry))) (now (out .entry)) (now (out .exit)) ⌝ }
 {
-    let end = utf8_read::good_end_of(bytes);
-    if end < bytes.len() {
-        return Counted::Refused(Refusal::Utf8 { offset: end });
+    let good = utf8_read::good_end_of(bytes);
+    if good < bytes.len() {
+        return Counted::Refused(Refusal::Utf8 { offset: good });
     }
     let count = utf8_read::starts_of(bytes);
     if out.len() < count {
@@ -50,14 +50,14 @@ pub fn write_length(text: &[u32]) -> Counted
 pub fn write(text: &[u32], out: &mut [u8]) -> Counted
     ensures { λ r. ⌜ Answered (write-of (now (text .entry)) (length (now (out .entry)))) r (encode-all (now (text .entry))) (now (out .entry)) (now (out .exit)) ⌝ }
 {
-    let end = utf8_write::scalars_of(text);
-    if end < text.len() {
-        return Counted::Refused(Refusal::CodePoint { index: end });
+    let fine = utf8_write::scalars_of(text);
+    if fine < text.len() {
+        return Counted::Refused(Refusal::CodePoint { index: fine });
     }
-    let count = utf8_write::width_of(text);
-    if out.len() < count {
+    let width = utf8_write::width_of(text);
+    if out.len() < width {
         return Counted::Refused(Refusal::Room);
     }
     utf8_write::spill(text, out);
-    Counted::Count(count)
+    Counted::Count(width)
 }

@@ -1,9 +1,9 @@
 -- Bytes that are no tails, counted by blocks and one by one.
 -- The count of two runs is the sum of their counts. Assumes nothing.
-use mathlib.Core.Path.{_≡_, refl, sym, ap, _∙_}
+use mathlib.Core.Path.{_≡_, refl, ap}
 use mathlib.Core.Bool.{Bool, true, false}
 use mathlib.Core.List.{List, [], _∷_, _++_}
-use Prim.Native.Nat.{ℕ, zero, suc, _+_, _-_, _≤_, _<_}
+use Prim.Native.Nat.{ℕ, suc, _+_, _-_, _≤_, _<_}
 use native.Mathlib.Omega.{arith}
 use native.Mathlib.Numerals.{add-one}
 use lib.ListN.{length, getD, take, drop, take-append-drop, length-drop, length-take, drop-of-length-le}
@@ -38,12 +38,14 @@ unfolding starts
 both [] t = omega arith
 both (b ∷ s) t = go (tail b) refl (both s t)
   where
-    go : (y : Bool) → tail b ≡ y → starts (s ++ t) ≡ starts s + starts t → pick (tail b) (starts (s ++ t)) (suc (starts (s ++ t))) ≡ pick (tail b) (starts s) (suc (starts s)) + starts t
+    go : (y : Bool) → tail b ≡ y → starts (s ++ t) ≡ starts s + starts t → pick (tail b) (starts (s ++ t)) (suc (starts (s ++ t))) ≡ pick (tail b)
+        (starts s) (suc (starts s)) + starts t
     go true e h = rw e h
     go false e h = rw e (omega arith)
 
 -- one byte more
-pub block-more : (s : List ℕ) (at k n m : ℕ) → at + k < length s → n ≡ starts (take k (drop at s)) → m ≡ starts (getD s (at + k) 0 ∷ []) → n + m ≡ starts (take (k + 1) (drop at s))
+pub block-more : (s : List ℕ) (at k n m : ℕ) → at + k < length s → n ≡ starts (take k (drop at s)) → m ≡ starts (getD s (at + k) 0 ∷ [])
+    → n + m ≡ starts (take (k + 1) (drop at s))
 block-more s at k n m h e g =
     rw (add-one k, take-suc (drop at s) k 0 (omega (arith, length-drop at s)), both (take k (drop at s)) (getD (drop at s) k 0 ∷ []), getD-drop at s k 0, e, g)
 

@@ -5,8 +5,8 @@ use mathlib.Core.List.{List, [], _∷_, _++_}
 use Prim.Native.Nat.{ℕ, zero, suc, _+_, _-_, _≤_, _<_}
 use native.Mathlib.Omega.{arith}
 use native.Mathlib.Nat.{add-zero}
-use lib.ListN.{length, getD, set, take, drop, length-append, length-take, length-drop}
-use lib.Seq.{take-add, drop-drop, take-append-seam, drop-append-seam, length-take-le, sets-eq, take-all, drop-length}
+use lib.ListN.{length, getD, set, take, drop, length-append, length-drop}
+use lib.Seq.{take-add, drop-drop, take-append-seam, drop-append-seam, length-take-le, sets-eq, take-all}
 use Rattle.room.specs.Placed.{placed, answered, Put}
 use Rattle.room.proofs.Answers.{one-more, same-room}
 use Rattle.utf8_read.specs.Grammar.{utf8-char}

@@ -1,6 +1,6 @@
 -- The ways through the judge of one sequence and of many, over plain lists.
 -- A test that held makes the sequence of its kind; one that failed leaves no kind that the first byte allows. Assumes nothing.
-use mathlib.Core.Path.{_≡_, refl, sym, ap, _∙_}
+use mathlib.Core.Path.{_≡_, refl, sym, _∙_}
 use mathlib.Core.Bool.{Bool, true, false, _&&_, _||_}
 use mathlib.Core.List.{List}
 use Prim.Native.Nat.{ℕ, zero, suc, _+_, _-_, _≤_, _<_}
@@ -14,8 +14,8 @@ use Rattle.utf8_read.specs.Reading.{good-from, good-end}
 use Rattle.utf8_read.specs.Window.{ones, misfit, Local, Ascii, Clean, Stretch, Reached}
 use Rattle.utf8_read.proofs.Tests.{never, or-none, and-both}
 use Rattle.utf8_read.proofs.Rules.{in-two, in-three, in-four}
-use Rattle.utf8_read.proofs.Sequences.{At, stands, none, found, Fits, fits}
-use Rattle.utf8_read.proofs.Leads.{Lead, lead, says-2, says-3, says-4, says-none}
+use Rattle.utf8_read.proofs.Sequences.{At, stands, none, found, fits}
+use Rattle.utf8_read.proofs.Leads.{lead, says-2, says-3, says-4, says-none}
 use Rattle.utf8_read.proofs.Steps.{next-good, stop-good, end-good}
 use Rattle.utf8_read.proofs.Walk.{clean-next, clean-start, starts-here, clean-here, walked, local-join, local-none, ascii-local}
 

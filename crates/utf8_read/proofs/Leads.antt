@@ -6,12 +6,12 @@ use mathlib.Core.List.{List}
 use Prim.Native.Nat.{ℕ, zero, suc, _+_, _≤_, _<_}
 use native.Mathlib.Omega.{arith}
 use lib.Dec.{ltb}
-use lib.ListN.{length, getD, drop}
+use lib.ListN.{length, getD}
 use borrow.Author.Tests.{ltb-true, ltb-false}
 use Rattle.utf8_read.specs.Grammar.{utf8-2, utf8-3, utf8-4}
 use Rattle.utf8_read.specs.Window.{ones}
 use Rattle.utf8_read.proofs.Tests.{pick-elim}
-use Rattle.utf8_read.proofs.Rules.{Within, Two, Three, Four, two-in, three-in, four-in}
+use Rattle.utf8_read.proofs.Rules.{Within, two-in, three-in, four-in}
 use Rattle.utf8_read.proofs.Sequences.{At}
 
 abbrev pub Lead : ℕ → ℕ → Type 0

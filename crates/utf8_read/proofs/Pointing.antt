@@ -9,9 +9,8 @@ use lib.ListN.{length, getD, take, drop}
 use Rattle.utf8_read.specs.Grammar.{utf8-char}
 use Rattle.utf8_read.specs.Table.{decode}
 use Rattle.utf8_read.specs.Window.{ones, Pointed}
-use Rattle.utf8_read.specs.declared.Point.{Point}
-use Rattle.utf8_read.proofs.Sequences.{At, found, stands, fits}
-use Rattle.utf8_read.proofs.Leads.{Lead, lead, says-1, says-2, says-3, says-4, says-none}
+use Rattle.utf8_read.proofs.Sequences.{At, found, stands}
+use Rattle.utf8_read.proofs.Leads.{lead, says-1, says-2, says-3, says-4, says-none}
 
 pub some : (s : List ℕ) (at : ℕ) → at < length s → 0 < utf8-char (drop at s) → (k : ℕ) × At s at (suc k)
 some s at h p = go (utf8-char (drop at s)) refl

@@ -1,6 +1,6 @@
 -- The grammar's rules as orders of numbers, both ways.
 -- A test that holds is taken apart into its alternatives; the alternative that a first byte chooses makes the test hold. Assumes nothing.
-use mathlib.Core.Path.{_≡_, refl}
+use mathlib.Core.Path.{_≡_}
 use mathlib.Core.Bool.{Bool, true, false, _&&_, _||_}
 use mathlib.Core.Logic.{⊎-elim}
 use Prim.Native.Nat.{ℕ, _≤_, _<_}
@@ -88,7 +88,8 @@ in-three a b c e =
     (λ t. let f = three-of a b c 0xee 0xef 0x80 0xbf (range 0xee 0xef a) (tail b) (in-range 0xee 0xef a) (in-tail b) t in omega arith)
     (or-one (eqb a 0xed && (range 0x80 0x9f b && tail c)) (range 0xee 0xef a && (tail b && tail c)) r))
     (or-one (range 0xe1 0xec a && (tail b && tail c)) ((eqb a 0xed && (range 0x80 0x9f b && tail c)) || (range 0xee 0xef a && (tail b && tail c))) r))
-    (or-one (eqb a 0xe0 && (range 0xa0 0xbf b && tail c)) ((range 0xe1 0xec a && (tail b && tail c)) || ((eqb a 0xed && (range 0x80 0x9f b && tail c)) || (range 0xee 0xef a && (tail b && tail c)))) e)
+    (or-one (eqb a 0xe0 && (range 0xa0 0xbf b && tail c))
+    ((range 0xe1 0xec a && (tail b && tail c)) || ((eqb a 0xed && (range 0x80 0x9f b && tail c)) || (range 0xee 0xef a && (tail b && tail c)))) e)
 
 pub three-in : (a b c : ℕ) → Three a b c → utf8-3 a b c ≡ true
 unfolding utf8-3
@@ -105,7 +106,15 @@ three-in a b c h =
           | yes k ↦
               let e : a ≡ 0xed = omega arith in
               rw (ne-eqb a 0xe0 (omega arith), range-past 0xe1 0xec a (omega arith), eq-eqb a 0xed e, range-in 0x80 0x9f b (h .second .low) (h .plain e), tc)
-          | no k ↦ rw (ne-eqb a 0xe0 (omega arith), range-past 0xe1 0xec a (omega arith), ne-eqb a 0xed (omega arith), range-in 0xee 0xef a (omega arith) (h .first .high), tb, tc)
+          | no k ↦ rw (
+            ne-eqb a 0xe0 (omega arith),
+            range-past 0xe1 0xec a (omega arith),
+            ne-eqb a 0xed (omega arith),
+            range-in 0xee 0xef a
+                (omega arith) (h .first .high),
+            tb,
+            tc,
+          )
         ]
       ]
     ]
@@ -133,7 +142,8 @@ in-four a b c d e =
     (λ r. ⊎-elim (λ t. let f = four-of a b c d 0xf1 0xf3 0x80 0xbf (range 0xf1 0xf3 a) (tail b) (in-range 0xf1 0xf3 a) (in-tail b) t in omega arith)
     (λ t. let f = four-of a b c d 0xf4 0xf4 0x80 0x8f (eqb a 0xf4) (range 0x80 0x8f b) (only a 0xf4) (in-range 0x80 0x8f b) t in omega arith)
     (or-one (range 0xf1 0xf3 a && (tail b && (tail c && tail d))) (eqb a 0xf4 && (range 0x80 0x8f b && (tail c && tail d))) r))
-    (or-one (eqb a 0xf0 && (range 0x90 0xbf b && (tail c && tail d))) ((range 0xf1 0xf3 a && (tail b && (tail c && tail d))) || (eqb a 0xf4 && (range 0x80 0x8f b && (tail c && tail d)))) e)
+    (or-one (eqb a 0xf0 && (range 0x90 0xbf b && (tail c && tail d)))
+    ((range 0xf1 0xf3 a && (tail b && (tail c && tail d))) || (eqb a 0xf4 && (range 0x80 0x8f b && (tail c && tail d)))) e)
 
 pub four-in : (a b c d : ℕ) → Four a b c d → utf8-4 a b c d ≡ true
 unfolding utf8-4

@@ -1,19 +1,17 @@
 -- The sequence that stands at a place of the bytes: one of four kinds, each with its bytes' orders; and what follows where it does not.
 -- The grammar's choices are gone through once, by `shown`; everything else goes by the kind. Assumes nothing.
-use mathlib.Core.Path.{_≡_, refl, sym, ap, _∙_, subst}
-use mathlib.Core.Bool.{Bool, true, false}
+use mathlib.Core.Path.{_≡_, refl, ap, _∙_, subst}
 use mathlib.Core.List.{List, [], _∷_}
-use Prim.Native.Nat.{ℕ, zero, suc, _+_, _-_, _*_, _%_, _≤_, _<_}
+use Prim.Native.Nat.{ℕ, zero, suc, _+_, _-_, _%_, _≤_, _<_}
 use native.Mathlib.Omega.{arith}
 use native.Mathlib.Nat.{add-zero}
-use native.Mathlib.Numerals.{add-one, add-two, add-three}
+use native.Mathlib.Numerals.{add-one}
 use lib.ListN.{length, getD, take, drop, length-drop}
 use lib.Seq.{drop-cons, getD-drop}
-use Rattle.room.specs.Choice.{pick}
 use Rattle.utf8_read.specs.Grammar.{utf8-1, utf8-2, utf8-3, utf8-4, from-2, from-3, from-4, utf8-char}
 use Rattle.utf8_read.specs.Table.{decode, more}
 use Rattle.utf8_read.proofs.Tests.{pick-elim, refuted}
-use Rattle.utf8_read.proofs.Rules.{Within, Two, Three, Four, one-in, in-one, in-two, in-three, three-in, in-four, four-in, two-in}
+use Rattle.utf8_read.proofs.Rules.{Two, Three, Four, one-in, in-one, in-two, in-three, three-in, in-four, four-in, two-in}
 
 -- a sequence of l bytes stands at a place
 pub data At (s : List ℕ) (at : ℕ) : ℕ → Type 0 where
@@ -134,6 +132,7 @@ pub value-3 : (s : List ℕ) (at : ℕ) → at + 3 ≤ length s → decode (take
 unfolding decode
 value-3 s at h = rw (front-3 s at h)
 
-pub value-4 : (s : List ℕ) (at : ℕ) → at + 4 ≤ length s → decode (take 4 (drop at s)) ≡ more (more (more (getD s at 0 % 8) (getD s (at + 1) 0)) (getD s (at + 2) 0)) (getD s (at + 3) 0)
+pub value-4 : (s : List ℕ) (at : ℕ) → at + 4 ≤ length s → decode (take 4 (drop at s)) ≡ more
+    (more (more (getD s at 0 % 8) (getD s (at + 1) 0)) (getD s (at + 2) 0)) (getD s (at + 3) 0)
 unfolding decode
 value-4 s at h = rw (front-4 s at h)

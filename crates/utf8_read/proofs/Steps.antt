@@ -1,20 +1,19 @@
 -- Reading goes on by a sequence: what is good, which code points and how many first bytes are left after it.
 -- One step over a list, then the same from a place to the next place. Assumes nothing.
-use mathlib.Core.Path.{_≡_, refl, sym, ap, _∙_, subst}
+use mathlib.Core.Path.{_≡_, refl, sym, ap, _∙_}
 use mathlib.Core.Bool.{true, false}
 use mathlib.Core.List.{List, [], _∷_}
 use Prim.Native.Nat.{ℕ, zero, suc, _+_, _-_, _≤_, _<_}
 use native.Mathlib.Omega.{arith}
 use native.Mathlib.Decide.{decLt}
-use lib.ListN.{length, getD, take, drop, length-drop, drop-of-length-le}
+use lib.ListN.{length, take, drop, length-drop, drop-of-length-le}
 use lib.Seq.{drop-drop}
-use Rattle.room.specs.Choice.{pick}
 use Rattle.utf8_read.specs.Grammar.{tail, utf8-char}
 use Rattle.utf8_read.specs.Table.{decode}
 use Rattle.utf8_read.specs.Reading.{good-from, good-end, points-from, points}
 use Rattle.utf8_read.specs.Window.{starts}
 use Rattle.utf8_read.proofs.Rules.{tail-in, tail-below, tail-above}
-use Rattle.utf8_read.proofs.Sequences.{At, found, stands, Fits, fits, front-1, front-2, front-3, front-4}
+use Rattle.utf8_read.proofs.Sequences.{At, found, stands, fits, front-1, front-2, front-3, front-4}
 
 skip-good : (k : ℕ) (s : List ℕ) → k ≤ length s → good-from k s ≡ k + good-from 0 (drop k s)
 unfolding good-from

@@ -2,7 +2,7 @@
 -- By the first byte of a sequence, whose tails are then due; `Fit` is what a test of one place says. Assumes nothing.
 use mathlib.Core.Path.{_≡_, refl, sym, ap, _∙_, subst}
 use mathlib.Core.Bool.{Bool, true, false, not, _&&_, _||_, Bool·beq, or-true}
-use mathlib.Core.List.{List, [], _∷_}
+use mathlib.Core.List.{List}
 use Prim.Native.Nat.{ℕ, zero, suc, _+_, _-_, _≤_, _<_}
 use native.Mathlib.Omega.{arith}
 use native.Mathlib.Decide.{decLt}
@@ -12,8 +12,8 @@ use borrow.Author.Tests.{le-leb, lt-leb, leb-false, ltb-false, eq-eqb, ne-eqb}
 use Rattle.utf8_read.specs.Grammar.{tail}
 use Rattle.utf8_read.specs.Reading.{good-from}
 use Rattle.utf8_read.specs.Window.{misfit, Local, Clean, Ascii}
-use Rattle.utf8_read.proofs.Tests.{never, or-none, refuted}
-use Rattle.utf8_read.proofs.Rules.{Within, Two, Three, Four, in-tail, tail-in, tail-below, tail-above}
+use Rattle.utf8_read.proofs.Tests.{never, or-none}
+use Rattle.utf8_read.proofs.Rules.{in-tail, tail-in, tail-below}
 use Rattle.utf8_read.proofs.Sequences.{At, fits}
 use Rattle.utf8_read.proofs.Steps.{next-good}
 
@@ -173,7 +173,9 @@ module _ (s : List ℕ) (p e : ℕ) (h : 3 ≤ p) (m : e ≤ length s) (loc : Lo
                           let a₁ = f₀ .most in
                           record {
                             long = 4;
-                            there = At.four (record { first = omega arith; second = t₁; third = t₂; fourth = t₃; shortest = f₁ .after-f0; least = f₁ .after-f4 }) (omega arith);
+                            there = At.four (record
+                                { first = omega arith; second = t₁; third = t₂; fourth = t₃; shortest = f₁ .after-f0; least = f₁ .after-f4 })
+                                (omega arith);
                             short = omega arith;
                           }
                     ]
@@ -220,4 +222,5 @@ plain a b c d ha hb hc hd =
     )
 
 pub ascii-local : (s : List ℕ) (a e : ℕ) → Ascii s a (e + 3) → Local s (a + 3) (e + 3)
-ascii-local s a e f j l h = plain _ _ _ _ (f j (omega arith) (omega arith)) (f (j + 1) (omega arith) (omega arith)) (f (j + 2) (omega arith) (omega arith)) (f (j + 3) (omega arith) (omega arith))
+ascii-local s a e f j l h = plain _ _ _ _ (f j (omega arith) (omega arith)) (f (j + 1) (omega arith) (omega arith))
+    (f (j + 2) (omega arith) (omega arith)) (f (j + 3) (omega arith) (omega arith))

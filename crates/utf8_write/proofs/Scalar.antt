@@ -1,7 +1,7 @@
 -- How far numbers are code points: by blocks, one by one, and at the first that is none.
 -- The count so far and the count of what is left together are the count of the whole. Assumes nothing.
-use mathlib.Core.Path.{_≡_, refl, sym, ap, _∙_}
-use mathlib.Core.Bool.{Bool, true, false, _&&_, _||_}
+use mathlib.Core.Path.{_≡_, refl, sym, ap}
+use mathlib.Core.Bool.{Bool, true, false, _&&_}
 use mathlib.Core.Logic.{⊎-elim}
 use mathlib.Core.List.{List, [], _∷_}
 use Prim.Native.Nat.{ℕ, zero, suc, _+_, _≤_, _<_}
@@ -10,7 +10,6 @@ use native.Mathlib.Numerals.{add-one}
 use lib.ListN.{length, getD, drop, drop-of-length-le}
 use lib.Dec.{ltb, leb}
 use borrow.Author.Tests.{ltb-true, leb-true}
-use Rattle.room.specs.Choice.{pick}
 use Rattle.utf8_read.specs.Table.{scalar}
 use Rattle.utf8_read.proofs.Tests.{and-both, or-one, pick-elim}
 use Rattle.utf8_read.proofs.Sequences.{front-1}

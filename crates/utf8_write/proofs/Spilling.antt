@@ -2,7 +2,7 @@
 -- The bytes of two parts are the bytes of the first and then of the second. Assumes nothing.
 use mathlib.Core.Path.{_≡_, refl, sym, ap, _∙_}
 use mathlib.Core.List.{List, [], _∷_, _++_}
-use Prim.Native.Nat.{ℕ, zero, suc, _+_, _*_, _-_, _≤_, _<_}
+use Prim.Native.Nat.{ℕ, suc, _+_, _*_, _-_, _≤_, _<_}
 use native.Mathlib.Omega.{arith}
 use native.Mathlib.Decide.{decLt}
 use native.Mathlib.Numerals.{add-one}
@@ -82,7 +82,8 @@ steps x = elim (decLt x 0x80) [
 ]
 
 -- one number more of a block
-pub block-more : (s : List ℕ) (at k n m : ℕ) → at + k < length s → n ≡ wide (take k (drop at s)) → m ≡ length (encode (getD s (at + k) 0)) → n + m ≡ wide (take (k + 1) (drop at s))
+pub block-more : (s : List ℕ) (at k n m : ℕ) → at + k < length s → n ≡ wide (take k (drop at s)) → m ≡ length (encode (getD s (at + k) 0))
+    → n + m ≡ wide (take (k + 1) (drop at s))
 block-more s at k n m h e g =
     let t : take (k + 1) (drop at s) ≡ take k (drop at s) ++ (getD s (at + k) 0 ∷ [])
     = rw (add-one k, take-suc (drop at s) k 0 (omega (arith, length-drop at s)), getD-drop at s k 0) in
@@ -101,7 +102,14 @@ by-block {s} {at} {n} m c h e =
     record {
       most = omega arith;
       sum =
-          omega (arith, c .sum, ap (λ (r : List ℕ). wide r) (take-append-drop 16 (drop at s)), wide-both (take 16 (drop at s)) (drop 16 (drop at s)), ap (λ (r : List ℕ). wide r) (drop-drop 16 at s));
+          omega (
+            arith,
+            c .sum,
+            ap (λ (r : List ℕ). wide r) (take-append-drop 16 (drop at s)),
+            wide-both (take 16 (drop at s))
+                (drop 16 (drop at s)),
+            ap (λ (r : List ℕ). wide r) (drop-drop 16 at s),
+          );
     }
 
 pub by-number : {s : List ℕ} {at n : ℕ} (m : ℕ) → Measured s at n → at < length s → m ≡ length (encode (getD s at 0)) → Measured s (at + 1) (n + m)

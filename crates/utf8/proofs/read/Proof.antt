@@ -28,7 +28,13 @@ same-length : tie.Need-same-length
 same-length c = search needs
 
 returns-3 : tie.Need-returns-3
-returns-3 c = read-good _ _ (c .before .before .before .before .before .before .before .good-end-of .ensures) (c .before .before .before .before .before .before .if1 .left) _ _ _ (c .before .before .before .before .before .starts-of .ensures) (c .before .before .before .before .if2 .left) (c .before .before .fill .ensures)
+returns-3 c =
+    let c2 = c .before .before in
+    let c4 = c2 .before .before in
+    let c5 = c4 .before in
+    let c6 = c5 .before in
+    let c7 = c6 .before in
+    read-good _ _ (c7 .good-end-of .ensures) (c6 .if1 .left) _ _ _ (c5 .starts-of .ensures) (c4 .if2 .left) (c2 .fill .ensures)
 
 pub read-spec : {M : Type 1} → statement M
 read-spec =

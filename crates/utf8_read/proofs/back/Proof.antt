@@ -1,10 +1,9 @@
--- Shown: `back` meets its contract.
--- How: by the invariant of its loop, below, and the laws of proofs/Judging.antt.
+-- `back` comes to the last first byte before the end of a stretch.
+-- The place is never before the stretch's own first byte, which is no tail; the way there is the law of windows. Assumes nothing.
 use Rattle.utf8_read.proofs.Judging.{not-first, stayed, came}
-use Rattle.utf8_read.specs.Window.{Stretch, Reached}
 use native.Mathlib.Omega.{arith}
-use mathlib.Core.Path.{_≡_, refl, sym, _∙_, subst}
-use Prim.Native.Nat.{_+_, _-_, _≤_, _<_}
+use mathlib.Core.Path.{sym, _∙_}
+use Prim.Native.Nat.{_-_, _≤_, _<_}
 use borrow.Author.Needs.{needs}
 use Rattle.utf8_read.proofs.back.Statement.{statement}
 use Rattle.utf8_read.proofs.back.Tie as tie
@@ -37,10 +36,16 @@ back-less : tie.Need-back-less Inv-back μ-back
 back-less c = search needs
 
 back-again : tie.Need-back-again Inv-back μ-back
-back-again c = omega (arith, not-first (c .before .before .before .before .before .before .pre) (c .before .before .before .back .p) (c .before .before .before .back .inv .0) (c .before .before .before .back .inv .1) (sym (c .before .is-tail .ensures) ∙ c .if2 .taken))
+back-again c =
+    let c3 = c .before .before .before in
+    let c6 = c3 .before .before .before in
+    omega (arith, not-first (c6 .pre) (c3 .back .p) (c3 .back .inv .0) (c3 .back .inv .1) (sym (c .before .is-tail .ensures) ∙ c .if2 .taken))
 
 returns-2 : tie.Need-returns-2 Inv-back μ-back
-returns-2 c = came (c .before .before .before .before .before .before .pre) (c .before .before .before .back .p) (c .before .before .before .back .inv .0) (c .before .before .before .back .inv .1) (sym (c .before .is-tail .ensures) ∙ c .if2 .left)
+returns-2 c =
+    let c3 = c .before .before .before in
+    let c6 = c3 .before .before .before in
+    came (c6 .pre) (c3 .back .p) (c3 .back .inv .0) (c3 .back .inv .1) (sym (c .before .is-tail .ensures) ∙ c .if2 .left)
 
 pub back-spec : {M : Type 1} → statement M
 back-spec =

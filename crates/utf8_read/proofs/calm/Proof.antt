@@ -1,10 +1,10 @@
--- Shown: `calm` meets its contract.
--- How: by the invariant of its loop, below, and the laws of proofs/Judging.antt.
+-- `calm` finds 16 ASCII bytes.
+-- The flag says it of the bytes so far. Assumes nothing.
 use Rattle.utf8_read.proofs.Judging.{ascii-none, ascii-more}
 use Rattle.utf8_read.specs.Window.{Ascii}
 use native.Mathlib.Omega.{arith}
 use mathlib.Core.Bool.{true}
-use mathlib.Core.Path.{_≡_, refl, subst}
+use mathlib.Core.Path.{_≡_}
 use Prim.Native.Nat.{_+_, _-_, _≤_}
 use borrow.Author.Needs.{needs}
 use Rattle.utf8_read.proofs.calm.Statement.{statement}
@@ -32,7 +32,10 @@ calm-less : tie.Need-calm-less Inv-calm μ-calm
 calm-less c = search needs
 
 calm-again : tie.Need-calm-again Inv-calm μ-calm
-calm-again c = (omega arith, λ t. ascii-more (c .before .before .before .args .bytes .now) (c .before .before .before .args .at) (c .before .before .before .args .at + c .before .before .calm .k) _ (c .before .before .calm .ok) (c .before .before .calm .inv .1) (omega arith) t)
+calm-again c =
+    let c2 = c .before .before in
+    let c3 = c2 .before in
+    (omega arith, λ t. ascii-more (c3 .args .bytes .now) (c3 .args .at) (c3 .args .at + c2 .calm .k) _ (c2 .calm .ok) (c2 .calm .inv .1) (omega arith) t)
 
 returns : tie.Need-returns Inv-calm μ-calm
 returns c = λ t k l m. c .before .calm .inv .1 t k l (omega arith)

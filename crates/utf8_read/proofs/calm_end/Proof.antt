@@ -38,11 +38,16 @@ calm-less : tie.Need-calm-less Inv-calm μ-calm
 calm-less c = omega (arith, c .calm-far .ensures .0, c .calm-far .ensures .1)
 
 calm-again : tie.Need-calm-again Inv-calm μ-calm
-calm-again c = let b = ascii-join (c .before .before .before .before .before .before .args .bytes .now) (c .before .before .before .before .before .before .args .at) (c .before .before .before .before .calm .end) (c .before .before .before .before .calm .end) (c .before .before .before .before .calm .end + 16) (omega arith) (c .before .before .before .before .calm .inv .2) (c .before .before .calm2 .ensures (not-false _ (c .before .if1 .left))) in (
-  omega (arith, c .calm-far .ensures .0),
-  c .calm-far .ensures .1,
-  ascii-join (c .before .before .before .before .before .before .args .bytes .now) (c .before .before .before .before .before .before .args .at) (c .before .before .before .before .calm .end + 16) (c .before .before .before .before .calm .end + 16) _ (omega arith) b (c .calm-far .ensures .2),
-)
+calm-again c =
+    let c2 = c .before .before in
+    let c4 = c2 .before .before in
+    let c6 = c4 .before .before in
+    let b = ascii-join (c6 .args .bytes .now) (c6 .args .at) (c4 .calm .end) (c4 .calm .end) (c4 .calm .end + 16) (omega arith) (c4 .calm .inv .2)
+    (c2 .calm2 .ensures (not-false _ (c .before .if1 .left))) in (
+      omega (arith, c .calm-far .ensures .0),
+      c .calm-far .ensures .1,
+      ascii-join (c6 .args .bytes .now) (c6 .args .at) (c4 .calm .end + 16) (c4 .calm .end + 16) _ (omega arith) b (c .calm-far .ensures .2),
+    )
 
 returns-2 : tie.Need-returns-2 Inv-calm μ-calm
 returns-2 c = c .before .calm .inv

@@ -53,12 +53,18 @@ far-less : tie.Need-far-less Inv-far μ-far
 far-less c = search needs
 
 far-again : tie.Need-far-again Inv-far μ-far
-far-again c = (
-  omega arith,
-  omega arith,
-  ascii-join (c .before .before .before .before .before .before .before .before .args .bytes .now) (c .before .before .before .before .before .before .before .before .args .at) (c .before .before .before .before .before .before .far .end) (c .before .before .before .before .before .before .far .end) _ (omega arith) (c .before .before .before .before .before .before .far .inv .2)
-      (four-calm (c .before .before .before .before .before .before .before .before .args .bytes .now) (c .before .before .before .before .before .before .far .end) _ _ _ _ (c .before .before .before .before .calm .ensures) (c .before .before .before .calm2 .ensures) (c .before .before .calm3 .ensures) (c .before .calm4 .ensures) (not-false _ (c .if1 .left))),
-)
+far-again c =
+    let c2 = c .before .before in
+    let c3 = c2 .before in
+    let c4 = c3 .before in
+    let c6 = c4 .before .before in
+    let c8 = c6 .before .before in (
+      omega arith,
+      omega arith,
+      ascii-join (c8 .args .bytes .now) (c8 .args .at) (c6 .far .end) (c6 .far .end) _ (omega arith) (c6 .far .inv .2)
+          (four-calm (c8 .args .bytes .now) (c6 .far .end) _ _ _ _ (c4 .calm .ensures) (c3 .calm2 .ensures) (c2 .calm3 .ensures)
+          (c .before .calm4 .ensures) (not-false _ (c .if1 .left))),
+    )
 
 returns-2 : tie.Need-returns-2 Inv-far μ-far
 returns-2 c = c .before .far .inv

@@ -21,7 +21,10 @@ calm-requires-3 : tie.Need-calm-requires-3
 calm-requires-3 c κs = search needs
 
 returns : tie.Need-returns
-returns c = three-calm (c .before .before .before .before .args .bytes .now) (c .before .before .before .before .args .j) _ _ _ (c .before .before .calm .ensures) (c .before .calm2 .ensures) (c .calm3 .ensures)
+returns c =
+    let c2 = c .before .before in
+    let c4 = c2 .before .before in
+    three-calm (c4 .args .bytes .now) (c4 .args .j) _ _ _ (c2 .calm .ensures) (c .before .calm2 .ensures) (c .calm3 .ensures)
 
 pub calm-window-spec : {M : Type 1} → statement M
 calm-window-spec =

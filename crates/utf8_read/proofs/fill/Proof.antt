@@ -36,7 +36,11 @@ part-widen-end : tie.Need-part-widen-end Inv-some μ-some Inv-fill μ-fill
 part-widen-end c = search needs
 
 widen-requires : tie.Need-widen-requires Inv-some μ-some Inv-fill μ-fill
-widen-requires c κs = run-fits (c .before .before .before .before .fill .inv) _ (c .before .before .calm-end .ensures .0) (c .before .before .calm-end .ensures .1) (c .before .before .calm-end .ensures .2) (c .before .before .before .before .before .before .before .pre .1)
+widen-requires c κs =
+    let c2 = c .before .before in
+    let c4 = c2 .before .before in
+    let c7 = c4 .before .before .before in
+    run-fits (c4 .fill .inv) _ (c2 .calm-end .ensures .0) (c2 .calm-end .ensures .1) (c2 .calm-end .ensures .2) (c7 .pre .1)
 
 near-requires : tie.Need-near-requires Inv-some μ-some Inv-fill μ-fill
 near-requires c κs = c .before .before .before .before .before .calm-end .ensures .1
@@ -45,41 +49,105 @@ some-holds : tie.Need-some-holds Inv-some μ-some Inv-fill μ-fill
 some-holds c = not-yet _ _ _ _
 
 fill-less : tie.Need-fill-less Inv-some μ-some Inv-fill μ-fill
-fill-less c = omega (arith, c .some-test .left, c .before .some .inv .least, c .before .before .near .ensures, c .before .before .before .before .before .before .before .before .calm-end .ensures .0, c .before .before .before .before .before .before .before .before .calm-end .ensures .1, c .before .before .before .before .before .before .before .before .before .fill-test .taken)
+fill-less c =
+    let c2 = c .before .before in
+    let c8 = c2 .before .before .before .before .before .before in
+    let c9 = c8 .before in
+    omega (arith, c .some-test .left, c .before .some .inv .least, c2 .near .ensures, c8 .calm-end .ensures .0, c8 .calm-end .ensures .1, c9 .fill-test .taken)
 
 fill-again : tie.Need-fill-again Inv-some μ-some Inv-fill μ-fill
-fill-again c = c .before .some .inv .grown _ (c .before .before .before .before .before .before .before .before .before .before .before .before .before .pre .1)
-    (by-run (c .before .before .before .before .before .before .before .before .before .before .fill .inv) _ _ _ (c .before .before .before .before .before .before .before .before .calm-end .ensures .0) (c .before .before .before .before .before .before .before .before .calm-end .ensures .1) (c .before .before .before .before .before .before .before .before .calm-end .ensures .2) (c .before .before .before .before .before .widen .ensures))
+fill-again c =
+    let c5 = c .before .before .before .before .before in
+    let c8 = c5 .before .before .before in
+    let c10 = c8 .before .before in
+    let c13 = c10 .before .before .before in
+    c .before .some .inv .grown _ (c13 .pre .1)
+    (by-run (c10 .fill .inv) _ _ _ (c8 .calm-end .ensures .0) (c8 .calm-end .ensures .1) (c8 .calm-end .ensures .2) (c5 .widen .ensures))
 
 point-at-requires : tie.Need-point-at-requires Inv-some μ-some Inv-fill μ-fill
-point-at-requires c κs = let f = c .before .some .inv .grown _ (c .before .before .before .before .before .before .before .before .before .before .before .before .before .pre .1) (by-run (c .before .before .before .before .before .before .before .before .before .before .fill .inv) _ _ _ (c .before .before .before .before .before .before .before .before .calm-end .ensures .0) (c .before .before .before .before .before .before .before .before .calm-end .ensures .1) (c .before .before .before .before .before .before .before .before .calm-end .ensures .2) (c .before .before .before .before .before .widen .ensures)) in
-    (omega (arith, c .before .before .near .ensures), there f (omega (arith, c .before .before .near .ensures)))
+point-at-requires c κs =
+    let c2 = c .before .before in
+    let c5 = c2 .before .before .before in
+    let c8 = c5 .before .before .before in
+    let c10 = c8 .before .before in
+    let c13 = c10 .before .before .before in
+    let f = c .before .some .inv .grown _ (c13 .pre .1)
+    (by-run (c10 .fill .inv) _ _ _ (c8 .calm-end .ensures .0) (c8 .calm-end .ensures .1) (c8 .calm-end .ensures .2) (c5 .widen .ensures)) in
+    (omega (arith, c2 .near .ensures), there f (omega (arith, c2 .near .ensures)))
 
 mul-out : tie.Need-mul-out Inv-some μ-some Inv-fill μ-fill
-mul-out c = let f = c .before .before .some .inv .grown _ (c .before .before .before .before .before .before .before .before .before .before .before .before .before .before .pre .1) (by-run (c .before .before .before .before .before .before .before .before .before .before .before .fill .inv) _ _ _ (c .before .before .before .before .before .before .before .before .before .calm-end .ensures .0) (c .before .before .before .before .before .before .before .before .before .calm-end .ensures .1) (c .before .before .before .before .before .before .before .before .before .calm-end .ensures .2) (c .before .before .before .before .before .before .widen .ensures)) in
-    omega (arith, room-left f (omega (arith, c .before .before .before .near .ensures)) _ (c .point-at .ensures) (c .before .before .before .before .before .before .before .before .before .before .before .before .before .before .pre .1), as-long f (c .before .before .before .before .before .before .before .before .before .before .before .before .before .before .pre .1))
+mul-out c =
+    let c2 = c .before .before in
+    let c3 = c2 .before in
+    let c6 = c3 .before .before .before in
+    let c9 = c6 .before .before .before in
+    let c11 = c9 .before .before in
+    let c14 = c11 .before .before .before in
+    let f = c2 .some .inv .grown _ (c14 .pre .1)
+    (by-run (c11 .fill .inv) _ _ _ (c9 .calm-end .ensures .0) (c9 .calm-end .ensures .1) (c9 .calm-end .ensures .2) (c6 .widen .ensures)) in
+    omega (arith, room-left f (omega (arith, c3 .near .ensures)) _ (c .point-at .ensures) (c14 .pre .1), as-long f (c14 .pre .1))
 
 slice-write-out : tie.Need-slice-write-out Inv-some μ-some Inv-fill μ-fill
-slice-write-out c = let f = c .before .before .some .inv .grown _ (c .before .before .before .before .before .before .before .before .before .before .before .before .before .before .pre .1) (by-run (c .before .before .before .before .before .before .before .before .before .before .before .fill .inv) _ _ _ (c .before .before .before .before .before .before .before .before .before .calm-end .ensures .0) (c .before .before .before .before .before .before .before .before .before .calm-end .ensures .1) (c .before .before .before .before .before .before .before .before .before .calm-end .ensures .2) (c .before .before .before .before .before .before .widen .ensures)) in
-    room-left f (omega (arith, c .before .before .before .near .ensures)) _ (c .point-at .ensures) (c .before .before .before .before .before .before .before .before .before .before .before .before .before .before .pre .1)
+slice-write-out c =
+    let c2 = c .before .before in
+    let c3 = c2 .before in
+    let c6 = c3 .before .before .before in
+    let c9 = c6 .before .before .before in
+    let c11 = c9 .before .before in
+    let c14 = c11 .before .before .before in
+    let f = c2 .some .inv .grown _ (c14 .pre .1)
+    (by-run (c11 .fill .inv) _ _ _ (c9 .calm-end .ensures .0) (c9 .calm-end .ensures .1) (c9 .calm-end .ensures .2) (c6 .widen .ensures)) in
+    room-left f (omega (arith, c3 .near .ensures)) _ (c .point-at .ensures) (c14 .pre .1)
 
 add-at : tie.Need-add-at Inv-some μ-some Inv-fill μ-fill
-add-at c = let f = c .before .before .before .some .inv .grown _ (c .before .before .before .before .before .before .before .before .before .before .before .before .before .before .before .pre .1) (by-run (c .before .before .before .before .before .before .before .before .before .before .before .before .fill .inv) _ _ _ (c .before .before .before .before .before .before .before .before .before .before .calm-end .ensures .0) (c .before .before .before .before .before .before .before .before .before .before .calm-end .ensures .1) (c .before .before .before .before .before .before .before .before .before .before .calm-end .ensures .2) (c .before .before .before .before .before .before .before .widen .ensures)) in
-    omega (arith, past f (omega (arith, c .before .before .before .before .near .ensures)) _ (c .before .point-at .ensures))
+add-at c =
+    let c3 = c .before .before .before in
+    let c4 = c3 .before in
+    let c7 = c4 .before .before .before in
+    let c10 = c7 .before .before .before in
+    let c12 = c10 .before .before in
+    let c15 = c12 .before .before .before in
+    let f = c3 .some .inv .grown _ (c15 .pre .1)
+    (by-run (c12 .fill .inv) _ _ _ (c10 .calm-end .ensures .0) (c10 .calm-end .ensures .1) (c10 .calm-end .ensures .2) (c7 .widen .ensures)) in
+    omega (arith, past f (omega (arith, c4 .near .ensures)) _ (c .before .point-at .ensures))
 
 add-n : tie.Need-add-n Inv-some μ-some Inv-fill μ-fill
-add-n c = let f = c .before .before .before .some .inv .grown _ (c .before .before .before .before .before .before .before .before .before .before .before .before .before .before .before .pre .1) (by-run (c .before .before .before .before .before .before .before .before .before .before .before .before .fill .inv) _ _ _ (c .before .before .before .before .before .before .before .before .before .before .calm-end .ensures .0) (c .before .before .before .before .before .before .before .before .before .before .calm-end .ensures .1) (c .before .before .before .before .before .before .before .before .before .before .calm-end .ensures .2) (c .before .before .before .before .before .before .before .widen .ensures)) in
-    omega (arith, room-left f (omega (arith, c .before .before .before .before .near .ensures)) _ (c .before .point-at .ensures) (c .before .before .before .before .before .before .before .before .before .before .before .before .before .before .before .pre .1))
+add-n c =
+    let c3 = c .before .before .before in
+    let c4 = c3 .before in
+    let c7 = c4 .before .before .before in
+    let c10 = c7 .before .before .before in
+    let c12 = c10 .before .before in
+    let c15 = c12 .before .before .before in
+    let f = c3 .some .inv .grown _ (c15 .pre .1)
+    (by-run (c12 .fill .inv) _ _ _ (c10 .calm-end .ensures .0) (c10 .calm-end .ensures .1) (c10 .calm-end .ensures .2) (c7 .widen .ensures)) in
+    omega (arith, room-left f (omega (arith, c4 .near .ensures)) _ (c .before .point-at .ensures) (c15 .pre .1))
 
 some-less : tie.Need-some-less Inv-some μ-some Inv-fill μ-fill
-some-less c = let f = c .before .before .before .some .inv .grown _ (c .before .before .before .before .before .before .before .before .before .before .before .before .before .before .before .pre .1) (by-run (c .before .before .before .before .before .before .before .before .before .before .before .before .fill .inv) _ _ _ (c .before .before .before .before .before .before .before .before .before .before .calm-end .ensures .0) (c .before .before .before .before .before .before .before .before .before .before .calm-end .ensures .1) (c .before .before .before .before .before .before .before .before .before .before .calm-end .ensures .2) (c .before .before .before .before .before .before .before .widen .ensures)) in
-    omega (arith, past f (omega (arith, c .before .before .before .before .near .ensures)) _ (c .before .point-at .ensures))
+some-less c =
+    let c3 = c .before .before .before in
+    let c4 = c3 .before in
+    let c7 = c4 .before .before .before in
+    let c10 = c7 .before .before .before in
+    let c12 = c10 .before .before in
+    let c15 = c12 .before .before .before in
+    let f = c3 .some .inv .grown _ (c15 .pre .1)
+    (by-run (c12 .fill .inv) _ _ _ (c10 .calm-end .ensures .0) (c10 .calm-end .ensures .1) (c10 .calm-end .ensures .2) (c7 .widen .ensures)) in
+    omega (arith, past f (omega (arith, c4 .near .ensures)) _ (c .before .point-at .ensures))
 
 some-again : tie.Need-some-again Inv-some μ-some Inv-fill μ-fill
-some-again c = let f = c .before .before .before .some .inv .grown _ (c .before .before .before .before .before .before .before .before .before .before .before .before .before .before .before .pre .1) (by-run (c .before .before .before .before .before .before .before .before .before .before .before .before .fill .inv) _ _ _ (c .before .before .before .before .before .before .before .before .before .before .calm-end .ensures .0) (c .before .before .before .before .before .before .before .before .before .before .calm-end .ensures .1) (c .before .before .before .before .before .before .before .before .before .before .calm-end .ensures .2) (c .before .before .before .before .before .before .before .widen .ensures)) in
+some-again c =
+    let c3 = c .before .before .before in
+    let c4 = c3 .before in
+    let c7 = c4 .before .before .before in
+    let c10 = c7 .before .before .before in
+    let c12 = c10 .before .before in
+    let c15 = c12 .before .before .before in
+    let f = c3 .some .inv .grown _ (c15 .pre .1)
+    (by-run (c12 .fill .inv) _ _ _ (c10 .calm-end .ensures .0) (c10 .calm-end .ensures .1) (c10 .calm-end .ensures .2) (c7 .widen .ensures)) in
     record {
-      least = omega (arith, c .before .before .before .some .inv .least, past f (omega (arith, c .before .before .before .before .near .ensures)) _ (c .before .point-at .ensures));
-      grown = λ d h g. by-pointed (c .before .before .before .some .inv .grown d h g) (omega (arith, c .before .before .before .before .near .ensures)) _ (c .before .point-at .ensures) h;
+      least = omega (arith, c3 .some .inv .least, past f (omega (arith, c4 .near .ensures)) _ (c .before .point-at .ensures));
+      grown = λ d h g. by-pointed (c3 .some .inv .grown d h g) (omega (arith, c4 .near .ensures)) _ (c .before .point-at .ensures) h;
     }
 
 same-length : tie.Need-same-length Inv-some μ-some Inv-fill μ-fill

@@ -22,7 +22,13 @@ push-requires-3 : tie.Need-push-requires-3
 push-requires-3 c κs = omega (arith, c .push2 .ensures, c .before .push .ensures, c .before .before .wide .ensures, and-mask (c .before .before .before .args .a) 3)
 
 returns : tie.Need-returns
-returns c = c .push3 .ensures ∙ ap (λ (x : ℕ). more x (c .before .before .before .before .args .d)) (c .before .push2 .ensures ∙ ap (λ (x : ℕ). more x (c .before .before .before .before .args .c)) (c .before .before .push .ensures ∙ ap (λ (x : ℕ). more x (c .before .before .before .before .args .b)) (c .before .before .before .wide .ensures ∙ and-mask (c .before .before .before .before .args .a) 3)))
+returns c =
+    let c2 = c .before .before in
+    let c3 = c2 .before in
+    let c4 = c3 .before in
+    c .push3 .ensures ∙ ap (λ (x : ℕ). more x (c4 .args .d))
+    (c .before .push2 .ensures ∙ ap (λ (x : ℕ). more x (c4 .args .c))
+    (c2 .push .ensures ∙ ap (λ (x : ℕ). more x (c4 .args .b)) (c3 .wide .ensures ∙ and-mask (c4 .args .a) 3)))
 
 pub four-of-spec : {M : Type 1} → statement M
 four-of-spec =

@@ -1,11 +1,9 @@
--- Shown: `good_end_of` answers `good-end`.
--- How: loop `judge` keeps `Going`, and each way through it is a law of proofs/Judging.antt.
+-- `good_end_of` is where the good sequences end.
+-- What is good from the place on stays what is good of the whole: by runs and by one sequence. Assumes nothing.
 use Rattle.utf8_read.proofs.Judging.{Going, going, by-run, by-one, at-end, at-bad}
 use native.Mathlib.Omega.{arith}
-use mathlib.Core.Path.{_≡_}
 use lib.ListN.{length}
 use Prim.Native.Nat.{_-_}
-use borrow.Author.Needs.{needs}
 use Rattle.utf8_read.proofs.good_end_of.Statement.{statement}
 use Rattle.utf8_read.proofs.good_end_of.Tie as tie
 
@@ -28,16 +26,28 @@ length-at-requires : tie.Need-length-at-requires Inv-judge μ-judge
 length-at-requires c κs = omega (arith, c .before .run .ensures .most)
 
 returns-2 : tie.Need-returns-2 Inv-judge μ-judge
-returns-2 c = at-bad (by-run (c .before .before .before .before .before .judge .inv) (c .before .before .before .run .ensures)) (c .before .length-at .ensures) (c .if2 .taken)
+returns-2 c =
+    let c3 = c .before .before .before in
+    let c5 = c3 .before .before in
+    at-bad (by-run (c5 .judge .inv) (c3 .run .ensures)) (c .before .length-at .ensures) (c .if2 .taken)
 
 add-at : tie.Need-add-at Inv-judge μ-judge
-add-at c = omega (arith, by-one _ (by-run (c .before .before .before .before .before .judge .inv) (c .before .before .before .run .ensures)) (c .before .length-at .ensures) (c .if2 .left))
+add-at c =
+    let c3 = c .before .before .before in
+    let c5 = c3 .before .before in
+    omega (arith, by-one _ (by-run (c5 .judge .inv) (c3 .run .ensures)) (c .before .length-at .ensures) (c .if2 .left))
 
 judge-less : tie.Need-judge-less Inv-judge μ-judge
-judge-less c = omega (arith, by-one _ (by-run (c .before .before .before .before .before .judge .inv) (c .before .before .before .run .ensures)) (c .before .length-at .ensures) (c .if2 .left), c .before .before .before .run .ensures .least)
+judge-less c =
+    let c3 = c .before .before .before in
+    let c5 = c3 .before .before in
+    omega (arith, by-one _ (by-run (c5 .judge .inv) (c3 .run .ensures)) (c .before .length-at .ensures) (c .if2 .left), c3 .run .ensures .least)
 
 judge-again : tie.Need-judge-again Inv-judge μ-judge
-judge-again c = by-one _ (by-run (c .before .before .before .before .before .judge .inv) (c .before .before .before .run .ensures)) (c .before .length-at .ensures) (c .if2 .left) .0
+judge-again c =
+    let c3 = c .before .before .before in
+    let c5 = c3 .before .before in
+    by-one _ (by-run (c5 .judge .inv) (c3 .run .ensures)) (c .before .length-at .ensures) (c .if2 .left) .0
 
 returns-3 : tie.Need-returns-3 Inv-judge μ-judge
 returns-3 c = at-end (c .before .judge .inv) (omega arith)

@@ -1,5 +1,5 @@
--- Shown: `is_four` answers `utf8-4`.
--- How: its steps are those of the definition.
+-- `is_four` is the grammar's rule for four bytes.
+-- The test is the definition's. Assumes nothing.
 use Rattle.utf8_read.specs.Grammar.{utf8-4}
 use borrow.Author.Needs.{needs}
 use Rattle.utf8_read.proofs.is_four.Statement.{statement}

@@ -1,5 +1,5 @@
--- Shown: `is_three` answers `utf8-3`.
--- How: its steps are those of the definition.
+-- `is_three` is the grammar's rule for three bytes.
+-- The test is the definition's. Assumes nothing.
 use Rattle.utf8_read.specs.Grammar.{utf8-3}
 use borrow.Author.Needs.{needs}
 use Rattle.utf8_read.proofs.is_three.Statement.{statement}

@@ -1,5 +1,5 @@
--- Shown: `is_two` answers `utf8-2`.
--- How: its steps are those of the definition.
+-- `is_two` is the grammar's rule for two bytes.
+-- The test is the definition's. Assumes nothing.
 use Rattle.utf8_read.specs.Grammar.{utf8-2}
 use borrow.Author.Needs.{needs}
 use Rattle.utf8_read.proofs.is_two.Statement.{statement}

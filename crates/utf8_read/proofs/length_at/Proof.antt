@@ -1,5 +1,5 @@
--- Shown: `length_at` answers `utf8-char`.
--- How: each way through it is a law of proofs/Judging.antt.
+-- `length_at` is the length of the sequence at a place, 0 where none stands.
+-- By the one bits of the first byte; each return is a way of Judging. Assumes nothing.
 use Rattle.utf8_read.proofs.Judging.{long-1, short-2, long-2, bad-2, short-3, long-3, bad-3, short-4, long-4, bad-4, no-first}
 use native.Mathlib.Omega.{arith}
 use mathlib.Core.Path.{sym, _∙_}
@@ -50,7 +50,9 @@ is-three-requires : tie.Need-is-three-requires
 is-three-requires c κs = search needs
 
 returns-4 : tie.Need-returns-4
-returns-4 c = long-3 _ _ (c .before .before .before .before .before .before .before .before .before .pre) (omega arith) (sym (c .before .is-three .ensures) ∙ c .if4 .taken)
+returns-4 c =
+    let c9 = c .before .before .before .before .before .before .before .before .before in
+    long-3 _ _ (c9 .pre) (omega arith) (sym (c .before .is-three .ensures) ∙ c .if4 .taken)
 
 returns-5 : tie.Need-returns-5
 returns-5 c = short-4 _ _ (c .before .before .before .before .before .pre) (sym (c .before .before .ones-of .ensures) ∙ c .before .match .keys4) (c .if5 .taken)
@@ -77,22 +79,38 @@ is-four-requires : tie.Need-is-four-requires
 is-four-requires c κs = search needs
 
 returns-6 : tie.Need-returns-6
-returns-6 c = long-4 _ _ (c .before .before .before .before .before .before .before .before .before .before .pre) (omega arith) (sym (c .before .is-four .ensures) ∙ c .if6 .taken)
+returns-6 c =
+    let c10 = c .before .before .before .before .before .before .before .before .before .before in
+    long-4 _ _ (c10 .pre) (omega arith) (sym (c .before .is-four .ensures) ∙ c .if6 .taken)
 
 returns-7 : tie.Need-returns-7
 returns-7 c = long-1 _ _ (c .before .before .before .before .pre) (sym (c .before .ones-of .ensures) ∙ c .match .keys1)
 
 returns-8 : tie.Need-returns-8
-returns-8 c = bad-2 _ _ (c .before .before .before .before .before .before .before .before .pre) (sym (c .before .before .before .before .before .ones-of .ensures) ∙ c .before .before .before .before .match .keys2) (sym (c .before .is-two .ensures) ∙ c .if2 .left)
+returns-8 c =
+    let c4 = c .before .before .before .before in
+    let c5 = c4 .before in
+    let c8 = c5 .before .before .before in
+    bad-2 _ _ (c8 .pre) (sym (c5 .ones-of .ensures) ∙ c4 .match .keys2) (sym (c .before .is-two .ensures) ∙ c .if2 .left)
 
 returns-9 : tie.Need-returns-9
-returns-9 c = bad-3 _ _ (c .before .before .before .before .before .before .before .before .before .pre) (sym (c .before .before .before .before .before .before .ones-of .ensures) ∙ c .before .before .before .before .before .match .keys3) (sym (c .before .is-three .ensures) ∙ c .if4 .left)
+returns-9 c =
+    let c5 = c .before .before .before .before .before in
+    let c6 = c5 .before in
+    let c9 = c6 .before .before .before in
+    bad-3 _ _ (c9 .pre) (sym (c6 .ones-of .ensures) ∙ c5 .match .keys3) (sym (c .before .is-three .ensures) ∙ c .if4 .left)
 
 returns-10 : tie.Need-returns-10
-returns-10 c = bad-4 _ _ (c .before .before .before .before .before .before .before .before .before .before .pre) (sym (c .before .before .before .before .before .before .before .ones-of .ensures) ∙ c .before .before .before .before .before .before .match .keys4) (sym (c .before .is-four .ensures) ∙ c .if6 .left)
+returns-10 c =
+    let c6 = c .before .before .before .before .before .before in
+    let c7 = c6 .before in
+    let c10 = c7 .before .before .before in
+    bad-4 _ _ (c10 .pre) (sym (c7 .ones-of .ensures) ∙ c6 .match .keys4) (sym (c .before .is-four .ensures) ∙ c .if6 .left)
 
 returns-11 : tie.Need-returns-11
-returns-11 c = no-first _ _ (c .before .before .before .before .pre) _ (c .before .ones-of .ensures) (c .match .rest .0 .0 .0 .1) (c .match .rest .0 .0 .1) (c .match .rest .0 .1) (c .match .rest .1)
+returns-11 c =
+    let c4 = c .before .before .before .before in
+    no-first _ _ (c4 .pre) _ (c .before .ones-of .ensures) (c .match .rest .0 .0 .0 .1) (c .match .rest .0 .0 .1) (c .match .rest .0 .1) (c .match .rest .1)
 
 pub length-at-spec : {M : Type 1} → statement M
 length-at-spec =

@@ -1,5 +1,5 @@
--- Shown: `misfit_of` answers `misfit`.
--- How: its steps are those of the definition.
+-- `misfit_of` is the definition's test of four bytes.
+-- The test is the definition's. Assumes nothing.
 use Rattle.utf8_read.specs.Window.{misfit}
 use borrow.Author.Needs.{needs}
 use Rattle.utf8_read.proofs.misfit_of.Statement.{statement}

@@ -1,11 +1,10 @@
--- Shown: `misfits` meets its contract.
--- How: by the invariant of its loop, below, and the laws of proofs/Judging.antt and proofs/Walk.antt.
+-- `misfits` finds a window whose bytes all fit.
+-- The flag says it of the bytes so far. Assumes nothing.
 use Rattle.utf8_read.proofs.Judging.{local-more}
-use Rattle.utf8_read.proofs.Walk.{local-none}
 use Rattle.utf8_read.specs.Window.{Local}
 use native.Mathlib.Omega.{arith}
 use mathlib.Core.Bool.{false}
-use mathlib.Core.Path.{_≡_, refl, subst}
+use mathlib.Core.Path.{_≡_}
 use Prim.Native.Nat.{_+_, _-_, _≤_}
 use borrow.Author.Needs.{needs}
 use Rattle.utf8_read.proofs.misfits.Statement.{statement}
@@ -54,7 +53,13 @@ window-less : tie.Need-window-less Inv-window μ-window
 window-less c = search needs
 
 window-again : tie.Need-window-again Inv-window μ-window
-window-again c = (omega arith, λ t. local-more (c .before .before .before .before .before .before .before .before .args .bytes .now) (c .before .before .before .before .before .before .before .before .args .j + 3) (c .before .before .before .before .before .before .before .before .args .j + c .before .before .before .before .before .before .window .k) _ (c .before .before .before .before .before .before .window .bad) _ (c .before .before .before .before .before .before .window .inv .1) (c .misfit-of .ensures) (omega arith) t)
+window-again c =
+    let c6 = c .before .before .before .before .before .before in
+    let c8 = c6 .before .before in (
+      omega arith,
+      λ t. local-more (c8 .args .bytes .now) (c8 .args .j + 3) (c8 .args .j + c6 .window .k) _ (c6 .window .bad) _ (c6 .window .inv .1)
+          (c .misfit-of .ensures) (omega arith) t,
+    )
 
 returns : tie.Need-returns Inv-window μ-window
 returns c = λ t k l m. c .before .window .inv .1 t k l (omega arith)

@@ -16,7 +16,9 @@ wide-requires : tie.Need-wide-requires
 wide-requires c κs = search needs
 
 returns : tie.Need-returns
-returns c = let k = known-1 _ _ (c .before .before .before .before .pre .0) (c .before .before .before .before .pre .1) (c .before .if1 .taken) in pointed _ k (c .wide .ensures ∙ sym (value-1 _ _ (k .ends)))
+returns c =
+    let c4 = c .before .before .before .before in
+    let k = known-1 _ _ (c4 .pre .0) (c4 .pre .1) (c .before .if1 .taken) in pointed _ k (c .wide .ensures ∙ sym (value-1 _ _ (k .ends)))
 
 begins-two-requires : tie.Need-begins-two-requires
 begins-two-requires c κs = search needs
@@ -25,13 +27,20 @@ add-two-of : tie.Need-add-two-of
 add-two-of c = search needs
 
 shared-slice-read-two-of : tie.Need-shared-slice-read-two-of
-shared-slice-read-two-of c = omega (arith, known-2 _ _ (c .before .before .before .before .before .before .pre .0) (c .before .before .before .before .before .before .pre .1) (eqb-true _ _ (sym (c .before .before .begins-two .ensures) ∙ c .before .if2 .taken)))
+shared-slice-read-two-of c =
+    let c2 = c .before .before in
+    let c6 = c2 .before .before .before .before in
+    omega (arith, known-2 _ _ (c6 .pre .0) (c6 .pre .1) (eqb-true _ _ (sym (c2 .begins-two .ensures) ∙ c .before .if2 .taken)))
 
 two-of-requires : tie.Need-two-of-requires
 two-of-requires c κs = search needs
 
 returns-2 : tie.Need-returns-2
-returns-2 c = let k = known-2 _ _ (c .before .before .before .before .before .before .before .pre .0) (c .before .before .before .before .before .before .before .pre .1) (eqb-true _ _ (sym (c .before .before .before .begins-two .ensures) ∙ c .before .before .if2 .taken)) in
+returns-2 c =
+    let c2 = c .before .before in
+    let c3 = c2 .before in
+    let c7 = c3 .before .before .before .before in
+    let k = known-2 _ _ (c7 .pre .0) (c7 .pre .1) (eqb-true _ _ (sym (c3 .begins-two .ensures) ∙ c2 .if2 .taken)) in
     pointed _ k (c .two-of .ensures ∙ sym (value-2 _ _ (k .ends)))
 
 begins-three-requires : tie.Need-begins-three-requires
@@ -41,55 +50,96 @@ add-three-of : tie.Need-add-three-of
 add-three-of c = search needs
 
 shared-slice-read-three-of : tie.Need-shared-slice-read-three-of
-shared-slice-read-three-of c = omega (arith, known-3 _ _ (c .before .before .before .before .before .before .before .before .pre .0) (c .before .before .before .before .before .before .before .before .pre .1) (eqb-true _ _ (sym (c .before .before .begins-three .ensures) ∙ c .before .if3 .taken)))
+shared-slice-read-three-of c =
+    let c2 = c .before .before in
+    let c8 = c2 .before .before .before .before .before .before in
+    omega (arith, known-3 _ _ (c8 .pre .0) (c8 .pre .1) (eqb-true _ _ (sym (c2 .begins-three .ensures) ∙ c .before .if3 .taken)))
 
 add-three-of-2 : tie.Need-add-three-of-2
 add-three-of-2 c = search needs
 
 shared-slice-read-three-of-2 : tie.Need-shared-slice-read-three-of-2
-shared-slice-read-three-of-2 c = omega (arith, known-3 _ _ (c .before .before .before .before .before .before .before .before .before .pre .0) (c .before .before .before .before .before .before .before .before .before .pre .1) (eqb-true _ _ (sym (c .before .before .before .begins-three .ensures) ∙ c .before .before .if3 .taken)))
+shared-slice-read-three-of-2 c =
+    let c2 = c .before .before in
+    let c3 = c2 .before in
+    let c9 = c3 .before .before .before .before .before .before in
+    omega (arith, known-3 _ _ (c9 .pre .0) (c9 .pre .1) (eqb-true _ _ (sym (c3 .begins-three .ensures) ∙ c2 .if3 .taken)))
 
 three-of-requires : tie.Need-three-of-requires
 three-of-requires c κs = search needs
 
 returns-3 : tie.Need-returns-3
-returns-3 c = let k = known-3 _ _ (c .before .before .before .before .before .before .before .before .before .before .pre .0) (c .before .before .before .before .before .before .before .before .before .before .pre .1) (eqb-true _ _ (sym (c .before .before .before .before .begins-three .ensures) ∙ c .before .before .before .if3 .taken)) in
+returns-3 c =
+    let c3 = c .before .before .before in
+    let c4 = c3 .before in
+    let c10 = c4 .before .before .before .before .before .before in
+    let k = known-3 _ _ (c10 .pre .0) (c10 .pre .1) (eqb-true _ _ (sym (c4 .begins-three .ensures) ∙ c3 .if3 .taken)) in
     pointed _ k (c .three-of .ensures ∙ sym (value-3 _ _ (k .ends)))
 
 add-four-of : tie.Need-add-four-of
 add-four-of c = search needs
 
 shared-slice-read-four-of : tie.Need-shared-slice-read-four-of
-shared-slice-read-four-of c = omega (
-  arith,
-  known-4 _ _ (c .before .before .before .before .before .before .before .before .pre .0) (c .before .before .before .before .before .before .before .before .pre .1) _ refl (c .before .before .before .before .before .if1 .left) (eqb-false _ _ (sym (c .before .before .before .before .begins-two .ensures) ∙ c .before .before .before .if2 .left)) (eqb-false _ _ (sym (c .before .before .begins-three .ensures) ∙ c .before .if3 .left)),
-)
+shared-slice-read-four-of c =
+    let c2 = c .before .before in
+    let c3 = c2 .before in
+    let c4 = c3 .before in
+    let c5 = c4 .before in
+    let c8 = c5 .before .before .before in
+    omega (
+      arith,
+      known-4 _ _ (c8 .pre .0) (c8 .pre .1) _ refl (c5 .if1 .left) (eqb-false _ _ (sym (c4 .begins-two .ensures) ∙ c3 .if2 .left))
+          (eqb-false _ _ (sym (c2 .begins-three .ensures) ∙ c .before .if3 .left)),
+    )
 
 add-four-of-2 : tie.Need-add-four-of-2
 add-four-of-2 c = search needs
 
 shared-slice-read-four-of-2 : tie.Need-shared-slice-read-four-of-2
-shared-slice-read-four-of-2 c = omega (
-  arith,
-  known-4 _ _ (c .before .before .before .before .before .before .before .before .before .pre .0) (c .before .before .before .before .before .before .before .before .before .pre .1) _ refl (c .before .before .before .before .before .before .if1 .left) (eqb-false _ _ (sym (c .before .before .before .before .before .begins-two .ensures) ∙ c .before .before .before .before .if2 .left)) (eqb-false _ _ (sym (c .before .before .before .begins-three .ensures) ∙ c .before .before .if3 .left)),
-)
+shared-slice-read-four-of-2 c =
+    let c2 = c .before .before in
+    let c3 = c2 .before in
+    let c4 = c3 .before in
+    let c5 = c4 .before in
+    let c6 = c5 .before in
+    let c9 = c6 .before .before .before in
+    omega (
+      arith,
+      known-4 _ _ (c9 .pre .0) (c9 .pre .1) _ refl (c6 .if1 .left) (eqb-false _ _ (sym (c5 .begins-two .ensures) ∙ c4 .if2 .left))
+          (eqb-false _ _ (sym (c3 .begins-three .ensures) ∙ c2 .if3 .left)),
+    )
 
 add-four-of-3 : tie.Need-add-four-of-3
 add-four-of-3 c = search needs
 
 shared-slice-read-four-of-3 : tie.Need-shared-slice-read-four-of-3
-shared-slice-read-four-of-3 c = omega (
-  arith,
-  known-4 _ _ (c .before .before .before .before .before .before .before .before .before .before .pre .0) (c .before .before .before .before .before .before .before .before .before .before .pre .1) _ refl (c .before .before .before .before .before .before .before .if1 .left) (eqb-false _ _ (sym (c .before .before .before .before .before .before .begins-two .ensures) ∙ c .before .before .before .before .before .if2 .left)) (eqb-false _ _ (sym (c .before .before .before .before .begins-three .ensures) ∙ c .before .before .before .if3 .left)),
-)
+shared-slice-read-four-of-3 c =
+    let c3 = c .before .before .before in
+    let c4 = c3 .before in
+    let c5 = c4 .before in
+    let c6 = c5 .before in
+    let c7 = c6 .before in
+    let c10 = c7 .before .before .before in
+    omega (
+      arith,
+      known-4 _ _ (c10 .pre .0) (c10 .pre .1) _ refl (c7 .if1 .left) (eqb-false _ _ (sym (c6 .begins-two .ensures) ∙ c5 .if2 .left))
+          (eqb-false _ _ (sym (c4 .begins-three .ensures) ∙ c3 .if3 .left)),
+    )
 
 four-of-requires : tie.Need-four-of-requires
 four-of-requires c κs = search needs
 
 returns-4 : tie.Need-returns-4
-returns-4 c = let k =
-    known-4 _ _ (c .before .before .before .before .before .before .before .before .before .before .before .pre .0) (c .before .before .before .before .before .before .before .before .before .before .before .pre .1) _ refl (c .before .before .before .before .before .before .before .before .if1 .left) (eqb-false _ _ (sym (c .before .before .before .before .before .before .before .begins-two .ensures) ∙ c .before .before .before .before .before .before .if2 .left))
-    (eqb-false _ _ (sym (c .before .before .before .before .before .begins-three .ensures) ∙ c .before .before .before .before .if3 .left)) in
+returns-4 c =
+    let c4 = c .before .before .before .before in
+    let c5 = c4 .before in
+    let c6 = c5 .before in
+    let c7 = c6 .before in
+    let c8 = c7 .before in
+    let c11 = c8 .before .before .before in
+    let k =
+    known-4 _ _ (c11 .pre .0) (c11 .pre .1) _ refl (c8 .if1 .left) (eqb-false _ _ (sym (c7 .begins-two .ensures) ∙ c6 .if2 .left))
+    (eqb-false _ _ (sym (c5 .begins-three .ensures) ∙ c4 .if3 .left)) in
     pointed _ k (c .four-of .ensures ∙ sym (value-4 _ _ (k .ends)))
 
 pub point-at-spec : {M : Type 1} → statement M

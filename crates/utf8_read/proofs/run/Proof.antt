@@ -5,7 +5,6 @@ use lib.ListN.{length}
 use native.Mathlib.Omega.{arith}
 use Rattle.utf8_read.specs.Window.{Stretch}
 use Rattle.utf8_read.proofs.Judging.{here, stretch-none, stretch-on, stretch-calm}
-use borrow.Author.Needs.{needs}
 use Rattle.utf8_read.proofs.run.Statement.{statement}
 use Rattle.utf8_read.proofs.run.Tie as tie
 
@@ -40,7 +39,10 @@ run-less : tie.Need-run-less Inv-run μ-run
 run-less c = omega (arith, c .calm-far .ensures .0, c .calm-far .ensures .1)
 
 run-again : tie.Need-run-again Inv-run μ-run
-run-again c = stretch-calm _ (c .before .before .before .before .run .inv) (c .before .before .calm-window .ensures (c .before .if2 .taken)) (c .calm-far .ensures .0) (c .calm-far .ensures .1) (c .calm-far .ensures .2)
+run-again c =
+    let c2 = c .before .before in
+    let c4 = c2 .before .before in
+    stretch-calm _ (c4 .run .inv) (c2 .calm-window .ensures (c .before .if2 .taken)) (c .calm-far .ensures .0) (c .calm-far .ensures .1) (c .calm-far .ensures .2)
 
 misfits-requires : tie.Need-misfits-requires Inv-run μ-run
 misfits-requires c κs = omega arith
@@ -55,7 +57,10 @@ run-less-2 : tie.Need-run-less-2 Inv-run μ-run
 run-less-2 c = omega arith
 
 run-again-2 : tie.Need-run-again-2 Inv-run μ-run
-run-again-2 c = stretch-on (c .before .before .before .before .before .run .inv) (c .before .before .before .before .run-test .taken) (c .before .misfits .ensures (c .if3 .left))
+run-again-2 c =
+    let c4 = c .before .before .before .before in
+    let c5 = c4 .before in
+    stretch-on (c5 .run .inv) (c4 .run-test .taken) (c .before .misfits .ensures (c .if3 .left))
 
 back-requires-2 : tie.Need-back-requires-2 Inv-run μ-run
 back-requires-2 c κs = c .before .run .inv

@@ -1,5 +1,5 @@
--- Shown: `start_of` answers `starts`.
--- How: each way through it is a law of proofs/Counting.antt.
+-- `start_of` is 1 for a byte that is no tail.
+-- Each return by the test that led there. Assumes nothing.
 use Rattle.utf8_read.proofs.Counting.{of-tail, of-start}
 use mathlib.Core.Path.{sym, _∙_}
 use borrow.Author.Needs.{needs}

@@ -1,5 +1,5 @@
--- Shown: `starts_block` answers `starts`.
--- How: by the invariant of its loop, below, and the laws of proofs/Counting.antt.
+-- `starts_block` counts the bytes of a block that are no tails.
+-- The count so far is that of the bytes so far. Assumes nothing.
 use Rattle.utf8_read.proofs.Counting.{none, at-most, block-more}
 use Rattle.utf8_read.specs.Window.{starts}
 use native.Mathlib.Omega.{arith}
@@ -30,7 +30,19 @@ start-of-requires : tie.Need-start-of-requires Inv-block μ-block
 start-of-requires c κs = search needs
 
 add-n : tie.Need-add-n Inv-block μ-block
-add-n c = omega (arith, c .before .before .before .block .inv .1, at-most (take (c .before .before .before .block .k) (drop (c .before .before .before .before .before .args .at) (c .before .before .before .before .before .args .bytes .now))), length-take (c .before .before .before .block .k) (drop (c .before .before .before .before .before .args .at) (c .before .before .before .before .before .args .bytes .now)), c .start-of .ensures, at-most (getD (c .before .before .before .before .before .args .bytes .now) (c .before .before .before .before .before .args .at + c .before .before .before .block .k) 0 ∷ []))
+add-n c =
+    let c3 = c .before .before .before in
+    let c5 = c3 .before .before in
+    omega (
+      arith,
+      c3 .block .inv .1,
+      at-most (take (c3 .block .k) (drop (c5 .args .at) (c5 .args .bytes .now))),
+      length-take (c3 .block .k)
+          (drop (c5 .args .at) (c5 .args .bytes .now)),
+      c .start-of .ensures,
+      at-most
+          (getD (c5 .args .bytes .now) (c5 .args .at + c3 .block .k) 0 ∷ []),
+    )
 
 add-k : tie.Need-add-k Inv-block μ-block
 add-k c = omega arith
@@ -39,10 +51,15 @@ block-less : tie.Need-block-less Inv-block μ-block
 block-less c = omega arith
 
 block-again : tie.Need-block-again Inv-block μ-block
-block-again c = (omega arith, block-more (c .before .before .before .before .before .args .bytes .now) (c .before .before .before .before .before .args .at) (c .before .before .before .block .k) _ _ (omega arith) (c .before .before .before .block .inv .1) (c .start-of .ensures))
+block-again c =
+    let c3 = c .before .before .before in
+    let c5 = c3 .before .before in
+    (omega arith, block-more (c5 .args .bytes .now) (c5 .args .at) (c3 .block .k) _ _ (omega arith) (c3 .block .inv .1) (c .start-of .ensures))
 
 returns : tie.Need-returns Inv-block μ-block
-returns c = c .before .block .inv .1 ∙ ap (λ (k : ℕ). starts (take k (drop (c .before .before .before .args .at) (c .before .before .before .args .bytes .now)))) (let z : c .before .block .k ≡ 64 = omega arith in z)
+returns c =
+    let c3 = c .before .before .before in
+    c .before .block .inv .1 ∙ ap (λ (k : ℕ). starts (take k (drop (c3 .args .at) (c3 .args .bytes .now)))) (let z : c .before .block .k ≡ 64 = omega arith in z)
 
 pub starts-block-spec : {M : Type 1} → statement M
 starts-block-spec =

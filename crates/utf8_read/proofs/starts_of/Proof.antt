@@ -1,10 +1,9 @@
 -- `starts_of` counts the bytes that are no tails.
 -- Both loops keep the count so far and the count of what is left together. Assumes nothing.
 use Prim.Native.Nat.{_-_}
-use mathlib.Core.List.{[], _∷_}
-use lib.ListN.{length, take, drop, getD, length-take}
+use lib.ListN.{length}
 use native.Mathlib.Omega.{arith}
-use Rattle.utf8_read.proofs.Counting.{Counted, begins, by-block, by-byte, ends, at-most}
+use Rattle.utf8_read.proofs.Counting.{Counted, begins, by-block, by-byte, ends}
 use borrow.Author.Needs.{needs}
 use Rattle.utf8_read.proofs.starts_of.Statement.{statement}
 use Rattle.utf8_read.proofs.starts_of.Tie as tie

@@ -19,7 +19,11 @@ push-requires-2 : tie.Need-push-requires-2
 push-requires-2 c κs = omega (arith, c .push .ensures, c .before .wide .ensures, and-mask (c .before .before .args .a) 4)
 
 returns : tie.Need-returns
-returns c = c .push2 .ensures ∙ ap (λ (x : ℕ). more x (c .before .before .before .args .c)) (c .before .push .ensures ∙ ap (λ (x : ℕ). more x (c .before .before .before .args .b)) (c .before .before .wide .ensures ∙ and-mask (c .before .before .before .args .a) 4))
+returns c =
+    let c2 = c .before .before in
+    let c3 = c2 .before in
+    c .push2 .ensures ∙ ap (λ (x : ℕ). more x (c3 .args .c))
+    (c .before .push .ensures ∙ ap (λ (x : ℕ). more x (c3 .args .b)) (c2 .wide .ensures ∙ and-mask (c3 .args .a) 4))
 
 pub three-of-spec : {M : Type 1} → statement M
 three-of-spec =

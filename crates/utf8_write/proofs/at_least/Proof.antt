@@ -1,7 +1,6 @@
 -- `at_least` is the definition's step.
 -- Each return by the test that led there. Assumes nothing.
 use Rattle.utf8_write.proofs.Spilling.{step-yes, step-no}
-use borrow.Author.Needs.{needs}
 use Rattle.utf8_write.proofs.at_least.Statement.{statement}
 use Rattle.utf8_write.proofs.at_least.Tie as tie
 

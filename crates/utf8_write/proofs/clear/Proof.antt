@@ -3,7 +3,6 @@
 use Prim.Native.Nat.{ℕ, _+_, _-_, _≤_}
 use mathlib.Core.Path.{_≡_, sym, _∙_}
 use mathlib.Core.Bool.{true}
-use lib.ListN.{getD}
 use native.Mathlib.Omega.{arith}
 use Rattle.utf8_read.specs.Table.{scalar}
 use Rattle.utf8_read.proofs.Judging.{each-more}
@@ -40,10 +39,13 @@ clear-less : tie.Need-clear-less Inv-clear μ-clear
 clear-less c = search needs
 
 clear-again : tie.Need-clear-again Inv-clear μ-clear
-clear-again c = (
-  omega arith,
-  each-more (λ (x : ℕ). scalar x ≡ true) (c .before .before .before .before .before .args .text .now) (c .before .before .before .before .before .args .at) (c .before .before .before .before .before .args .at + c .before .before .before .clear .k) _ (c .before .before .before .clear .ok) _ (c .before .before .before .clear .inv .1) (λ t. sym (c .is-scalar .ensures) ∙ t) (omega arith),
-)
+clear-again c =
+    let c3 = c .before .before .before in
+    let c5 = c3 .before .before in (
+      omega arith,
+      each-more (λ (x : ℕ). scalar x ≡ true) (c5 .args .text .now) (c5 .args .at) (c5 .args .at + c3 .clear .k) _ (c3 .clear .ok) _ (c3 .clear .inv .1)
+          (λ t. sym (c .is-scalar .ensures) ∙ t) (omega arith),
+    )
 
 returns : tie.Need-returns Inv-clear μ-clear
 returns c = λ t k l m. c .before .clear .inv .1 t k l (omega arith)

@@ -1,5 +1,5 @@
--- Shown: `clear_end` meets its contract.
--- How: by the invariant of its loop, below.
+-- `clear_end` goes on by blocks of code points.
+-- Stretches of code points join. Assumes nothing.
 use Rattle.utf8_write.specs.Writing.{Scalars}
 use Rattle.utf8_read.proofs.Judging.{each-join}
 use Rattle.utf8_read.specs.Table.{scalar}
@@ -8,8 +8,7 @@ use native.Mathlib.Omega.{arith}
 use mathlib.Core.Bool.{true}
 use mathlib.Core.Path.{_≡_}
 use lib.ListN.{length}
-use Prim.Native.Nat.{ℕ, _+_, _-_, _≤_}
-use borrow.Author.Needs.{needs}
+use Prim.Native.Nat.{ℕ, _-_, _≤_}
 use Rattle.utf8_write.proofs.clear_end.Statement.{statement}
 use Rattle.utf8_write.proofs.clear_end.Tie as tie
 
@@ -38,7 +37,13 @@ many-less : tie.Need-many-less Inv-many μ-many
 many-less c = omega arith
 
 many-again : tie.Need-many-again Inv-many μ-many
-many-again c = (omega arith, each-join (λ (x : ℕ). scalar x ≡ true) (c .before .before .before .before .before .args .text .now) 0 (c .before .before .before .many .end) (c .before .before .before .many .end) _ (omega arith) (c .before .before .before .many .inv .1) (c .before .clear .ensures (not-false _ (c .if1 .left))))
+many-again c =
+    let c3 = c .before .before .before in
+    let c5 = c3 .before .before in (
+      omega arith,
+      each-join (λ (x : ℕ). scalar x ≡ true) (c5 .args .text .now) 0 (c3 .many .end) (c3 .many .end) _ (omega arith) (c3 .many .inv .1)
+          (c .before .clear .ensures (not-false _ (c .if1 .left))),
+    )
 
 returns-2 : tie.Need-returns-2 Inv-many μ-many
 returns-2 c = c .before .many .inv

@@ -2,7 +2,6 @@
 -- The test is the definition's. Assumes nothing.
 use mathlib.Core.Path.{refl}
 use Rattle.utf8_read.specs.Table.{scalar}
-use borrow.Author.Needs.{needs}
 use Rattle.utf8_write.proofs.is_scalar.Statement.{statement}
 use Rattle.utf8_write.proofs.is_scalar.Tie as tie
 

@@ -39,7 +39,11 @@ put-less : tie.Need-put-less Inv-put μ-put
 put-less c = search needs
 
 put-again : tie.Need-put-again Inv-put μ-put
-put-again c = rw (c .low .ensures) (goes-on 0 (c .before .before .before .put .inv) (c .before .before .before .before .before .before .pre .1) (c .before .before .put-test .taken))
+put-again c =
+    let c2 = c .before .before in
+    let c3 = c2 .before in
+    let c6 = c3 .before .before .before in
+    rw (c .low .ensures) (goes-on 0 (c3 .put .inv) (c6 .pre .1) (c2 .put-test .taken))
 
 add-result : tie.Need-add-result Inv-put μ-put
 add-result c = search needs

@@ -35,10 +35,12 @@ plain-less : tie.Need-plain-less Inv-plain μ-plain
 plain-less c = search needs
 
 plain-again : tie.Need-plain-again Inv-plain μ-plain
-plain-again c = (
-  omega arith,
-  λ t. ascii-more (c .before .before .before .args .text .now) (c .before .before .before .args .at) (c .before .before .before .args .at + c .before .before .plain .k) _ (c .before .before .plain .ok) (c .before .before .plain .inv .1) (omega arith) t,
-)
+plain-again c =
+    let c2 = c .before .before in
+    let c3 = c2 .before in (
+      omega arith,
+      λ t. ascii-more (c3 .args .text .now) (c3 .args .at) (c3 .args .at + c2 .plain .k) _ (c2 .plain .ok) (c2 .plain .inv .1) (omega arith) t,
+    )
 
 returns : tie.Need-returns Inv-plain μ-plain
 returns c = λ t k l m. c .before .plain .inv .1 t k l (omega arith)

@@ -1,12 +1,11 @@
--- Shown: `plain_end` meets its contract.
--- How: by the invariant of its loop, below.
+-- `plain_end` goes on by blocks of ASCII numbers.
+-- Stretches of ASCII join. Assumes nothing.
 use Rattle.utf8_read.proofs.Judging.{ascii-none, ascii-join}
 use Rattle.utf8_read.specs.Window.{Ascii}
 use borrow.Author.Tests.{not-false}
 use native.Mathlib.Omega.{arith}
 use lib.ListN.{length}
-use Prim.Native.Nat.{_+_, _-_, _≤_}
-use borrow.Author.Needs.{needs}
+use Prim.Native.Nat.{_-_, _≤_}
 use Rattle.utf8_write.proofs.plain_end.Statement.{statement}
 use Rattle.utf8_write.proofs.plain_end.Tie as tie
 
@@ -35,7 +34,14 @@ many-less : tie.Need-many-less Inv-many μ-many
 many-less c = omega arith
 
 many-again : tie.Need-many-again Inv-many μ-many
-many-again c = (omega arith, omega arith, ascii-join (c .before .before .before .before .before .args .text .now) (c .before .before .before .before .before .args .at) (c .before .before .before .many .end) (c .before .before .before .many .end) _ (omega arith) (c .before .before .before .many .inv .2) (c .before .plain .ensures (not-false _ (c .if1 .left))))
+many-again c =
+    let c3 = c .before .before .before in
+    let c5 = c3 .before .before in (
+      omega arith,
+      omega arith,
+      ascii-join (c5 .args .text .now) (c5 .args .at) (c3 .many .end) (c3 .many .end) _ (omega arith) (c3 .many .inv .2)
+          (c .before .plain .ensures (not-false _ (c .if1 .left))),
+    )
 
 returns-2 : tie.Need-returns-2 Inv-many μ-many
 returns-2 c = c .before .many .inv

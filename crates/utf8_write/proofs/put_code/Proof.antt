@@ -25,13 +25,20 @@ six-of-requires : tie.Need-six-of-requires
 six-of-requires c κs = search needs
 
 put-two-requires : tie.Need-put-two-requires
-put-two-requires c κs = rw (row-2 (c .before .before .before .before .before .before .args .x) (omega arith) (omega arith)) at (c .before .before .before .before .before .before .pre .1)
+put-two-requires c κs =
+    let c6 = c .before .before .before .before .before .before in
+    rw (row-2 (c6 .args .x) (omega arith) (omega arith)) at (c6 .pre .1)
 
 same-length-2 : tie.Need-same-length-2
 same-length-2 c = search needs
 
 returns-2 : tie.Need-returns-2
-returns-2 c = rw (row-2 (c .before .before .before .before .before .before .before .before .before .args .x) (omega arith) (omega arith), ← c .before .before .before .before .lead-two .ensures, ← c .before .before .before .six-of .ensures) (c .before .before .put-two .ensures)
+returns-2 c =
+    let c2 = c .before .before in
+    let c3 = c2 .before in
+    let c4 = c3 .before in
+    let c9 = c4 .before .before .before .before .before in
+    rw (row-2 (c9 .args .x) (omega arith) (omega arith), ← c4 .lead-two .ensures, ← c3 .six-of .ensures) (c2 .put-two .ensures)
 
 lead-three-requires : tie.Need-lead-three-requires
 lead-three-requires c κs = search needs
@@ -43,14 +50,22 @@ six-of-requires-3 : tie.Need-six-of-requires-3
 six-of-requires-3 c κs = search needs
 
 put-three-requires : tie.Need-put-three-requires
-put-three-requires c κs = rw (row-3 (c .before .before .before .before .before .before .before .before .args .x) (omega arith) (omega arith)) at (c .before .before .before .before .before .before .before .before .pre .1)
+put-three-requires c κs =
+    let c8 = c .before .before .before .before .before .before .before .before in
+    rw (row-3 (c8 .args .x) (omega arith) (omega arith)) at (c8 .pre .1)
 
 same-length-3 : tie.Need-same-length-3
 same-length-3 c = search needs
 
 returns-3 : tie.Need-returns-3
-returns-3 c = rw (row-3 (c .before .before .before .before .before .before .before .before .before .before .before .args .x) (omega arith) (omega arith), ← c .before .before .before .before .before .lead-three .ensures, ← c .before .before .before .before .six-of2 .ensures, ← c .before .before .before .six-of3 .ensures)
-    (c .before .before .put-three .ensures)
+returns-3 c =
+    let c2 = c .before .before in
+    let c3 = c2 .before in
+    let c4 = c3 .before in
+    let c5 = c4 .before in
+    let c11 = c5 .before .before .before .before .before .before in
+    rw (row-3 (c11 .args .x) (omega arith) (omega arith), ← c5 .lead-three .ensures, ← c4 .six-of2 .ensures, ← c3 .six-of3 .ensures)
+    (c2 .put-three .ensures)
 
 lead-four-requires : tie.Need-lead-four-requires
 lead-four-requires c κs = search needs
@@ -65,14 +80,23 @@ six-of-requires-6 : tie.Need-six-of-requires-6
 six-of-requires-6 c κs = search needs
 
 put-four-requires : tie.Need-put-four-requires
-put-four-requires c κs = rw (row-4 (c .before .before .before .before .before .before .before .before .before .args .x) (omega arith)) at (c .before .before .before .before .before .before .before .before .before .pre .1)
+put-four-requires c κs =
+    let c9 = c .before .before .before .before .before .before .before .before .before in
+    rw (row-4 (c9 .args .x) (omega arith)) at (c9 .pre .1)
 
 same-length-4 : tie.Need-same-length-4
 same-length-4 c = search needs
 
 returns-4 : tie.Need-returns-4
-returns-4 c = rw (row-4 (c .before .before .before .before .before .before .before .before .before .before .before .before .args .x) (omega arith), ← c .before .before .before .before .before .before .lead-four .ensures, ← c .before .before .before .before .before .six-of4 .ensures, ← c .before .before .before .before .six-of5 .ensures, ← c .before .before .before .six-of6 .ensures)
-    (c .before .before .put-four .ensures)
+returns-4 c =
+    let c2 = c .before .before in
+    let c3 = c2 .before in
+    let c4 = c3 .before in
+    let c5 = c4 .before in
+    let c6 = c5 .before in
+    let c12 = c6 .before .before .before .before .before .before in
+    rw (row-4 (c12 .args .x) (omega arith), ← c6 .lead-four .ensures, ← c5 .six-of4 .ensures, ← c4 .six-of5 .ensures, ← c3 .six-of6 .ensures)
+    (c2 .put-four .ensures)
 
 pub put-code-spec : {M : Type 1} → statement M
 put-code-spec =

@@ -38,7 +38,12 @@ same-length : tie.Need-same-length
 same-length c = search needs
 
 returns : tie.Need-returns
-returns c = record { next = refl; stands = simp (add-one, add-two, add-three) (stores (c .args .a ∷ c .args .b ∷ c .args .c ∷ c .args .d ∷ []) (c .args .out .now) (c .args .at) (c .pre)) }
+returns c =
+    record {
+      next = refl;
+      stands = simp (add-one, add-two, add-three)
+          (stores (c .args .a ∷ c .args .b ∷ c .args .c ∷ c .args .d ∷ []) (c .args .out .now) (c .args .at) (c .pre));
+    }
 
 pub put-four-spec : {M : Type 1} → statement M
 put-four-spec =

@@ -2,9 +2,6 @@
 -- Stores one after the other are a part that is put there. Assumes nothing.
 use mathlib.Core.Path.{refl}
 use mathlib.Core.List.{[], _∷_}
-use native.Mathlib.Omega.{arith}
-use native.Mathlib.Numerals.{add-one, add-two, add-three}
-use lib.ListN.{length-set}
 use Rattle.utf8_write.proofs.Encodes.{stores}
 use borrow.Author.Needs.{needs}
 use Rattle.utf8_write.proofs.put_one.Statement.{statement}

@@ -32,7 +32,8 @@ same-length : tie.Need-same-length
 same-length c = search needs
 
 returns : tie.Need-returns
-returns c = record { next = refl; stands = simp (add-one, add-two, add-three) (stores (c .args .a ∷ c .args .b ∷ c .args .c ∷ []) (c .args .out .now) (c .args .at) (c .pre)) }
+returns c =
+    record { next = refl; stands = simp (add-one, add-two, add-three) (stores (c .args .a ∷ c .args .b ∷ c .args .c ∷ []) (c .args .out .now) (c .args .at) (c .pre)) }
 
 pub put-three-spec : {M : Type 1} → statement M
 put-three-spec =

@@ -32,7 +32,10 @@ is-scalar-requires : tie.Need-is-scalar-requires Inv-judge μ-judge
 is-scalar-requires c κs = search needs
 
 returns : tie.Need-returns Inv-judge μ-judge
-returns c = at-bad (c .before .before .before .before .judge .inv) (c .before .before .before .judge-test .taken) (sym (c .before .is-scalar .ensures) ∙ not-true _ (c .if1 .taken))
+returns c =
+    let c3 = c .before .before .before in
+    let c4 = c3 .before in
+    at-bad (c4 .judge .inv) (c3 .judge-test .taken) (sym (c .before .is-scalar .ensures) ∙ not-true _ (c .if1 .taken))
 
 add-i : tie.Need-add-i Inv-judge μ-judge
 add-i c = search needs
@@ -41,7 +44,10 @@ judge-less : tie.Need-judge-less Inv-judge μ-judge
 judge-less c = search needs
 
 judge-again : tie.Need-judge-again Inv-judge μ-judge
-judge-again c = by-one (c .before .before .before .before .judge .inv) (c .before .before .before .judge-test .taken) (sym (c .before .is-scalar .ensures) ∙ not-false _ (c .if1 .left))
+judge-again c =
+    let c3 = c .before .before .before in
+    let c4 = c3 .before in
+    by-one (c4 .judge .inv) (c3 .judge-test .taken) (sym (c .before .is-scalar .ensures) ∙ not-false _ (c .if1 .left))
 
 returns-2 : tie.Need-returns-2 Inv-judge μ-judge
 returns-2 c = at-end (c .before .judge .inv) (omega arith)

@@ -3,7 +3,6 @@
 use Prim.Native.Nat.{_%_}
 use native.Mathlib.Omega.{arith}
 use lib.Bits.{and-mask, or-shifted}
-use borrow.Author.Needs.{needs}
 use Rattle.utf8_write.proofs.six_of.Statement.{statement}
 use Rattle.utf8_write.proofs.six_of.Tie as tie
 

@@ -40,10 +40,13 @@ part-narrow-end : tie.Need-part-narrow-end Inv-some μ-some Inv-spill μ-spill
 part-narrow-end c = search needs
 
 narrow-requires : tie.Need-narrow-requires Inv-some μ-some Inv-spill μ-spill
-narrow-requires c κs = (
-  part-ascii _ _ _ (c .before .before .plain-end .ensures .0) (c .before .before .plain-end .ensures .1) (c .before .before .plain-end .ensures .2),
-  run-fits (c .before .before .before .before .spill .inv) _ (c .before .before .plain-end .ensures .0) (c .before .before .plain-end .ensures .1) (c .before .before .plain-end .ensures .2) (c .before .before .before .before .before .before .before .pre .1),
-)
+narrow-requires c κs =
+    let c2 = c .before .before in
+    let c4 = c2 .before .before in
+    let c7 = c4 .before .before .before in (
+      part-ascii _ _ _ (c2 .plain-end .ensures .0) (c2 .plain-end .ensures .1) (c2 .plain-end .ensures .2),
+      run-fits (c4 .spill .inv) _ (c2 .plain-end .ensures .0) (c2 .plain-end .ensures .1) (c2 .plain-end .ensures .2) (c7 .pre .1),
+    )
 
 near-requires : tie.Need-near-requires Inv-some μ-some Inv-spill μ-spill
 near-requires c κs = c .before .before .before .before .before .plain-end .ensures .1
@@ -52,11 +55,20 @@ some-holds : tie.Need-some-holds Inv-some μ-some Inv-spill μ-spill
 some-holds c = not-yet _ _ _ _
 
 spill-less : tie.Need-spill-less Inv-some μ-some Inv-spill μ-spill
-spill-less c = omega (arith, c .some-test .left, c .before .some .inv .least, c .before .before .near .ensures, c .before .before .before .before .before .before .before .before .plain-end .ensures .0, c .before .before .before .before .before .before .before .before .plain-end .ensures .1, c .before .before .before .before .before .before .before .before .before .spill-test .taken)
+spill-less c =
+    let c2 = c .before .before in
+    let c8 = c2 .before .before .before .before .before .before in
+    let c9 = c8 .before in
+    omega (arith, c .some-test .left, c .before .some .inv .least, c2 .near .ensures, c8 .plain-end .ensures .0, c8 .plain-end .ensures .1, c9 .spill-test .taken)
 
 spill-again : tie.Need-spill-again Inv-some μ-some Inv-spill μ-spill
-spill-again c = c .before .some .inv .grown _ (c .before .before .before .before .before .before .before .before .before .before .before .before .before .pre .1)
-    (by-run (c .before .before .before .before .before .before .before .before .before .before .spill .inv) _ (c .before .before .before .before .before .before .before .before .plain-end .ensures .0) (c .before .before .before .before .before .before .before .before .plain-end .ensures .1) (c .before .before .before .before .before .before .before .before .plain-end .ensures .2) _ _ (c .before .before .before .before .before .narrow .ensures))
+spill-again c =
+    let c5 = c .before .before .before .before .before in
+    let c8 = c5 .before .before .before in
+    let c10 = c8 .before .before in
+    let c13 = c10 .before .before .before in
+    c .before .some .inv .grown _ (c13 .pre .1)
+    (by-run (c10 .spill .inv) _ (c8 .plain-end .ensures .0) (c8 .plain-end .ensures .1) (c8 .plain-end .ensures .2) _ _ (c5 .narrow .ensures))
 
 mul-put-code : tie.Need-mul-put-code Inv-some μ-some Inv-spill μ-spill
 mul-put-code c = omega (arith, c .before .before .before .near .ensures)
@@ -65,11 +77,18 @@ shared-slice-read-put-code : tie.Need-shared-slice-read-put-code Inv-some μ-som
 shared-slice-read-put-code c = omega (arith, c .before .before .before .before .near .ensures)
 
 put-code-requires : tie.Need-put-code-requires Inv-some μ-some Inv-spill μ-spill
-put-code-requires c κs = let f =
-    c .before .before .before .some .inv .grown _ (c .before .before .before .before .before .before .before .before .before .before .before .before .before .before .before .pre .1)
-    (by-run (c .before .before .before .before .before .before .before .before .before .before .before .before .spill .inv) _ (c .before .before .before .before .before .before .before .before .before .before .plain-end .ensures .0) (c .before .before .before .before .before .before .before .before .before .before .plain-end .ensures .1) (c .before .before .before .before .before .before .before .before .before .before .plain-end .ensures .2) _ _ (c .before .before .before .before .before .before .before .narrow .ensures)) in
-    let l : c .before .before .before .some .i < length (c .before .before .before .before .before .before .before .before .before .before .before .before .before .before .before .args .text .now) = omega (arith, c .before .before .before .before .near .ensures) in
-    (omega (arith, scalar-below _ (each _ _ (c .before .before .before .before .before .before .before .before .before .before .before .before .before .before .before .pre .0) l)), code-fits f l (c .before .before .before .before .before .before .before .before .before .before .before .before .before .before .before .pre .1))
+put-code-requires c κs =
+    let c3 = c .before .before .before in
+    let c4 = c3 .before in
+    let c7 = c4 .before .before .before in
+    let c10 = c7 .before .before .before in
+    let c12 = c10 .before .before in
+    let c15 = c12 .before .before .before in
+    let f =
+    c3 .some .inv .grown _ (c15 .pre .1)
+    (by-run (c12 .spill .inv) _ (c10 .plain-end .ensures .0) (c10 .plain-end .ensures .1) (c10 .plain-end .ensures .2) _ _ (c7 .narrow .ensures)) in
+    let l : c3 .some .i < length (c15 .args .text .now) = omega (arith, c4 .near .ensures) in
+    (omega (arith, scalar-below _ (each _ _ (c15 .pre .0) l)), code-fits f l (c15 .pre .1))
 
 add-i : tie.Need-add-i Inv-some μ-some Inv-spill μ-spill
 add-i c = omega (arith, c .before .before .before .before .before .before .before .near .ensures)
@@ -78,10 +97,14 @@ some-less : tie.Need-some-less Inv-some μ-some Inv-spill μ-spill
 some-less c = omega (arith, c .before .before .before .before .before .before .before .near .ensures)
 
 some-again : tie.Need-some-again Inv-some μ-some Inv-spill μ-spill
-some-again c = record {
-  least = omega (arith, c .before .before .before .before .before .before .some .inv .least);
-  grown = λ d h g. by-code (c .before .before .before .before .before .before .some .inv .grown d h g) (omega (arith, c .before .before .before .before .before .before .before .near .ensures)) _ _ (c .before .before .put-code .ensures);
-}
+some-again c =
+    let c2 = c .before .before in
+    let c6 = c2 .before .before .before .before in
+    let c7 = c6 .before in
+    record {
+      least = omega (arith, c6 .some .inv .least);
+      grown = λ d h g. by-code (c6 .some .inv .grown d h g) (omega (arith, c7 .near .ensures)) _ _ (c2 .put-code .ensures);
+    }
 
 same-length : tie.Need-same-length Inv-some μ-some Inv-spill μ-spill
 same-length c = as-long (c .before .spill .inv) (c .before .before .before .before .pre .1)

@@ -16,7 +16,9 @@ at-least-requires-2 : tie.Need-at-least-requires-2
 at-least-requires-2 c κs = search needs
 
 add-result-2 : tie.Need-add-result-2
-add-result-2 c = omega (arith, c .before .at-least .ensures, step-most (c .before .before .args .x) 0x80, c .at-least2 .ensures, step-most (c .before .before .args .x) 0x800)
+add-result-2 c =
+    let c2 = c .before .before in
+    omega (arith, c .before .at-least .ensures, step-most (c2 .args .x) 0x80, c .at-least2 .ensures, step-most (c2 .args .x) 0x800)
 
 at-least-requires-3 : tie.Need-at-least-requires-3
 at-least-requires-3 c κs = search needs

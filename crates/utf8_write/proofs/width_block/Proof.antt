@@ -31,14 +31,17 @@ width-requires : tie.Need-width-requires Inv-block μ-block
 width-requires c κs = search needs
 
 add-n : tie.Need-add-n Inv-block μ-block
-add-n c = omega (
-  arith,
-  c .before .before .before .block .inv .1,
-  wide-most (take (c .before .before .before .block .k) (drop (c .before .before .before .before .before .args .at) (c .before .before .before .before .before .args .text .now))),
-  length-take (c .before .before .before .block .k) (drop (c .before .before .before .before .before .args .at) (c .before .before .before .before .before .args .text .now)),
-  c .width .ensures,
-  at-most-4 (getD (c .before .before .before .before .before .args .text .now) (c .before .before .before .before .before .args .at + c .before .before .before .block .k) 0),
-)
+add-n c =
+    let c3 = c .before .before .before in
+    let c5 = c3 .before .before in
+    omega (
+      arith,
+      c3 .block .inv .1,
+      wide-most (take (c3 .block .k) (drop (c5 .args .at) (c5 .args .text .now))),
+      length-take (c3 .block .k) (drop (c5 .args .at) (c5 .args .text .now)),
+      c .width .ensures,
+      at-most-4 (getD (c5 .args .text .now) (c5 .args .at + c3 .block .k) 0),
+    )
 
 add-k : tie.Need-add-k Inv-block μ-block
 add-k c = search needs
@@ -47,10 +50,15 @@ block-less : tie.Need-block-less Inv-block μ-block
 block-less c = search needs
 
 block-again : tie.Need-block-again Inv-block μ-block
-block-again c = (omega arith, block-more (c .before .before .before .before .before .args .text .now) (c .before .before .before .before .before .args .at) (c .before .before .before .block .k) _ _ (omega arith) (c .before .before .before .block .inv .1) (c .width .ensures))
+block-again c =
+    let c3 = c .before .before .before in
+    let c5 = c3 .before .before in
+    (omega arith, block-more (c5 .args .text .now) (c5 .args .at) (c3 .block .k) _ _ (omega arith) (c3 .block .inv .1) (c .width .ensures))
 
 returns : tie.Need-returns Inv-block μ-block
-returns c = c .before .block .inv .1 ∙ ap (λ (k : ℕ). wide (take k (drop (c .before .before .before .args .at) (c .before .before .before .args .text .now)))) (let z : c .before .block .k ≡ 16 = omega arith in z)
+returns c =
+    let c3 = c .before .before .before in
+    c .before .block .inv .1 ∙ ap (λ (k : ℕ). wide (take k (drop (c3 .args .at) (c3 .args .text .now)))) (let z : c .before .block .k ≡ 16 = omega arith in z)
 
 pub width-block-spec : {M : Type 1} → statement M
 width-block-spec =

@@ -1,5 +1,5 @@
--- Shown: `width_of` answers how many bytes the code points take.
--- How: loop `many` keeps `Measured`; loop `rest` keeps `Measured`, and each way through it is a law of proofs/Spilling.antt.
+-- `width_of` is how many bytes a text takes.
+-- Both loops keep the width so far and the width of what is left together. Assumes nothing.
 use Rattle.utf8_write.proofs.Spilling.{Measured, measured-none, by-block, by-number, measured, within}
 use native.Mathlib.Omega.{arith}
 use lib.ListN.{length}
