@@ -1,0 +1,163 @@
+-- The lengths of lines, of code points and of all items, as the code sums them up to the cap.
+-- What is summed so far and what is left give the whole length, capped. Assumes nothing.
+use mathlib.Core.Path.{_≡_, refl, sym, ap, _∙_}
+use mathlib.Core.List.{List, [], _∷_, _++_, append-nil}
+use Prim.Native.Nat.{ℕ, suc, _+_, _-_, _/_, _≤_, _<_, min, zero-le}
+use native.Mathlib.Numerals.{add-one}
+use native.Mathlib.Omega.{arith}
+use native.Mathlib.Decide.{decLt}
+use lib.ListN.{length, getD, drop, take, length-append, drop-of-length-le}
+use lib.Seq.{drop-cons}
+use lib.IntN.{ℤ}
+use Rattle.diff.specs.declared.diff.Item.{Item as Lent}
+use Rattle.diff.specs.declared.diff.Item.the-variants.{Retain, Delete, Insert, Neither}
+use Rattle.diff.specs.Items.{itemAt}
+use Rattle.diff.proofs.Stops.{range-part}
+use Rattle.edit_format.specs.Digits.{digits}
+use Rattle.edit_format.specs.Items.{Item, Keep, Drop, Add}
+use Rattle.edit_format.specs.Written.{points, numberLine, keepKey, dropKey, addKey, endKey, formKey, originalKey, resultKey, itemsKey, itemLine, itemLines, Head, headLines}
+use Rattle.edit_write.specs.Writing.{fileItem, fileOf}
+use Rattle.edit_write.specs.Lengths.{cap, further, fileBytes}
+use Rattle.edit_write.proofs.Numbers.{one-digit}
+use Rattle.edit_write.proofs.Checking.{rest, rest-all, rest-at, rest-none}
+
+pub line-length : (k : List ℕ) (n : ℕ) → length (numberLine k n) ≡ length k + length (digits 10 n) + 1
+unfolding numberLine
+line-length k n = length-append (k ++ digits 10 n) (10 ∷ []) ∙ ap (λ (x : ℕ). x + 1) (length-append k (digits 10 n))
+
+pub add-length : (cs : List ℕ) → length (itemLine (Add cs)) ≡ 5 + length (points cs)
+unfolding itemLine
+add-length cs = length-append (addKey ++ points cs) (10 ∷ []) ∙ omega (arith, length-append addKey (points cs))
+
+pub keep-length : (n : ℕ) → length (itemLine (Keep n)) ≡ 5 + length (digits 10 n) + 1
+unfolding itemLine
+keep-length n = line-length keepKey n
+
+pub drop-length : (n : ℕ) → length (itemLine (Drop n)) ≡ 5 + length (digits 10 n) + 1
+unfolding itemLine
+drop-length n = line-length dropKey n
+
+-- the points of a line: the first, and those further on
+pub points-further : (c : ℕ) (cs : List ℕ) → points (c ∷ cs) ≡ digits 16 c ++ further cs
+unfolding points further
+points-further c [] = sym (append-nil (digits 16 c))
+points-further c (d ∷ cs) = ap (λ (l : List ℕ). digits 16 c ++ 32 ∷ l) (points-further d cs)
+
+pub first-point : (t : List ℕ) → 0 < length t → points t ≡ digits 16 (getD t 0 0) ++ further (drop 1 t)
+first-point [] h = absurd (omega arith)
+first-point (c ∷ cs) h = points-further c cs
+
+pub next-point : (t : List ℕ) (i : ℕ) → i < length t → further (drop i t) ≡ 32 ∷ digits 16 (getD t i 0) ++ further (drop (i + 1) t)
+unfolding further
+next-point t i h = rw (add-one i, drop-cons t i 0 h)
+
+pub no-point : (t : List ℕ) (i : ℕ) → length t ≤ i → further (drop i t) ≡ []
+unfolding further
+no-point t i h = rw (drop-of-length-le t h)
+
+pub record PointsCount (t : List ℕ) (sum i : ℕ) : Type 0 where
+  pub most : i ≤ length t
+  pub small : sum ≤ 1099511627776
+  pub same : cap (sum + length (further (drop i t))) ≡ cap (length (points t))
+
+pub points-none : (t : List ℕ) → length t ≡ 0 → 0 ≡ cap (length (points t))
+unfolding points
+points-none [] h = refl
+points-none (c ∷ cs) h = absurd (omega arith)
+
+pub points-begin : (t : List ℕ) {w s : ℕ} → (length t ≡ 0 → ⊥) → w ≡ length (digits 16 (getD t 0 0)) → s ≡ cap (0 + w) → PointsCount t s 1
+points-begin t {w} {s} h e f =
+    let n : 0 < length t = positive (length t) h in
+    record {
+      most = omega arith;
+      small = omega arith;
+      same = omega (arith, simp length-append at (ap length (first-point t n)));
+    }
+  where
+    positive : (n : ℕ) → (n ≡ 0 → ⊥) → 0 < n
+    positive n g = elim (decLt 0 n) [ yes a ↦ a | no a ↦ absurd (g (omega arith)) ]
+
+pub points-more : {t : List ℕ} {i sum w a s : ℕ} → PointsCount t sum i → i < length t → w ≡ length (digits 16 (getD t i 0)) → a ≡ cap (sum + 1) → s ≡ cap (a + w) → PointsCount t s (i + 1)
+points-more {t} {i} {sum} {w} p h e f g = record {
+  most = omega arith;
+  small = omega arith;
+  same = omega (arith, p .small, p .same, simp length-append at (ap length (next-point t i h)));
+}
+
+pub points-end : {t : List ℕ} {i sum : ℕ} → PointsCount t sum i → length t ≤ i → sum ≡ cap (length (points t))
+points-end {t} {i} {sum} p h = omega (arith, p .small, p .same, ap length (no-point t i h))
+
+pub record ItemsCount (xs : List ℤ) (text : List ℕ) (sum i : ℕ) : Type 0 where
+  pub small : sum ≤ 1099511627776
+  pub same : cap (sum + length (itemLines (rest xs text i))) ≡ cap (length (itemLines (fileOf xs text)))
+
+pub items-begin : (xs : List ℤ) (text : List ℕ) → ItemsCount xs text 0 0
+items-begin xs text = record { small = zero-le; same = omega (arith, ap (λ (l : List Item). length (itemLines l)) (rest-all xs text)) }
+
+pub items-more : {xs : List ℤ} {text : List ℕ} {sum i n s : ℕ} → ItemsCount xs text sum i → i < length xs / 3 → n ≡ cap (length (itemLine (fileItem text (itemAt xs (length text) i)))) → s ≡ cap (sum + n) → ItemsCount xs text s (i + 1)
+unfolding itemLines
+items-more {xs} {text} {sum} {i} p h e f =
+    let x : Item = fileItem text (itemAt xs (length text) i) in
+    let r : length (itemLines (rest xs text i)) ≡ length (itemLine x) + length (itemLines (rest xs text (i + 1))) = ap (λ (l : List Item). length (itemLines l)) (rest-at xs text i h refl) ∙ length-append (itemLine x) (itemLines (rest xs text (i + 1))) in
+    record { small = omega arith; same = omega (arith, p .small, p .same) }
+
+pub items-end : {xs : List ℤ} {text : List ℕ} {sum i : ℕ} → ItemsCount xs text sum i → length xs / 3 ≤ i → sum ≡ cap (length (itemLines (fileOf xs text)))
+unfolding itemLines
+items-end {xs} {text} {sum} {i} p h = omega (arith, p .small, p .same, ap (λ (l : List Item). length (itemLines l)) (rest-none xs text i h))
+
+pub head-length : (h : Head) → length (headLines h) ≡ 7 + (9 + length (digits 10 (h .original)) + 1) + (7 + length (digits 10 (h .result)) + 1) + (6 + length (digits 10 (h .count)) + 1)
+unfolding headLines
+head-length h =
+    let a = line-length formKey 1 in
+    let b = line-length originalKey (h .original) in
+    let c = line-length resultKey (h .result) in
+    let d = line-length itemsKey (h .count) in
+    length-append (numberLine formKey 1 ++ numberLine originalKey (h .original) ++ numberLine resultKey (h .result)) (numberLine itemsKey (h .count))
+    ∙ omega (arith, length-append (numberLine formKey 1 ++ numberLine originalKey (h .original)) (numberLine resultKey (h .result)), length-append (numberLine formKey 1) (numberLine originalKey (h .original)), one-digit 10 1 (omega arith))
+
+file-total : (xs : List ℤ) (text : List ℕ) (o r n : ℕ) → n ≡ length xs / 3 → length (fileBytes xs text o r) ≡ 7 + (9 + length (digits 10 o) + 1) + (7 + length (digits 10 r) + 1) + (6 + length (digits 10 n) + 1) + length (itemLines (fileOf xs text)) + (4 + length (digits 10 n) + 1)
+unfolding fileBytes
+file-total xs text o r n z =
+    let h : Head = record { original = o; result = r; count = length xs / 3 } in
+    let w = ap (λ (k : ℕ). length (digits 10 k)) z in
+    omega (arith, w, length-append (headLines h ++ itemLines (fileOf xs text)) (numberLine endKey (length xs / 3)), length-append (headLines h) (itemLines (fileOf xs text)), head-length h, line-length endKey (length xs / 3))
+
+-- capped sums of capped lengths
+plus-caps : {a b r : ℕ} (x y : ℕ) → a ≡ cap x → b ≡ cap y → r ≡ cap (a + b) → r ≡ cap (x + y)
+plus-caps x y e f g = omega arith
+
+-- the lengths of a whole file, summed as the code sums them
+pub file-sum : (xs : List ℤ) (text : List ℕ) (o r : ℕ) {n a b c d e l₁ l₂ l₃ l₄ m : ℕ} → n ≡ length xs / 3
+    → l₁ ≡ cap (9 + length (digits 10 o) + 1) → a ≡ cap (7 + l₁) → l₂ ≡ cap (7 + length (digits 10 r) + 1) → b ≡ cap (a + l₂)
+    → l₃ ≡ cap (6 + length (digits 10 n) + 1) → c ≡ cap (b + l₃) → m ≡ cap (length (itemLines (fileOf xs text))) → d ≡ cap (c + m)
+    → l₄ ≡ cap (4 + length (digits 10 n) + 1) → e ≡ cap (d + l₄) → e ≡ cap (length (fileBytes xs text o r))
+file-sum xs text o r {n} z p₁ q₁ p₂ q₂ p₃ q₃ p₅ q₅ p₄ q₄ =
+    let x₁ : ℕ = 9 + length (digits 10 o) + 1 in
+    let x₂ : ℕ = 7 + length (digits 10 r) + 1 in
+    let x₃ : ℕ = 6 + length (digits 10 n) + 1 in
+    let x₅ : ℕ = length (itemLines (fileOf xs text)) in
+    let x₄ : ℕ = 4 + length (digits 10 n) + 1 in
+    plus-caps (7 + x₁ + x₂ + x₃ + x₅) x₄ (plus-caps (7 + x₁ + x₂ + x₃) x₅ (plus-caps (7 + x₁ + x₂) x₃ (plus-caps (7 + x₁) x₂ (plus-caps 7 x₁ refl p₁ q₁) p₂ q₂) p₃ q₃) p₅ q₅) p₄ q₄ ∙ ap (λ (k : ℕ). cap k) (sym total)
+  where
+    total : length (fileBytes xs text o r) ≡ 7 + (9 + length (digits 10 o) + 1) + (7 + length (digits 10 r) + 1) + (6 + length (digits 10 n) + 1) + length (itemLines (fileOf xs text)) + (4 + length (digits 10 n) + 1)
+    total = file-total xs text o r n z
+
+-- the length of a lent item's line, by what the item is
+module _ (xs : List ℤ) (text : List ℕ) (i : ℕ) {r n : ℕ} where
+  pub retain-length : itemAt xs (length text) i ≡ Retain n → r ≡ cap (5 + length (digits 10 n) + 1) → r ≡ cap (length (itemLine (fileItem text (itemAt xs (length text) i))))
+  unfolding fileItem
+  retain-length e f = rw e (omega (arith, keep-length n))
+
+  pub delete-length : itemAt xs (length text) i ≡ Delete n → r ≡ cap (5 + length (digits 10 n) + 1) → r ≡ cap (length (itemLine (fileItem text (itemAt xs (length text) i))))
+  unfolding fileItem
+  delete-length e f = rw e (omega (arith, drop-length n))
+
+  pub insert-length : {s m : ℕ} → itemAt xs (length text) i ≡ Insert s n → m ≡ cap (length (points (take (s + n - s) (drop s text)))) → r ≡ cap (5 + m) → r ≡ cap (length (itemLine (fileItem text (itemAt xs (length text) i))))
+  unfolding fileItem
+  insert-length {s} {m} e g f =
+      let w : m ≡ cap (length (points (take n (drop s text)))) = g ∙ ap (λ (l : List ℕ). cap (length (points l))) (range-part text s n) in
+      rw e (omega (arith, add-length (take n (drop s text))))
+
+pub neither-length : (xs : List ℤ) (text : List ℕ) (i : ℕ) → itemAt xs (length text) i ≡ Neither → 5 ≡ cap (length (itemLine (fileItem text (itemAt xs (length text) i))))
+unfolding fileItem points
+neither-length xs text i e = rw e (omega (arith, add-length []))

@@ -1,0 +1,8 @@
+pub mod Checking
+pub mod Numbers
+pub mod Counting
+pub mod Emitting
+pub mod Goodness
+pub mod Finishing
+pub mod Rewriting
+pub mod Replaying

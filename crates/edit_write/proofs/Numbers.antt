@@ -1,0 +1,85 @@
+-- Numbers written from their last digit: the width's loop, a store before a run, and the digits' loop.
+-- Both loops take `digits-last` apart, one digit a turn. Assumes nothing.
+use mathlib.Core.Path.{_≡_, refl, sym, ap, _∙_}
+use mathlib.Core.List.{List, [], _∷_, _++_, append-assoc, append-nil}
+use Prim.Native.Nat.{ℕ, zero, suc, _+_, _-_, _*_, _/_, _%_, _≤_, _<_, zero-le}
+use native.Mathlib.Nat.{mod-lt}
+use native.Mathlib.Omega.{arith}
+use native.Mathlib.Decide.{decLt}
+use lib.ListN.{length, take, drop, getD, set, length-append, length-set}
+use lib.Seq.{take-suc, set-at, length-take-le}
+use lib.Dec.{ltb}
+use borrow.Author.Tests.{lt-ltb, le-ltb}
+use Rattle.room.specs.Choice.{pick}
+use Rattle.room.specs.Placed.{placed, Put}
+use Rattle.edit_format.specs.Digits.{digit, digits, digitsIn}
+use Rattle.edit_format.proofs.Picks.{pick-elim}
+use Rattle.edit_format.proofs.DigitLaws.{digits-one, digits-last}
+use Rattle.diff.proofs.Building.{placed-none, placed-length}
+
+length-in : (f m n : ℕ) → length (digitsIn f m n) ≤ f + 1
+unfolding digitsIn
+length-in zero m n = omega arith
+length-in (suc f) m n = pick-elim (λ (l : List ℕ). length l ≤ suc f + 1) (ltb n m) (λ e. omega arith) (λ e. omega (arith, length-append (digitsIn f m (n / m)) (digit (n % m) ∷ []), length-in f m (n / m)))
+
+-- a number has no more digits than one more than itself
+pub few-digits : (m n : ℕ) → length (digits m n) ≤ n + 1
+unfolding digits
+few-digits m n = length-in n m n
+
+pub one-digit : (m n : ℕ) → n < m → length (digits m n) ≡ 1
+one-digit m n h = rw (digits-one m n h)
+
+pub one-less : (m n : ℕ) → 1 < m → m ≤ n → length (digits m n) ≡ length (digits m (n / m)) + 1
+one-less m n h g = ap length (digits-last m n h g) ∙ length-append (digits m (n / m)) (digit (n % m) ∷ [])
+
+pub some-digit : (m n : ℕ) → 1 < m → 1 ≤ length (digits m n)
+some-digit m n h = elim (decLt n m) [
+  | yes g ↦ omega (arith, one-digit m n g)
+  | no g ↦ omega (arith, one-less m n h (omega arith))
+]
+
+-- a store just before a run makes it longer
+store-before : (d tail : List ℕ) (j v : ℕ) → j < length d → set (placed d (suc j) tail) j v ≡ placed d j (v ∷ tail)
+unfolding placed
+store-before d tail j v h =
+    let e : j + suc (length tail) ≡ suc j + length tail = omega arith in
+    rw (e, take-suc d j 0 h, append-assoc (take j d) (getD d j 0 ∷ []) tail, append-assoc (take j d) (getD d j 0 ∷ tail) (drop (suc j + length tail) d), append-assoc (take j d) (v ∷ tail) (drop (suc j + length tail) d))
+    (set-at (take j d) (getD d j 0) (tail ++ drop (suc j + length tail) d) v j (length-take-le j d (omega arith)))
+
+pub record Digiting (d : List ℕ) (at base n : ℕ) (o : List ℕ) (m k : ℕ) : Type 0 where
+  pub tail : List ℕ
+  pub whole : digits base n ≡ digits base m ++ tail
+  pub place : k ≡ at + length (digits base m)
+  pub room : o ≡ placed d k tail
+  pub same : length o ≡ length d
+
+pub starts : (d : List ℕ) (at base n : ℕ) {k : ℕ} → k ≡ at + length (digits base n) → Digiting d at base n d n k
+starts d at base n e = record { tail = []; whole = sym (append-nil (digits base n)); place = e; room = sym (placed-none d _); same = refl }
+
+module _ {d : List ℕ} {at base n : ℕ} {o : List ℕ} {m k : ℕ} (s : Digiting d at base n o m k) (big : 1 < base) (fits : at + length (digits base n) ≤ length d) where
+  pub inside : k + length (s .tail) ≤ length d
+  inside = omega (arith, s .place, simp length-append at (ap length (s .whole)))
+
+  pub before : 0 < k
+  before = omega (arith, s .place, some-digit base m big)
+
+  stored : (v j : ℕ) → k ≡ suc j → set o j v ≡ placed d j (v ∷ s .tail)
+  stored v j e = ap (λ (l : List ℕ). set l j v) (s .room ∙ ap (λ (i : ℕ). placed d i (s .tail)) e) ∙ store-before d (s .tail) j v (omega (arith, inside))
+
+  pub goes-on : base ≤ m → Digiting d at base n (set o (k - 1) (digit (m % base))) (m / base) (k - 1)
+  goes-on g =
+      let e : k ≡ suc (k - 1) = omega (arith, before) in
+      record {
+        tail = digit (m % base) ∷ s .tail;
+        whole = s .whole ∙ ap (λ (l : List ℕ). l ++ s .tail) (digits-last base m big g) ∙ append-assoc (digits base (m / base)) (digit (m % base) ∷ []) (s .tail);
+        place = omega (arith, s .place, one-less base m big g);
+        room = stored (digit (m % base)) (k - 1) e;
+        same = length-set o (k - 1) (digit (m % base)) ∙ s .same;
+      }
+
+  pub ends : {e : ℕ} → m < base → e ≡ at + length (digits base n) → Put (digits base n) d at (set o (k - 1) (digit m)) e
+  ends {e} g f =
+      let j : k - 1 ≡ at = omega (arith, s .place, one-digit base m g) in
+      let x : k ≡ suc at = omega (arith, s .place, one-digit base m g) in
+      record { next = f; stands = rw j (stored (digit m) at x ∙ ap (λ (l : List ℕ). placed d at l) (sym (s .whole ∙ ap (λ (l : List ℕ). l ++ s .tail) (digits-one base m g)))) }
