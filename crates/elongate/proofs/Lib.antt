@@ -7,3 +7,4 @@ pub mod Checking
 pub mod Arranging
 pub mod Joining
 pub mod Answering
+pub mod Laws

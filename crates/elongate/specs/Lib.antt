@@ -5,3 +5,4 @@ pub mod Currents
 pub mod Good
 pub mod Writes
 pub mod Verdicts
+pub mod Kept
