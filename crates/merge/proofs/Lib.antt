@@ -4,3 +4,4 @@ pub mod Choosing
 pub mod OneTurn
 pub mod Sides
 pub mod Running
+pub mod Ends

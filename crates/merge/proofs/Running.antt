@@ -44,7 +44,7 @@ pub lawful : (lent : Lent) → Lawful (rulesOf lent)
 lawful lent = record { short = λ old new. overlaps old new .fits }
 
 -- the definition's invariant, at an equal state
-pub at-state : {R : Rules} {Q : ℕ → ℕ → Type 0} {ls rs : List Op} {n : ℕ} {s t : State} → s ≡ t → Sound R Q ls rs n s → Sound R Q ls rs n t
+unfoldable pub at-state : {R : Rules} {Q : ℕ → ℕ → Type 0} {ls rs : List Op} {n : ℕ} {s t : State} → s ≡ t → Sound R Q ls rs n s → Sound R Q ls rs n t
 at-state {R} {Q} {ls} {rs} {n} {s} {t} e g =
     record {
       p = g .p;
@@ -192,6 +192,13 @@ module _ (original text spans keys lops rops lcs rcs : List ℕ) (priority : Ord
           length-append (D .out) (rest (rulesOf L) priority (D .state) .outs),
         ))
 
+    pub left-less : {w′ out′ moved′ : List ℕ} {r : Result} → Turns spans keys lops lcs w w′ half a left right totals 0 out out′ moved moved′ r
+        → work (aheadOf lops (r .own .ahead)) + work (aheadOf rops (r .other .ahead)) < work (aheadOf lops (left .ahead)) + work (aheadOf rops (right .ahead))
+    unfolding turnLeft turnWith
+    left-less {w′} {out′} {moved′} {r} T =
+        let es = turned-state L lops rops lcs rcs w half a left right totals 0 (G .rights .ends) refl refl T in
+        omega (arith, ap (λ (s : State). work (s .left .next)) es, ap (λ (s : State). work (s .right .next)) es, work-less a (S .right .next) xs, ap work (turning-left .next))
+
     pub left-step : {w′ out′ moved′ : List ℕ} {r : Result} → Turns spans keys lops lcs w w′ half a left right totals 0 out out′ moved moved′ r → length out′ ≡ length out
         → length moved′ ≡ length moved → Going original text spans keys lops rops lcs rcs priority mid half w₀ out₀ moved₀ w′ out′ moved′ (r .own) (r .other) (r .totals)
     unfolding at-state
@@ -260,6 +267,13 @@ module _ (original text spans keys lops rops lcs rcs : List ℕ) (priority : Ord
           length-append (G .outs) (C .out ++ rest (rulesOf L) priority (turned (C .state)) .outs),
           length-append (C .out) (rest (rulesOf L) priority (turned (C .state)) .outs),
         ))
+
+    pub right-less : {w′ out′ moved′ : List ℕ} {r : Result} → Turns spans keys rops rcs w w′ half b right left totals 1 out out′ moved moved′ r
+        → work (aheadOf lops (r .other .ahead)) + work (aheadOf rops (r .own .ahead)) < work (aheadOf lops (left .ahead)) + work (aheadOf rops (right .ahead))
+    unfolding turnLeft turnWith
+    right-less {w′} {out′} {moved′} {r} T =
+        let es = turned-state L rops lops rcs lcs w half b right left totals 1 (G .lefts .ends) refl refl T in
+        omega (arith, ap (λ (s : State). work (s .left .next)) es, ap (λ (s : State). work (s .right .next)) es, work-less b (S .left .next) ys, ap work (turning-right .next))
 
     pub right-step : {w′ out′ moved′ : List ℕ} {r : Result} → Turns spans keys rops rcs w w′ half b right left totals 1 out out′ moved moved′ r → length out′ ≡ length out
         → length moved′ ≡ length moved → Going original text spans keys lops rops lcs rcs priority mid half w₀ out₀ moved₀ w′ out′ moved′ (r .other) (r .own) (r .totals)

@@ -16,6 +16,7 @@ ghost use Rattle.merge.specs.Meetings.{Shifted, Facing, Meets};
 ghost use Rattle.order.specs.Readable.{ofText};
 ghost use Rattle.merge.specs.Turning.{Turnable, Turns};
 ghost use Rattle.merge.specs.Choosing.{NextReadable, choiceOf};
+ghost use Rattle.merge.specs.Running.{Runnable, Ran};
 
 // What a turn does to the cursors of its side: a is taken, last is remembered of the other side,
 // which has filled the work room up to fill.
@@ -231,5 +232,133 @@ pub fn choose(
                 }
             }
         },
+    }
+}
+
+// Turns until both sides are done; what is left of the cursors goes to the end, left before right.
+// The left side's part of the work room ends at mid.
+pub fn run(
+    original: &[u32],
+    text: &[u32],
+    spans: &[u32],
+    keys: &[u32],
+    left_operations: &[usize],
+    right_operations: &[usize],
+    left_cursors: &[usize],
+    right_cursors: &[usize],
+    priority: Order,
+    work: &mut [u32],
+    mid: usize,
+    half: usize,
+    out: &mut [usize],
+    moved: &mut [usize],
+) -> Totals
+    requires { ⌜ Runnable (now original) (now text) (now spans) (now keys) (now «left_operations») (now «right_operations») (now «left_cursors») (now «right_cursors») priority (now work) mid half (now out) (now moved) ⌝ }
+    ensures { λ r. ⌜ Ran (now (original .entry)) (now (text .entry)) (now (spans .entry)) (now (keys .entry)) (now («left_operations» .entry)) (now («right_operations» .entry)) (now («left_cursors» .entry)) (now («right_cursors» .entry)) priority (now (out .entry)) (now (out .exit)) (now (moved .entry)) (now (moved .exit)) r ⌝ }
+{
+    let mut left = Side {
+        ahead: turns::ahead_of(left_operations, 0, 0),
+        memory: Memory {
+            last: Last::Nothing,
+            fill: 0,
+        },
+        seen: 0,
+        cursor: 0,
+    };
+    let mut right = Side {
+        ahead: turns::ahead_of(right_operations, 0, 0),
+        memory: Memory {
+            last: Last::Nothing,
+            fill: mid,
+        },
+        seen: 0,
+        cursor: 0,
+    };
+    let mut totals = Totals {
+        merged: 0,
+        consumed: 0,
+        operations: 0,
+        cursors: 0,
+    };
+    'turns: loop {
+        let facing = left.ahead;
+        let faced = right.ahead;
+        let next = facing.next;
+        let other = faced.next;
+        let choice = choose(text, spans, keys, next, other, priority);
+        match choice {
+            Choice::Nothing => {
+                let first = cursor_position::end_cursors(
+                    left_cursors,
+                    Progress {
+                        next: left.cursor,
+                        count: totals.cursors,
+                    },
+                    totals.merged,
+                    moved,
+                );
+                let second = cursor_position::end_cursors(
+                    right_cursors,
+                    Progress {
+                        next: right.cursor,
+                        count: first.count,
+                    },
+                    totals.merged,
+                    moved,
+                );
+                return Totals {
+                    merged: totals.merged,
+                    consumed: totals.consumed,
+                    operations: totals.operations,
+                    cursors: second.count,
+                };
+            }
+            Choice::Left(a) => {
+                let t = turn(
+                    spans,
+                    keys,
+                    left_operations,
+                    left_cursors,
+                    a,
+                    left,
+                    right,
+                    totals,
+                    0,
+                    work,
+                    half,
+                    out,
+                    moved,
+                );
+                let own = t.own;
+                let waiting = t.other;
+                let sums = t.totals;
+                left = own;
+                right = waiting;
+                totals = sums;
+            }
+            Choice::Right(b) => {
+                let t = turn(
+                    spans,
+                    keys,
+                    right_operations,
+                    right_cursors,
+                    b,
+                    right,
+                    left,
+                    totals,
+                    1,
+                    work,
+                    half,
+                    out,
+                    moved,
+                );
+                let own = t.own;
+                let waiting = t.other;
+                let sums = t.totals;
+                right = own;
+                left = waiting;
+                totals = sums;
+            }
+        }
     }
 }
