@@ -9,3 +9,4 @@ pub mod Finding
 pub mod TextLaws
 pub mod Rests
 pub mod RecordLaws
+pub mod Charges

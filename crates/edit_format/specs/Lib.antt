@@ -4,3 +4,4 @@ pub mod Items
 pub mod Written
 pub mod Reading
 pub mod Records
+pub mod Charge

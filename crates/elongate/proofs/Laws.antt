@@ -11,10 +11,10 @@ use lib.Dec.{eqb}
 use borrow.Author.Tests.{eq-eqb, ne-eqb, eqb-true}
 use Rattle.checks.proofs.Bools.{and-left}
 use Rattle.elongate.specs.Raws.{Piece, Run}
-use Rattle.elongate.specs.Elongated.{Parts, parts, together, arranged, lastRight, joinable, join, joinedFrom, joined, elongated, allTokens}
+use Rattle.elongate.specs.Elongated.{Parts, parts, together, arranged, lastRight, firstLeft, joinable, join, joinedFrom, joined, elongated, allTokens}
 use Rattle.elongate.specs.Kept.{chosen, textTokens, Follows, Settled}
 use Rattle.elongate.proofs.Arranging.{by-kind}
-use Rattle.elongate.proofs.Joining.{joins-on, joins-apart, by-test, joined-length}
+use Rattle.elongate.proofs.Joining.{AllSome, joins-on, joins-apart, by-test, joined-length}
 
 abbrev kind : Run → ℕ
 kind r = r .kind
@@ -224,3 +224,107 @@ all-settled (r ∷ rs) s = settled-joined r rs s
 pub settles : (rs : List Run) → Settled (elongated rs)
 unfolding elongated
 settles rs = all-settled (arranged kind rs) (settled-together (parts kind rs) (sorted-parts rs))
+
+-- elongating again changes nothing
+
+inserts-end : (k : ℕ) (rs : List Run) → (k ≡ 2 → ⊥) → (k ≡ 0 → ⊥) → Follows k rs → Settled rs → parts kind rs .deletes ≡ []
+unfolding parts Follows Settled
+inserts-end k [] a b f s = refl
+inserts-end k (r ∷ rs) a b f s =
+    by-kind (r .kind) (parts kind (r ∷ rs) .deletes ≡ []) (λ e. rw (at-retain r rs e)) (λ e. absurd (⊎-elim b a (f e)))
+    (λ e g. rw (at-insert r rs e g) (inserts-end (r .kind) rs e g (s .0) (s .1)))
+
+arranged-same : (rs : List Run) → Settled rs → arranged kind rs ≡ rs
+unfolding parts Settled
+arranged-same [] s = refl
+arranged-same (r ∷ rs) s =
+    let q : Parts Run = parts kind rs in
+    let e = arranged-same rs (s .1) in
+    by-kind (r .kind) (arranged kind (r ∷ rs) ≡ r ∷ rs) (λ k. rw (at-retain r rs k) (ap (λ (z : List Run). r ∷ z) e))
+    (λ k. rw (at-delete r rs k) (ap (λ (z : List Run). r ∷ z) e))
+    (λ k j.
+    let d = inserts-end (r .kind) rs k j (s .0) (s .1) in
+    let f : q .inserts ++ q .rest ≡ rs = rw d at e in
+    rw (at-insert r rs k j, d, f))
+
+-- no two neighbours would join
+
+unfoldable Lone : Run → List Run → Type 0
+Lone c [] = Unit
+Lone c (r ∷ rs) = joinable (c .kind) (lastRight (c .tokens)) r ≡ false
+
+unfoldable Apart : List Run → Type 0
+Apart [] = Unit
+Apart (r ∷ rs) = Lone r rs × Apart rs
+
+joined-same : (c : Run) (rs : List Run) → Apart (c ∷ rs) → joinedFrom c rs ≡ c ∷ rs
+unfolding joinedFrom Apart Lone
+joined-same c [] a = refl
+joined-same c (r ∷ rs) a = joins-apart c r rs (a .0) ∙ ap (λ (z : List Run). c ∷ z) (joined-same r rs (a .1))
+
+first-append : (ps qs : List Piece) → 0 < length ps → firstLeft (ps ++ qs) ≡ firstLeft ps
+unfolding firstLeft
+first-append [] qs h = absurd (omega arith)
+first-append (p ∷ ps) qs h = refl
+
+-- a joined run begins with the first token of its first
+lone-head : (c r : Run) (rs : List Run) → 0 < length (r .tokens) → joinable (c .kind) (lastRight (c .tokens)) r ≡ false → Lone c (joinedFrom r rs)
+unfolding joinedFrom Lone
+lone-head c r [] h f = f
+lone-head c r (s ∷ rs) h f =
+    by-test (joinable (r .kind) (lastRight (r .tokens)) s) (Lone c (joinedFrom r (s ∷ rs)))
+    (λ t.
+    let m : 0 < length (r .tokens ++ s .tokens) = rw (length-append) (omega arith) in
+    rw (joins-on r s rs t) (lone-head c (join r s) rs m (rw (first-append (r .tokens) (s .tokens) h) f)))
+    (λ t. rw (joins-apart r s rs t) f)
+
+apart-from : (c : Run) (rs : List Run) → 0 < length (c .tokens) → AllSome rs → Apart (joinedFrom c rs)
+unfolding joinedFrom Apart Lone AllSome
+apart-from c [] h a = (tt, tt)
+apart-from c (r ∷ rs) h a =
+    by-test (joinable (c .kind) (lastRight (c .tokens)) r) (Apart (joinedFrom c (r ∷ rs)))
+    (λ t.
+    let m : 0 < length (c .tokens ++ r .tokens) = rw (length-append) (omega arith) in
+    rw (joins-on c r rs t) (apart-from (join c r) rs m (a .1)))
+    (λ t. rw (joins-apart c r rs t) (lone-head c r rs (a .0) t, apart-from r rs (a .0) (a .1)))
+
+joined-again : (rs : List Run) → Apart rs → joined rs ≡ rs
+joined-again [] a = refl
+joined-again (r ∷ rs) a = joined-same r rs a
+
+joined-apart : (rs : List Run) → AllSome rs → Apart (joined rs)
+unfolding Apart AllSome
+joined-apart [] a = tt
+joined-apart (r ∷ rs) a = apart-from r rs (a .0) (a .1)
+
+-- every run of the arranged list has tokens
+
+some-append : (rs ss : List Run) → AllSome rs → AllSome ss → AllSome (rs ++ ss)
+unfolding AllSome
+some-append [] ss g h = h
+some-append (r ∷ rs) ss g h = (g .0, some-append rs ss (g .1) h)
+
+record Some (q : Parts Run) : Type 0 where
+  deletes : AllSome (q .deletes)
+  inserts : AllSome (q .inserts)
+  rest : AllSome (q .rest)
+
+some-together : (q : Parts Run) → Some q → AllSome (together q)
+some-together q s = some-append (q .deletes) (q .inserts ++ q .rest) (s .deletes) (some-append (q .inserts) (q .rest) (s .inserts) (s .rest))
+
+some-parts : (rs : List Run) → AllSome rs → Some (parts kind rs)
+unfolding parts AllSome
+some-parts [] a = record { deletes = tt; inserts = tt; rest = tt }
+some-parts (r ∷ rs) a =
+    let q = some-parts rs (a .1) in
+    by-kind (r .kind) (Some (parts kind (r ∷ rs)))
+    (λ k. rw (at-retain r rs k) (record { deletes = tt; inserts = tt; rest = (a .0, some-together (parts kind rs) q) }))
+    (λ k. rw (at-delete r rs k) (record { deletes = (a .0, q .deletes); inserts = q .inserts; rest = q .rest }))
+    (λ k j. rw (at-insert r rs k j) (record { deletes = q .deletes; inserts = (a .0, q .inserts); rest = q .rest }))
+
+pub again : (rs : List Run) → AllSome rs → elongated (elongated rs) ≡ elongated rs
+unfolding elongated
+again rs a =
+    let ls : List Run = arranged kind rs in
+    rw (arranged-same (joined ls) (all-settled ls (settled-together (parts kind rs) (sorted-parts rs))))
+    (joined-again (joined ls) (joined-apart ls (some-together (parts kind rs) (some-parts rs a))))
