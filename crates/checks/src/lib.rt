@@ -160,7 +160,7 @@ fn inserted_by(spans: &[u32], keys: &[u32], n: usize, o: records::Operation) -> 
 }
 
 // The tokens that a list's inserts claim, capped.
-fn claimed(operations: &[usize]) -> usize
+pub fn claimed(operations: &[usize]) -> usize
     ensures { λ r. ⌜ r ≡ min 1000000 (total claimedBy (operationsOf (now (operations .entry)))) ⌝ }
 {
     let count = operations.len() / 6;

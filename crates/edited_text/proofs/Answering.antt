@@ -1,0 +1,127 @@
+-- Shown: the call: lists that the checks accept and rooms as asked are ready to be merged, and what was merged is the answer; a refusal
+-- leaves every room. How: the verdict, check by check.
+use Prim.Native.Nat.{ℕ, _+_, _*_, _/_, _≤_, min}
+use mathlib.Core.Path.{_≡_, refl, sym, _∙_, ap}
+use mathlib.Core.Bool.{Bool, true, false, _&&_}
+use mathlib.Core.List.{List}
+use native.Mathlib.Omega.{arith}
+use lib.ListN.{length}
+use lib.Dec.{leb, lit<}
+use borrow.Author.Tests.{leb-true}
+use Rattle.refusal.specs.declared.Refusal.{Refusal}
+use Rattle.refusal.specs.declared.Refusal.the-variants as R
+use Rattle.records.specs.Operations.{operationsOf}
+use Rattle.records.specs.Cursors.{cursorsOf}
+use Rattle.records.proofs.Operations.{length-of as operations-of}
+use Rattle.records.proofs.Cursors.{length-of as cursors-of}
+use Rattle.checks.specs.declared.Limits.{Limits}
+use Rattle.checks.specs.declared.Verdict.{Verdict}
+use Rattle.checks.specs.declared.Verdict.the-variants.{Accepted, Refused}
+use Rattle.checks.specs.Texts.{total, claimedBy}
+use Rattle.checks.specs.Sizes.{Small, merging}
+use Rattle.checks.specs.Lists.{listsVerdict}
+use Rattle.checks.specs.Accepted.{AcceptedList}
+use Rattle.checks.proofs.Bools.{and-left, and-right}
+use Rattle.checks.proofs.Chains.{stops, goes-on}
+use Rattle.checks.proofs.Accepted.{accepted-left, accepted-right}
+use Rattle.edited_text.specs.declared.Counts.{Counts}
+use Rattle.edited_text.specs.declared.Answer.the-variants as A
+use Rattle.edited_text.specs.Merging.{roomsFit, roomed, mergeVerdict, verdictOn, mergeOn, MergedBy, Mergeable, Merges}
+
+pub small : (l : Limits) → l ≡ merging → Small l
+small l e = rw e (record { tokens = lit< tt; text = lit< tt })
+
+room-yes : (b : Bool) → b ≡ true → roomed b ≡ Accepted
+unfolding roomed
+room-yes b e = rw e
+
+room-no : (b : Bool) → b ≡ false → roomed b ≡ Refused R.Room
+unfolding roomed
+room-no b e = rw e
+
+same-counts : (r : Counts) (n m : ℕ) → r .operations ≡ n → r .cursors ≡ m → r ≡ record { operations = n; cursors = m }
+same-counts r n m e f = rw (← e, ← f)
+
+module _ (original text spans keys left right lcs rcs o c w : List ℕ) where
+  abbrev verdict : Verdict
+  verdict = verdictOn original text spans keys left right lcs rcs o c w
+
+  -- a refusal leaves the rooms as they were
+  refuses : (r : Refusal) → verdict ≡ Refused r → MergedBy original text spans keys left right lcs rcs o o c c w w (A.Refused r)
+  refuses r e = record { answer = rw e; operations = rw e; cursors = rw e; work = rw e refl }
+
+  module _ (l : Limits) (el : l ≡ merging) (v : Verdict)
+      (ev : v ≡ listsVerdict l original text spans keys (operationsOf left) (operationsOf right) (cursorsOf lcs) (cursorsOf rcs)) where
+    checked : v ≡ listsVerdict merging original text spans keys (operationsOf left) (operationsOf right) (cursorsOf lcs) (cursorsOf rcs)
+    checked = rw el at ev
+
+    pub refused : (r : Refusal) → v ≡ Refused r → MergedBy original text spans keys left right lcs rcs o o c c w w (A.Refused r)
+    unfolding mergeVerdict
+    refused r e = refuses r (sym (stops _ _ r (sym checked ∙ e)))
+
+    module _ (e : v ≡ Accepted) where
+      passed : listsVerdict merging original text spans keys (operationsOf left) (operationsOf right) (cursorsOf lcs) (cursorsOf rcs) ≡ Accepted
+      passed = sym checked ∙ e
+
+      pub left-list : AcceptedList merging original text spans keys (operationsOf left) (cursorsOf lcs)
+      left-list = accepted-left merging original text spans keys (operationsOf left) (operationsOf right) (cursorsOf lcs) (cursorsOf rcs) passed
+
+      pub right-list : AcceptedList merging original text spans keys (operationsOf right) (cursorsOf rcs)
+      right-list = accepted-right merging original text spans keys (operationsOf left) (operationsOf right) (cursorsOf lcs) (cursorsOf rcs) passed
+
+      module _ (m n : ℕ) (em : m ≡ min 1000000 (total claimedBy (operationsOf left))) (en : n ≡ min 1000000 (total claimedBy (operationsOf right))) where
+        claims-left : m ≡ total claimedBy (operationsOf left)
+        claims-left = omega (arith, left-list .tokens-most)
+
+        claims-right : n ≡ total claimedBy (operationsOf right)
+        claims-right = omega (arith, right-list .tokens-most)
+
+        abbrev tested : Bool
+        tested =
+            leb ((length left / 6 + length right / 6) * 6) (length o)
+            && (leb ((length lcs / 2 + length rcs / 2) * 2) (length c) && leb ((m + n) * 2) (length w))
+
+        rooms : tested ≡ roomsFit (operationsOf left) (operationsOf right) (cursorsOf lcs) (cursorsOf rcs) (length o) (length c) (length w)
+        rooms = rw (operations-of left, operations-of right, cursors-of lcs, cursors-of rcs, ← claims-left, ← claims-right)
+
+        pub no-room : tested ≡ false → MergedBy original text spans keys left right lcs rcs o o c c w w (A.Refused R.Room)
+        unfolding mergeVerdict
+        no-room f = refuses R.Room (sym (goes-on _ _ _ passed (sym (room-no _ (sym rooms ∙ f)))))
+
+        module _ (f : tested ≡ true) where
+          accepts : verdict ≡ Accepted
+          unfolding mergeVerdict
+          accepts = sym (goes-on _ _ _ passed (sym (room-yes _ (sym rooms ∙ f))))
+
+          abbrev first : Bool
+          first = leb ((length left / 6 + length right / 6) * 6) (length o)
+
+          abbrev second : Bool
+          second = leb ((length lcs / 2 + length rcs / 2) * 2) (length c)
+
+          abbrev third : Bool
+          third = leb ((m + n) * 2) (length w)
+
+          pub mergeable : Mergeable original text spans keys left right lcs rcs m (m + n) o c w
+          mergeable =
+              let rest : second && third ≡ true = and-right first (second && third) f in
+              record {
+                left-accepted = left-list;
+                right-accepted = right-list;
+                mid-is = claims-left;
+                half-is = omega (arith, claims-right);
+                operations-fit =
+                    omega (arith, leb-true ((length left / 6 + length right / 6) * 6) (length o) (and-left first (second && third) f), operations-of left, operations-of right);
+                cursors-fit = omega (arith, leb-true ((length lcs / 2 + length rcs / 2) * 2) (length c) (and-left second third rest), cursors-of lcs, cursors-of rcs);
+                work-fits = leb-true ((m + n) * 2) (length w) (and-right second third rest);
+              }
+
+          pub answers : (o′ c′ w′ : List ℕ) (r : Counts) → Merges original text spans keys left right lcs rcs o o′ c c′ r → length w′ ≡ length w
+              → MergedBy original text spans keys left right lcs rcs o o′ c c′ w w′ (A.Counts r)
+          answers o′ c′ w′ r M k =
+              record {
+                answer = rw (accepts, same-counts r _ _ (M .many-operations) (M .many-cursors));
+                operations = rw accepts (M .operations);
+                cursors = rw accepts (M .cursors);
+                work = rw accepts k;
+              }
