@@ -1,6 +1,6 @@
 // Reads the oracle's UTF-8, from standard input: RFC 3629's examples, each boundary, the kinds of Markus
-// Kuhn's stress test, every byte. A case is three lines: bytes, the answer `0 count` or `10 offset`, and
-// the code points.
+// Kuhn's stress test, bad sequences in each place of a block. A case is three lines: bytes, the answer
+// `0 count` or `10 offset`, and the code points.
 use refusal::Counted;
 use refusal::Refusal;
 

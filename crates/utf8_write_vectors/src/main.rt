@@ -1,6 +1,6 @@
-// Writes the oracle's UTF-8, from standard input: each boundary, the examples of RFC 3629 with each number that
-// is no code point in each place, and random texts. A case is three lines: code points, the answer
-// `0 count` or `4 index`, and the bytes.
+// Writes the oracle's UTF-8, from standard input: each boundary, the examples of RFC 3629 and a longer text with
+// each number that is no code point in each place, and random texts. A case is three lines: code points, the
+// answer `0 count` or `4 index`, and the bytes.
 use refusal::Counted;
 use refusal::Refusal;
 

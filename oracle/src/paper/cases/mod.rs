@@ -27,6 +27,7 @@ pub fn files() -> Vec<(&'static str, Vectors)> {
         ("write.txt", edit_files::write()),
         ("believed.txt", edit_files::believed()),
         ("utf8_read.txt", utf8::read()),
+        ("utf8_pairs.txt", utf8::pairs()),
         ("utf8_write.txt", utf8::write()),
         ("merge_files.txt", programs::merge_files()),
         ("merge_refused.txt", lists::merge_refused()),

@@ -1,7 +1,7 @@
-//! UTF-8: RFC 3629's examples, each boundary, the kinds of Markus Kuhn's stress test, every
-//! one-byte string, and pairs of every first byte with the bytes at the edges of a second.
+//! UTF-8: RFC 3629's examples, each boundary, the kinds of Markus Kuhn's stress test, bad
+//! sequences in each place of a block; every one- and two-byte string.
 
-use super::super::refusal::AMPLE;
+use super::super::refusal::{AMPLE, Refusal};
 use super::super::utf8;
 use super::{NO_CODE_POINTS, one_part};
 use crate::random::Random;
@@ -22,8 +22,10 @@ const BOUNDARIES: [u32; 14] = [
     0x10_FFFF, 0x11_0000,
 ];
 
-/// The sequences of the stress test's sections 2 to 5, by kind.
-const STRESS: [&[u8]; 66] = [
+/// The sequences of the stress test's sections 1 to 5, by kind.
+const STRESS: [&[u8]; 72] = [
+    // 1: correct text, "kosme" in its own script
+    b"\xCE\xBA\xE1\xBD\xB9\xCF\x83\xCE\xBC\xCE\xB5",
     // 2.1, 2.2: the first and the last of each length, five and six bytes too
     b"\x00",
     b"\xC2\x80",
@@ -70,7 +72,8 @@ const STRESS: [&[u8]; 66] = [
     b"\xFB\xBF\xBF\xBF",
     b"\xFD\xBF\xBF\xBF\xBF",
     // 3.4: these one after another
-    b"\xC0\xE0\x80\xF0\x80\x80\xF8\x80\x80\x80\xFC\x80\x80\x80\x80\xDF\xEF\xBF\xF7\xBF\xBF",
+    b"\xC0\xE0\x80\xF0\x80\x80\xF8\x80\x80\x80\xFC\x80\x80\x80\x80\
+      \xDF\xEF\xBF\xF7\xBF\xBF\xFB\xBF\xBF\xBF\xFD\xBF\xBF\xBF\xBF",
     // 3.5: impossible bytes
     b"\xFE",
     b"\xFF",
@@ -91,6 +94,8 @@ const STRESS: [&[u8]; 66] = [
     b"\xC0\x80",
     b"\xE0\x80\x80",
     b"\xF0\x80\x80\x80",
+    b"\xF8\x80\x80\x80\x80",
+    b"\xFC\x80\x80\x80\x80\x80",
     // 5.1, 5.2: surrogates, single and paired
     b"\xED\xA0\x80",
     b"\xED\xAD\xBF",
@@ -101,12 +106,49 @@ const STRESS: [&[u8]; 66] = [
     b"\xED\xBF\xBF",
     b"\xED\xA0\x80\xED\xB0\x80",
     b"\xED\xAF\xBF\xED\xBF\xBF",
+    // 5.3: noncharacters, which are good
+    b"\xEF\xBF\xBE",
+    b"\xEF\xB7\x90",
+    b"\xF4\x8F\xBF\xBE",
 ];
 
 const SECOND_BYTES: [u8; 10] = [0x00, 0x7F, 0x80, 0x8F, 0x90, 0x9F, 0xA0, 0xBF, 0xC0, 0xFF];
 
 /// A good text that reaches every length of sequence.
 const GOOD: &[u8] = b"a\xC3\xA9\xE2\x82\xAC\xF0\x9F\x90\x91z";
+
+/// Text of each length of sequence alone and of all, and the places in it that are tried.
+const LONG: [(&[u8], std::ops::Range<usize>); 5] = [
+    (b"7", 32..64),
+    (GOOD, 32..48),
+    (b"\xC3\xA9", 32..48),
+    (b"\xE2\x82\xAC", 32..48),
+    (b"\xF0\x9F\x90\x91", 32..48),
+];
+
+/// Each way to be bad.
+const BAD: [&[u8]; 9] = [
+    b"\x80",
+    b"\xC1\xBF",
+    b"\xC3",
+    b"\xE0\x9F\xBF",
+    b"\xE2\x82",
+    b"\xED\xA0\x80",
+    b"\xF0\x8F\xBF\xBF",
+    b"\xF0\x9F\x90",
+    b"\xF4\x90\x80\x80",
+];
+
+/// 67 bytes: text up to a place, with ASCII where no whole sequence fits, then a sequence there.
+fn long(repeated: &[u8], place: usize, sequence: &[u8]) -> Vec<u8> {
+    let mut bytes: Vec<u8> = repeated.iter().copied().cycle().take(place).collect();
+    while let Err(error) = std::str::from_utf8(&bytes) {
+        bytes[error.valid_up_to()..].fill(b'7');
+    }
+    bytes.extend(sequence);
+    bytes.resize(67, b'7');
+    bytes
+}
 
 pub fn read() -> Vectors {
     let mut vectors = Vectors::new();
@@ -126,12 +168,6 @@ pub fn read() -> Vectors {
     for length in 0..=GOOD.len() {
         case(&GOOD[..length]);
         case(&GOOD[length..]);
-    }
-    for first in 0..=u8::MAX {
-        case(&[first]);
-        for second in SECOND_BYTES {
-            case(&[first, second]);
-        }
     }
     // Three and four bytes: every edge of the second byte behind the first bytes that narrow it.
     for first in [0xE0, 0xE1, 0xEC, 0xED, 0xEE, 0xEF] {
@@ -159,6 +195,15 @@ pub fn read() -> Vectors {
             bytes[bad] = 0x80;
             case(&bytes);
         }
+    }
+    // Longer ones: each kind of text up to each place of a block, there a sequence, then ASCII.
+    for (kind, (repeated, places)) in LONG.into_iter().enumerate() {
+        for place in places {
+            case(&long(repeated, place, BAD[(place + kind) % BAD.len()]));
+        }
+    }
+    for place in 32..48 {
+        case(&long(GOOD, place, "\u{10348}".as_bytes()));
     }
     vectors
 }
@@ -209,6 +254,14 @@ pub fn write() -> Vectors {
             }
         }
     }
+    // Two blocks and one more, with one number that is not ASCII in each place of the second.
+    for place in 16..32 {
+        for number in [0x1_0348, NO_CODE_POINTS[place % NO_CODE_POINTS.len()]] {
+            let mut points = [0x37; 33];
+            points[place] = number;
+            case(&points);
+        }
+    }
     let mut random = Random::new(31);
     for length in 0..40 {
         let points: Vec<u32> = (0..length)
@@ -220,4 +273,36 @@ pub fn write() -> Vectors {
         case(&points);
     }
     vectors
+}
+
+/// Every one-byte string and then every two-byte string, each in the order of its numbers, as runs:
+/// how many strings, the answer, and the code points of the first; from each string to the next the
+/// last code point goes up by one.
+pub fn pairs() -> Vectors {
+    let one = (0..=u8::MAX).map(|byte| vec![byte]);
+    let two = (0..=u16::MAX).map(|number| number.to_be_bytes().to_vec());
+    let mut runs: Vec<(u32, Result<Vec<u32>, Refusal>)> = Vec::new();
+    for string in one.chain(two) {
+        let outcome = utf8::read(&string, AMPLE);
+        match runs.last_mut() {
+            Some((strings, first)) if outcome == risen(first, *strings) => *strings += 1,
+            _ => runs.push((1, outcome)),
+        }
+    }
+
+    let mut vectors = Vectors::new();
+    for (strings, outcome) in runs {
+        vectors.line(&[strings]);
+        one_part(&mut vectors, outcome);
+    }
+    vectors
+}
+
+/// An outcome whose last code point is so much greater.
+fn risen(outcome: &Result<Vec<u32>, Refusal>, by: u32) -> Result<Vec<u32>, Refusal> {
+    let mut outcome = outcome.clone();
+    if let Some(last) = outcome.as_mut().ok().and_then(|points| points.last_mut()) {
+        *last += by;
+    }
+    outcome
 }
