@@ -1,5 +1,6 @@
 //! Accepted cases of the Rust's calls, with document 01's rules: small ones mostly, a few of
-//! middle size. Limit cases are not stored.
+//! middle size. Limit cases are not stored. Behind the raw lists stand the refused ones, so that
+//! one program replays both.
 
 use crate::{
     completed::Completed,
@@ -9,6 +10,7 @@ use crate::{
         lists::{self, MIDDLE, SMALL, Shape},
     },
     notation,
+    paper::cases::lists::elongate_refused,
     random::Random,
     vectors::Vectors,
 };
@@ -76,6 +78,7 @@ fn keys_below(random: &mut Random, longest: u64, keys: u64) -> Vec<u32> {
         .collect()
 }
 
+/// Accepted raw lists, then refused ones.
 fn elongate() -> Vectors {
     let mut random = Random::new(11);
     let mut vectors = Vectors::new();
@@ -85,6 +88,7 @@ fn elongate() -> Vectors {
             elongate_case(&lists::raw(&mut random, shape), vectors);
         });
     }
+    vectors.append(&elongate_refused());
 
     vectors
 }

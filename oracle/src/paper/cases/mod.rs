@@ -3,7 +3,7 @@
 
 mod diffs;
 pub mod edit_files;
-mod lists;
+pub mod lists;
 mod programs;
 mod utf8;
 
@@ -32,7 +32,6 @@ pub fn files() -> Vec<(&'static str, Vectors)> {
         ("merge_files.txt", programs::merge_files()),
         ("merge_refused.txt", lists::merge_refused()),
         ("outputs_refused.txt", lists::outputs_refused()),
-        ("elongate_refused.txt", lists::elongate_refused()),
         ("overlap_refused.txt", lists::overlap_refused()),
     ]
 }
