@@ -687,5 +687,5 @@ fn stored_vectors_are_made_again_byte_for_byte() {
         assert!(stored == made.as_str(), "{name} is not what is made now");
         total += stored.len();
     }
-    assert!(total <= 600_000, "{total} bytes");
+    assert!(total <= 700_000, "{total} bytes");
 }

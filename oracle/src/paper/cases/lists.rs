@@ -2,7 +2,7 @@
 //! claims past every size, sizes that a claim alone passes, and two refusals at once.
 
 use super::super::calls;
-use super::super::lists::{ElongateRooms, List, MergeRooms, RawList};
+use super::super::lists::{ElongateRooms, List, MergeRooms, RawList, check_list, check_merge};
 use super::super::refusal::AMPLE;
 use super::{NO_CODE_POINTS, PIECE, PIECES, answer, replaced, two_parts};
 use crate::flat::{
@@ -143,32 +143,41 @@ fn merge_base() -> Merge {
 
 pub fn merge_refused() -> Vectors {
     let mut vectors = Vectors::new();
-    let mut case = |merge: &Merge| {
-        let list = |operations, cursors| List {
-            operations,
-            cursors,
-        };
+    for merge in merges() {
         let outcome = calls::merge(
             &merge.lent(),
-            list(&merge.left, &merge.left_cursors),
-            list(&merge.right, &merge.right_cursors),
+            left(&merge),
+            right(&merge),
             MergeRooms::AMPLE,
         );
         let Err(refusal) = outcome else {
-            return;
+            continue;
         };
-        shared_lines(&mut vectors, merge);
-        for numbers in [
-            &merge.left,
-            &merge.right,
-            &merge.left_cursors,
-            &merge.right_cursors,
-        ] {
-            vectors.line(numbers);
-        }
+        merge_lines(&mut vectors, &merge);
         answer(&mut vectors, Err(refusal));
         blank(&mut vectors, 2);
-    };
+    }
+    vectors
+}
+
+fn left(merge: &Merge) -> List<'_> {
+    List {
+        operations: &merge.left,
+        cursors: &merge.left_cursors,
+    }
+}
+
+fn right(merge: &Merge) -> List<'_> {
+    List {
+        operations: &merge.right,
+        cursors: &merge.right_cursors,
+    }
+}
+
+/// Merges of which most are refused.
+fn merges() -> Vec<Merge> {
+    let mut merges = Vec::new();
+    let mut case = |merge: &Merge| merges.push(merge.clone());
 
     let base = merge_base();
     let lists = small_lists();
@@ -274,26 +283,21 @@ pub fn merge_refused() -> Vectors {
         }
         case(&merge);
     }
-    vectors
+    merges
 }
 
 pub fn outputs_refused() -> Vectors {
     let mut vectors = Vectors::new();
-    // The left list and its cursors are the ones lent.
-    let mut case = |merge: &Merge| {
+    for merge in outputs() {
         let lent = merge.lent();
-        let list = List {
-            operations: &merge.left,
-            cursors: &merge.left_cursors,
-        };
-        let applied = calls::apply(&lent, list, AMPLE, AMPLE);
+        let applied = calls::apply(&lent, left(&merge), AMPLE, AMPLE);
         if applied.is_ok() {
-            return;
+            continue;
         }
         let history = calls::apply_with_history(&lent, &merge.left, AMPLE, AMPLE);
         let diff = calls::to_diff(&lent, &merge.left, AMPLE, AMPLE);
 
-        shared_lines(&mut vectors, merge);
+        shared_lines(&mut vectors, &merge);
         vectors.line(&merge.left);
         vectors.line(&merge.left_cursors);
         two_parts(
@@ -311,7 +315,14 @@ pub fn outputs_refused() -> Vectors {
             diff.map(|diff| (diff.items, diff.text)),
             [ITEM_STRIDE, 1],
         );
-    };
+    }
+    vectors
+}
+
+/// Lists of which most are refused: the left ones, with their cursors.
+fn outputs() -> Vec<Merge> {
+    let mut outputs = Vec::new();
+    let mut case = |merge: &Merge| outputs.push(merge.clone());
 
     let base = merge_base();
     let lists = small_lists();
@@ -363,7 +374,59 @@ pub fn outputs_refused() -> Vectors {
         }
         case(&merge);
     }
+    outputs
+}
+
+/// The verdicts on two lists for merging, then on one list otherwise, by the same cases and the
+/// accepted lists that they are made from. Sizes that take long lists are not stored.
+pub fn checks() -> Vectors {
+    let mut vectors = Vectors::new();
+    let short = |merge: &Merge| {
+        let longest = [
+            merge.tokens.text.len(),
+            merge.left_cursors.len(),
+            merge.right_cursors.len(),
+        ];
+        longest.into_iter().all(|length| length < 100)
+    };
+    let base = merge_base();
+    let two = [base.clone()].into_iter().chain(merges());
+    for merge in two.filter(short) {
+        vectors.line(&[2]);
+        merge_lines(&mut vectors, &merge);
+        let verdict = check_merge(
+            &merge.lent(),
+            left(&merge),
+            right(&merge),
+            MergeRooms::AMPLE,
+        );
+        answer(&mut vectors, verdict.map(|()| vec![]));
+    }
+    let good = small_lists().into_iter().map(|left| Merge {
+        left,
+        ..base.clone()
+    });
+    for mut merge in good.chain(outputs()).filter(short) {
+        merge.right.clear();
+        merge.right_cursors.clear();
+        vectors.line(&[1]);
+        merge_lines(&mut vectors, &merge);
+        let verdict = check_list(&merge.lent(), left(&merge));
+        answer(&mut vectors, verdict.map(|()| vec![]));
+    }
     vectors
+}
+
+fn merge_lines(vectors: &mut Vectors, merge: &Merge) {
+    shared_lines(vectors, merge);
+    for numbers in [
+        &merge.left,
+        &merge.right,
+        &merge.left_cursors,
+        &merge.right_cursors,
+    ] {
+        vectors.line(numbers);
+    }
 }
 
 /// The lines that all lists of a call share.

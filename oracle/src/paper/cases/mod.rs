@@ -32,6 +32,7 @@ pub fn files() -> Vec<(&'static str, Vectors)> {
         ("merge_files.txt", programs::merge_files()),
         ("merge_refused.txt", lists::merge_refused()),
         ("outputs_refused.txt", lists::outputs_refused()),
+        ("checks.txt", lists::checks()),
         ("overlap_refused.txt", lists::overlap_refused()),
     ]
 }
