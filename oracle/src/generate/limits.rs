@@ -1,7 +1,8 @@
-//! Lists at document 01's size limits. They are not stored as vectors; the tests run them.
+//! Lists at document 01's size limits. They are not stored as vectors; the tests run them, and
+//! `built` is built again by the program that replays the merges.
 
 use crate::{
-    flat::INSERT,
+    flat::{DELETE, INSERT, OPERATION_STRIDE, RETAIN},
     generate::{JOINABLE, Merge, Raw, Tokens, lists::interleaved, text_length},
     random::Random,
 };
@@ -143,5 +144,104 @@ fn letter(random: &mut Random, letters: u64) -> u32 {
 fn cursors(random: &mut Random, text_length: usize, sizes: Sizes) -> Vec<usize> {
     (0..sizes.cursors)
         .flat_map(|identity| [identity, random.below(text_length as u64 + 1) as usize])
+        .collect()
+}
+
+/// A pair with all sizes at their limits that a loop can build without a generator: half of the
+/// operations are inserts of four tokens, the others are deletes and retains.
+pub fn built() -> Merge {
+    let tokens = built_tokens();
+    let [left, right] = [0, 1].map(built_list);
+    let [left_cursors, right_cursors] = [(0, &left), (1, &right)]
+        .map(|(side, list)| built_cursors(side, text_length(&tokens, list)));
+
+    Merge {
+        original: vec![u32::from('a'); ORIGINAL],
+        tokens,
+        left,
+        right,
+        left_cursors,
+        right_cursors,
+    }
+}
+
+/// A number that looks like chance, below 2^31.
+fn noise(place: usize) -> usize {
+    const PRIME: usize = 2_147_483_647;
+    let first = place % PRIME * 48_271 % PRIME;
+    let second = (first ^ (first >> 15)) % PRIME;
+
+    second * 69_621 % PRIME
+}
+
+/// Eight code points for each token, seven for the last of each list; two letters, so that
+/// spellings are often alike for a while, and three keys.
+fn built_tokens() -> Tokens {
+    let mut tokens = Tokens {
+        text: (0..2 * MERGING.text)
+            .map(|place| u32::from(if noise(place) % 64 < 32 { 'a' } else { 'b' }))
+            .collect(),
+        ..Tokens::default()
+    };
+    let mut start = 0;
+    for place in 0..2 * MERGING.tokens {
+        let length = match place % MERGING.tokens == MERGING.tokens - 1 {
+            true => 7,
+            false => 8,
+        };
+        let key = noise(place + 200_000) / 64 % 3;
+        tokens.over(start, length, key as u32, JOINABLE);
+        start += length;
+    }
+
+    tokens
+}
+
+const BUILT_INSERTS: usize = MERGING.operations / 2;
+
+fn built_list(side: usize) -> Vec<usize> {
+    let mut operations = Vec::new();
+    let (mut inserted, mut tiled) = (0, 0);
+    for place in 0..MERGING.operations {
+        let chance = noise(place + side * 10_000 + 400_000);
+        if chance / 64 % (MERGING.operations - place) < BUILT_INSERTS - inserted {
+            let first = side * MERGING.tokens + inserted * 4;
+            operations.extend([INSERT, 0, 0, 0, first, 4]);
+            inserted += 1;
+        } else {
+            let start = boundary(side, tiled);
+            let length = boundary(side, tiled + 1) - start;
+            let kind = if chance % 3 == 0 { DELETE } else { RETAIN };
+            operations.extend([kind, start, length, 0, 0, 0]);
+            tiled += 1;
+        }
+    }
+    assert_eq!(operations.len(), OPERATION_STRIDE * MERGING.operations);
+
+    operations
+}
+
+/// Where a delete or retain ends: every fourth at the same place in both lists.
+fn boundary(side: usize, tile: usize) -> usize {
+    match tile {
+        0 => 0,
+        2_048 => ORIGINAL,
+        _ => {
+            let of = match tile % 4 {
+                0 => tile,
+                _ => tile + side * 10_000 + 10_000,
+            };
+            tile * 32 - noise(of + 300_000) / 64 % 30 - 1
+        }
+    }
+}
+
+/// Cursors anywhere in the text of a list, unsorted.
+fn built_cursors(side: usize, text_length: usize) -> Vec<usize> {
+    (0..MERGING.cursors)
+        .flat_map(|place| {
+            let index = noise(place + side * 1_000 + 500_000) % (text_length + 1);
+            [place + side * MERGING.cursors, index]
+        })
         .collect()
 }

@@ -36,6 +36,15 @@ pub const MIDDLE: Shape = Shape {
     cursors: 20,
 };
 
+/// Long runs of inserts at one place or two, of few keys.
+pub const DEEP: Shape = Shape {
+    original: 1,
+    operations: [36, 36],
+    tokens_an_insert: 2,
+    keys: 2,
+    cursors: 30,
+};
+
 /// Both ends of each UTF-8 length and of the surrogates, and plain letters.
 const CODE_POINTS: [u32; 14] = [
     0x61, 0x62, 0x63, 0x20, 0x0A, 0x00, 0x7F, 0x80, 0x7FF, 0x800, 0xD7FF, 0xE000, 0x1_0000,

@@ -1,16 +1,17 @@
 //! Accepted cases of the Rust's calls, with document 01's rules: small ones mostly, a few of
-//! middle size. Limit cases are not stored. Behind the raw lists stand the refused ones, so that
-//! one program replays both.
+//! middle size. Limit cases are not stored. Behind the raw lists and the merges stand the refused
+//! ones, so that one program replays both.
 
 use crate::{
     completed::Completed,
-    flat::{self, CURSOR_STRIDE, HISTORY_STRIDE, ITEM_STRIDE, OPERATION_STRIDE},
+    flat::{self, CURSOR_STRIDE, DELETE, HISTORY_STRIDE, INSERT, ITEM_STRIDE, OPERATION_STRIDE},
     generate::{
         Merge, RIGHT_IDENTITIES, Raw, everywhere,
-        lists::{self, MIDDLE, SMALL, Shape},
+        limits::{self, MERGING},
+        lists::{self, DEEP, MIDDLE, SMALL, Shape},
     },
     notation,
-    paper::cases::lists::elongate_refused,
+    paper::cases::lists::{elongate_refused, merge_refused},
     random::Random,
     vectors::Vectors,
 };
@@ -142,23 +143,63 @@ const WRITTEN: [[&str; 3]; 17] = [
     ["A", "I[a] R1", "D1"],
 ];
 
+/// The answer for the pair at the limits, accepted pairs, then refused ones.
 fn merge() -> Vectors {
     let mut random = Random::new(12);
     let mut vectors = Vectors::new();
+    merge_at_the_limits(&mut vectors);
     for [original, left, right] in WRITTEN {
         let mut case = notation::merge(original, left, right);
         merge_case(&case, &mut vectors);
         case.left_cursors = everywhere(&case.tokens, &case.left, 0);
         case.right_cursors = everywhere(&case.tokens, &case.right, RIGHT_IDENTITIES);
         merge_case(&case, &mut vectors);
+        leave_rests(&mut case);
+        merge_case(&case, &mut vectors);
     }
-    for (count, shape) in [(380, SMALL), (6, MIDDLE)] {
+    for (count, shape) in [(380, SMALL), (24, DEEP), (6, MIDDLE)] {
         collect(&mut vectors, count, |vectors| {
             merge_case(&lists::merge(&mut random, shape), vectors);
         });
     }
+    vectors.append(&merge_refused());
 
     vectors
+}
+
+/// Numbers behind the last whole record of each slice, which are not lent.
+fn leave_rests(case: &mut Merge) {
+    case.left.extend([INSERT, 0, 0, 0, 0]);
+    case.right.extend([DELETE, 0, 1]);
+    case.left_cursors.push(0);
+    case.right_cursors.push(0);
+    case.tokens.spans.push(0);
+    case.tokens.keys.extend([0, 0]);
+}
+
+/// What the replaying program fills its rooms with.
+const FILLED: usize = 165;
+
+/// One line: the counts, and a sum over each room.
+fn merge_at_the_limits(vectors: &mut Vectors) {
+    let case = limits::built();
+    let answer = case.merged::<Completed>();
+    let sum = |answer: &[usize], room: usize| {
+        let past = std::iter::repeat_n(FILLED, room - answer.len());
+        answer.iter().copied().chain(past).fold(0, |sum, number| {
+            (sum * 31 + number % 4_294_967_291) % 4_294_967_291
+        })
+    };
+    vectors.line(&[
+        0,
+        answer.operations.len() / OPERATION_STRIDE,
+        answer.cursors.len() / CURSOR_STRIDE,
+        sum(
+            &answer.operations,
+            2 * OPERATION_STRIDE * MERGING.operations,
+        ),
+        sum(&answer.cursors, 2 * CURSOR_STRIDE * MERGING.cursors),
+    ]);
 }
 
 fn merge_case(case: &Merge, vectors: &mut Vectors) {
