@@ -10,20 +10,16 @@ use native.Mathlib.Decide.{decLt}
 use lib.ListN.{length, take, drop}
 use lib.Seq.{take-length}
 use lib.Dec.{ltb, leb}
-use borrow.Author.Tests.{lt-ltb, le-ltb, le-leb, ltb-true, leb-true}
+use borrow.Author.Tests.{le-ltb, le-leb, ltb-true, leb-true}
 use Rattle.utf8_read.specs.Grammar.{utf8-char}
 use Rattle.utf8_read.specs.Table.{scalar, six, more, encode, decode}
 use Rattle.utf8_read.proofs.Tests.{and-both, or-one}
 use Rattle.utf8_read.proofs.Rules.{Within, Two, Three, Four}
 use Rattle.utf8_read.proofs.Sequences.{At, found, stands, front-1, front-2, front-3, front-4, value-1, value-2, value-3, value-4}
 use Rattle.utf8_write.proofs.Encodes.{row-1, row-2, row-3, row-4}
-use Rattle.utf8_write.proofs.Scalar.{scalar-below}
+use Rattle.utf8_write.proofs.Scalar.{scalar-low, scalar-below}
 
--- a number that is no surrogate and not too great
-scalar-low : (x : ℕ) → x < 0xd800 → scalar x ≡ true
-unfolding scalar
-scalar-low x h = rw (lt-ltb x 0xd800 h)
-
+-- a number past the surrogates and not too great
 scalar-high : (x : ℕ) → 0xe000 ≤ x → x ≤ 0x10ffff → scalar x ≡ true
 unfolding scalar
 scalar-high x g h = rw (le-ltb x 0xd800 (omega arith), le-leb 0xe000 x g, le-leb x 0x10ffff h)

@@ -58,6 +58,6 @@ pub fn write(text: &[u32], out: &mut [u8]) -> Counted
     if out.len() < width {
         return Counted::Refused(Refusal::Room);
     }
-    utf8_write::spill(text, out);
+    utf8_write::spill(text, out, width);
     Counted::Count(width)
 }

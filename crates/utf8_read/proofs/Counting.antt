@@ -7,12 +7,11 @@ use Prim.Native.Nat.{ℕ, suc, _+_, _-_, _≤_, _<_}
 use native.Mathlib.Omega.{arith}
 use native.Mathlib.Numerals.{add-one}
 use lib.ListN.{length, getD, take, drop, take-append-drop, length-drop, length-take, drop-of-length-le}
-use lib.Seq.{take-suc, getD-drop, drop-drop}
+use lib.Seq.{take-suc, drop-drop}
 use Rattle.room.specs.Choice.{pick}
 use Rattle.utf8_read.specs.Grammar.{tail}
 use Rattle.utf8_read.specs.Window.{starts}
 use Rattle.utf8_read.proofs.Tests.{pick-elim}
-use Rattle.utf8_read.proofs.Sequences.{front-1}
 
 pub of-tail : (b : ℕ) → tail b ≡ true → 0 ≡ starts (b ∷ [])
 unfolding starts
@@ -44,10 +43,8 @@ both (b ∷ s) t = go (tail b) refl (both s t)
     go false e h = rw e (omega arith)
 
 -- one byte more
-pub block-more : (s : List ℕ) (at k n m : ℕ) → at + k < length s → n ≡ starts (take k (drop at s)) → m ≡ starts (getD s (at + k) 0 ∷ [])
-    → n + m ≡ starts (take (k + 1) (drop at s))
-block-more s at k n m h e g =
-    rw (add-one k, take-suc (drop at s) k 0 (omega (arith, length-drop at s)), both (take k (drop at s)) (getD (drop at s) k 0 ∷ []), getD-drop at s k 0, e, g)
+pub one-more : (s : List ℕ) (k n m : ℕ) → k < length s → n ≡ starts (take k s) → m ≡ starts (getD s k 0 ∷ []) → n + m ≡ starts (take (k + 1) s)
+one-more s k n m h e g = rw (add-one k, take-suc s k 0 h, both (take k s) (getD s k 0 ∷ []), e, g)
 
 pub record Counted (s : List ℕ) (at n : ℕ) : Type 0 where
   pub most : at ≤ length s
@@ -57,24 +54,26 @@ pub record Counted (s : List ℕ) (at n : ℕ) : Type 0 where
 pub begins : (s : List ℕ) → Counted s 0 0
 begins s = record { most = omega arith; few = omega arith; sum = omega arith }
 
-pub by-block : {s : List ℕ} {at n : ℕ} (m : ℕ) → Counted s at n → 64 ≤ length s - at → m ≡ starts (take 64 (drop at s)) → Counted s (at + 64) (n + m)
-by-block {s} {at} {n} m c h e =
-    let l = c .most in
-    let w = c .few in
+-- the bytes from a place to another, counted
+pub by-block : {s : List ℕ} {at n : ℕ} (e m : ℕ) → Counted s at n → at ≤ e → e ≤ length s → m ≡ starts (take (e - at) (drop at s)) → Counted s e (n + m)
+by-block {s} {at} {n} e m c l h q =
+    let k : ℕ = e - at in
+    let z : at + k ≡ e = omega arith in
     record {
-      most = omega arith;
-      few = omega (arith, at-most (take 64 (drop at s)), length-take 64 (drop at s));
-      sum = omega (arith, c .sum, ap starts (take-append-drop 64 (drop at s)), both (take 64 (drop at s)) (drop 64 (drop at s)), ap starts (drop-drop 64 at s));
+      most = h;
+      few = omega (arith, c .few, at-most (take k (drop at s)), length-take k (drop at s));
+      sum = omega (
+        arith,
+        c .sum,
+        ap starts (take-append-drop k (drop at s)),
+        both (take k (drop at s)) (drop k (drop at s)),
+        ap starts (drop-drop k at s),
+        ap (λ (i : ℕ). starts (drop i s)) z,
+      );
     }
 
-pub by-byte : {s : List ℕ} {at n : ℕ} (m : ℕ) → Counted s at n → at < length s → m ≡ starts (getD s at 0 ∷ []) → Counted s (at + 1) (n + m)
-by-byte {s} {at} {n} m c h e =
-    let w = c .few in
-    record {
-      most = omega arith;
-      few = omega (arith, at-most (getD s at 0 ∷ []));
-      sum = omega (arith, c .sum, ap starts (front-1 s at (omega arith)), both (getD s at 0 ∷ []) (drop (at + 1) s));
-    }
+pub ends : {s : List ℕ} {n : ℕ} → Counted s (length s) n → n ≡ starts s
+ends {s} {n} c = omega (arith, c .sum, ap starts (drop-of-length-le s {i = length s} (omega arith)), none)
 
-pub ends : {s : List ℕ} {at n : ℕ} → Counted s at n → length s ≤ at → n ≡ starts s
-ends {s} {at} {n} c h = omega (arith, c .sum, ap starts (drop-of-length-le s h), none)
+pub short : (s : List ℕ) (at e : ℕ) → e ≤ at + 192 → length (take (e - at) (drop at s)) ≤ 192
+short s at e h = omega (arith, length-take (e - at) (drop at s))

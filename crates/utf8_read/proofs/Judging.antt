@@ -11,7 +11,7 @@ use borrow.Author.Tests.{ltb-true}
 use lib.ListN.{length, getD, drop}
 use Rattle.utf8_read.specs.Grammar.{tail, utf8-2, utf8-3, utf8-4, utf8-char}
 use Rattle.utf8_read.specs.Reading.{good-from, good-end}
-use Rattle.utf8_read.specs.Window.{ones, misfit, Local, Ascii, Clean, Stretch, Reached}
+use Rattle.utf8_read.specs.Window.{ones, misfit, Local, Ascii, Clean, Stretch, Reached, Walked}
 use Rattle.utf8_read.proofs.Tests.{never, or-none, and-both}
 use Rattle.utf8_read.proofs.Rules.{in-two, in-three, in-four}
 use Rattle.utf8_read.proofs.Sequences.{At, stands, none, found, fits}
@@ -161,26 +161,27 @@ stretch-calm {s} {at} {e} f t w n k p =
       fit = local-join s at e f (t .fit) (λ j a b. loc j (omega arith) (omega arith));
     }
 
--- how far the judge has come
-pub record Going (s : List ℕ) (at : ℕ) : Type 0 where
-  pub most : at ≤ length s
-  pub clean : Clean s at
-  pub good : at + good-from 0 (drop at s) ≡ good-end s
+pub on-from : {s : List ℕ} {a b c : ℕ} → Reached s a b → Reached s b c → Reached s a c
+on-from r q = record { least = omega (arith, r .least, q .least); most = q .most; clean = q .clean; good = r .good ∙ q .good }
 
-pub going : (s : List ℕ) → Going s 0
-going s = record { most = omega arith; clean = clean-start s; good = omega arith }
+-- one sequence more
+pub by-one : {s : List ℕ} {a at : ℕ} (n : ℕ) → Reached s a at → n ≡ utf8-char (drop at s) → (n ≡ 0 → ⊥) → Reached s a (at + n) × (0 < n)
+by-one zero r e z = absurd (z refl)
+by-one {s} {a} {at} (suc k) r e z =
+    let q = found s at k (r .most) (sym e) in
+    (record { least = omega (arith, r .least); most = fits q .ends; clean = clean-next q (r .clean); good = r .good ∙ next-good q }, omega arith)
 
-pub by-run : {s : List ℕ} {at p : ℕ} → Going s at → Reached s at p → Going s p
-by-run g r = record { most = r .most; clean = r .clean; good = sym (r .good) ∙ g .good }
+pub by-plain : {s : List ℕ} {a at : ℕ} → Reached s a at → at < length s → getD s at 0 < 0x80 → Reached s a (at + 1)
+by-plain {s} {a} {at} r l h = by-one 1 r (sym (stands {s = s} {at = at} (At.one h (omega arith)))) (λ z. omega arith) .0
 
-pub by-one : {s : List ℕ} {at : ℕ} (n : ℕ) → Going s at → n ≡ utf8-char (drop at s) → (n ≡ 0 → ⊥) → Going s (at + n) × (0 < n)
-by-one zero g e z = absurd (z refl)
-by-one {s} {at} (suc k) g e z =
-    let a = found s at k (g .most) (sym e) in
-    (record { most = fits a .ends; clean = clean-next a (g .clean); good = sym (next-good a) ∙ g .good }, omega arith)
+pub begun : (s : List ℕ) → Reached s 0 0
+begun s = here s 0 (omega arith) (clean-start s)
 
-pub at-end : {s : List ℕ} {at : ℕ} → Going s at → length s ≤ at → at ≡ good-end s
-at-end {s} {at} g h = omega (arith, g .good, end-good s at h)
+-- the good sequences of the whole end at a bad one, or at its end
+pub at-bad : {s : List ℕ} {p : ℕ} → Reached s 0 p → utf8-char (drop p s) ≡ 0 → p ≡ good-end s
+at-bad {s} {p} r z = omega (arith, r .good, stop-good (drop p s) z)
 
-pub at-bad : {s : List ℕ} {at n : ℕ} → Going s at → n ≡ utf8-char (drop at s) → n ≡ 0 → at ≡ good-end s
-at-bad {s} {at} g e z = omega (arith, g .good, stop-good (drop at s) (sym e ∙ z))
+pub at-last : {s : List ℕ} {from p : ℕ} → Reached s 0 from → Walked s from (length s) p → p ≡ good-end s
+at-last {s} {from} {p} r w =
+    let q = on-from r (w .reached) in
+    elim (decLt p (length s)) [ yes l ↦ at-bad q (w .stopped l) | no l ↦ omega (arith, q .good, end-good s p (omega arith)) ]

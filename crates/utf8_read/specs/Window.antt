@@ -58,6 +58,11 @@ pub record Reached (s : List ℕ) (at p : ℕ) : Type 0 where
   pub clean : Clean s p
   pub good : at + good-from 0 (drop at s) ≡ p + good-from 0 (drop p s)
 
+-- good sequences from a place reach p; where p falls short of until, a bad one stands there
+pub record Walked (s : List ℕ) (from until p : ℕ) : Type 0 where
+  pub reached : Reached s from p
+  pub stopped : p < until → utf8-char (drop p s) ≡ 0
+
 -- how many bytes are no tails
 unfoldable pub starts : List ℕ → ℕ
 starts [] = 0

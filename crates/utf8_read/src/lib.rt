@@ -4,14 +4,13 @@
 ghost use mathlib.Core.Path.{_≡_};
 ghost use mathlib.Core.Bool.{true, false};
 ghost use Prim.Native.Nat.{_+_, _%_, _<_, _≤_, _^_, min};
-ghost use lib.ListN.{length, take, drop};
-ghost use lib.Dec.{eqb};
+ghost use lib.ListN.{length, drop};
 ghost use mathlib.Core.List.{[], _∷_};
 ghost use Rattle.room.specs.Placed.{Put, answered};
 ghost use Rattle.utf8_read.specs.Grammar.{tail, utf8-2, utf8-3, utf8-4, utf8-char};
 ghost use Rattle.utf8_read.specs.Table.{more};
 ghost use Rattle.utf8_read.specs.Reading.{good-end, points};
-ghost use Rattle.utf8_read.specs.Window.{ones, misfit, Local, Ascii, Clean, Reached, Stretch, starts, Pointed};
+ghost use Rattle.utf8_read.specs.Window.{ones, misfit, Local, Ascii, Clean, Reached, Walked, Stretch, starts, Pointed};
 
 // The one bits at the top of a byte: the zero bits at the top of its complement.
 fn ones_of(b: u8) -> u32
@@ -139,11 +138,15 @@ fn calm(bytes: &[u8], at: usize) -> bool
     ok
 }
 
-// Whether the 35 bytes of a window are: three blocks, the last one over the end of the second.
+// Whether the 35 bytes of a window are: three blocks, the last one over the end of the second. The first
+// byte past three is asked first, for where it is not ASCII this is all that the question costs.
 fn calm_window(bytes: &[u8], j: usize) -> bool
     requires { ⌜ j + 35 ≤ length (now bytes) ⌝ }
     ensures { λ r. ⌜ (r ≡ true → Ascii (now (bytes .entry)) j (j + 35)) ⌝ }
 {
+    if 0x80 <= bytes[j + 3] {
+        return false;
+    }
     calm(bytes, j) & calm(bytes, j + 16) & calm(bytes, j + 19)
 }
 
@@ -183,12 +186,9 @@ fn back(bytes: &[u8], at: usize, e: usize) -> usize
 
 // A place that good sequences from at reach, as far on as windows fit.
 fn run(bytes: &[u8], at: usize) -> usize
-    requires { ⌜ (at ≤ length (now bytes)) × Clean (now bytes) at ⌝ }
+    requires { ⌜ (3 ≤ at) × (at ≤ length (now bytes)) × Clean (now bytes) at ⌝ }
     ensures { λ r. ⌜ Reached (now (bytes .entry)) at r ⌝ }
 {
-    if at < 3 {
-        return at;
-    }
     let mut e = at;
     'run: while 32 <= bytes.len() - e {
         let j = e - 3;
@@ -205,23 +205,40 @@ fn run(bytes: &[u8], at: usize) -> usize
     back(bytes, at, e)
 }
 
-// The offset of the first byte of the first bad sequence; the length where none is bad.
+// How far good sequences go from a place on, one at a time: to another place or past it, or to a bad one.
+fn one_by_one(bytes: &[u8], from: usize, until: usize) -> usize
+    requires { ⌜ (from ≤ length (now bytes)) × (until ≤ length (now bytes)) × Clean (now bytes) from ⌝ }
+    ensures { λ r. ⌜ Walked (now (bytes .entry)) from until r ⌝ }
+{
+    let mut at = from;
+    'one: while at < until {
+        if bytes[at] < 0x80 {
+            at += 1;
+        } else {
+            let n = length_at(bytes, at);
+            if n == 0 {
+                return at;
+            }
+            at += n;
+        }
+    }
+    at
+}
+
+// The offset of the first byte of the first bad sequence; the length where none is bad. A window looks back
+// three bytes, so that the first ones go one sequence at a time, and so do those behind the last window.
 pub fn good_end_of(bytes: &[u8]) -> usize
     ensures { λ r. ⌜ r ≡ good-end (now (bytes .entry)) ⌝ }
 {
-    let mut at = 0;
-    'judge: while at < bytes.len() {
-        let p = run(bytes, at);
-        if p == bytes.len() {
-            return p;
-        }
-        let n = length_at(bytes, p);
-        if n == 0 {
-            return p;
-        }
-        at = p + n;
+    if bytes.len() < 35 {
+        return one_by_one(bytes, 0, bytes.len());
     }
-    at
+    let first = one_by_one(bytes, 0, 3);
+    if first < 3 {
+        return first;
+    }
+    let far = run(bytes, first);
+    one_by_one(bytes, far, bytes.len())
 }
 
 // 1 for a byte that is no tail.
@@ -231,15 +248,15 @@ fn start_of(b: u8) -> u8
     if is_tail(b) { 0 } else { 1 }
 }
 
-// How many of the 64 bytes from a place on are no tails: in a byte, so that 16 are counted at a time.
-fn starts_block(bytes: &[u8], at: usize) -> u8
-    requires { ⌜ at + 64 ≤ length (now bytes) ⌝ }
-    ensures { λ r. ⌜ r ≡ starts (take 64 (drop at (now (bytes .entry)))) ⌝ }
+// How many of at most 192 bytes are no tails: in a byte, so that 16 are counted at a time.
+fn starts_block(src: &[u8]) -> u8
+    requires { ⌜ length (now src) ≤ 192 ⌝ }
+    ensures { λ r. ⌜ r ≡ starts (now (src .entry)) ⌝ }
 {
     let mut n: u8 = 0;
     let mut k: usize = 0;
-    'block: while k < 64 {
-        n += start_of(bytes[at + k]);
+    'block: while k < src.len() {
+        n += start_of(src[k]);
         k += 1;
     }
     n
@@ -251,15 +268,12 @@ pub fn starts_of(bytes: &[u8]) -> usize
 {
     let mut n: usize = 0;
     let mut at: usize = 0;
-    'many: while 64 <= bytes.len() - at {
-        n += starts_block(bytes, at) as usize;
-        at += 64;
+    'many: while 192 < bytes.len() - at {
+        let next = at + 192;
+        n += starts_block(&bytes[at..next]) as usize;
+        at = next;
     }
-    'rest: while at < bytes.len() {
-        n += start_of(bytes[at]) as usize;
-        at += 1;
-    }
-    n
+    n + starts_block(&bytes[at..]) as usize
 }
 
 // A code point and how many bytes it takes.
@@ -301,20 +315,6 @@ fn four_of(a: u8, b: u8, c: u8, d: u8) -> u32
     push(push(push(wide(a & 0x07), b), c), d)
 }
 
-// Whether the first byte of a sequence of more than one begins two, and three. Each counts for itself:
-// the compiler makes a mask of a count that is compared with one number.
-fn begins_two(a: u8) -> bool
-    ensures { λ r. ⌜ r ≡ eqb (ones a) 2 ⌝ }
-{
-    ones_of(a) == 2
-}
-
-fn begins_three(a: u8) -> bool
-    ensures { λ r. ⌜ r ≡ eqb (ones a) 3 ⌝ }
-{
-    ones_of(a) == 3
-}
-
 // The code point of the good sequence at a place.
 fn point_at(bytes: &[u8], at: usize) -> Point
     requires { ⌜ (at < length (now bytes)) × (0 < utf8-char (drop at (now bytes))) ⌝ }
@@ -325,11 +325,11 @@ fn point_at(bytes: &[u8], at: usize) -> Point
         let code = wide(a);
         return Point { code, len: 1 };
     }
-    if begins_two(a) {
+    if a < 0xe0 {
         let code = two_of(a, bytes[at + 1]);
         return Point { code, len: 2 };
     }
-    if begins_three(a) {
+    if a < 0xf0 {
         let code = three_of(a, bytes[at + 1], bytes[at + 2]);
         return Point { code, len: 3 };
     }
@@ -337,11 +337,14 @@ fn point_at(bytes: &[u8], at: usize) -> Point
     Point { code, len: 4 }
 }
 
-// How far blocks of 16 ASCII bytes go from a place on.
+// How far blocks of 16 ASCII bytes go from a place on; its first byte is asked first, as above.
 fn calm_end(bytes: &[u8], at: usize) -> usize
-    requires { ⌜ at ≤ length (now bytes) ⌝ }
+    requires { ⌜ at < length (now bytes) ⌝ }
     ensures { λ r. ⌜ (at ≤ r) × (r ≤ length (now (bytes .entry))) × Ascii (now (bytes .entry)) at r ⌝ }
 {
+    if 0x80 <= bytes[at] {
+        return at;
+    }
     let mut end = at;
     'calm: while 16 <= bytes.len() - end {
         if !calm(bytes, end) {
@@ -365,16 +368,16 @@ fn widen(src: &[u8], out: &mut [u32], at: usize) -> usize
     at + j
 }
 
-// 16 places on, or the end.
-pub fn near(len: usize, at: usize) -> usize
+// Some places on, or the end.
+pub fn near(len: usize, at: usize, step: usize) -> usize
     requires { ⌜ at ≤ len ⌝ }
-    ensures { λ r. ⌜ r ≡ min len (at + 16) ⌝ }
+    ensures { λ r. ⌜ r ≡ min len (at + step) ⌝ }
 {
-    if len - at < 16 { len } else { at + 16 }
+    if len - at < step { len } else { at + step }
 }
 
 // The code points of a good text, put into a room that holds them: ASCII by blocks, and where a block
-// is not ASCII its 16 bytes one sequence at a time.
+// is not ASCII 32 bytes one sequence at a time.
 pub fn fill(bytes: &[u8], out: &mut [u32])
     requires { ⌜ (good-end (now bytes) ≡ length (now bytes)) × (length (points (now bytes)) ≤ length (now out)) ⌝ }
     ensures { λ r. ⌜ now (out .exit) ≡ answered (points (now (bytes .entry))) (now (out .entry)) ⌝ }
@@ -385,7 +388,7 @@ pub fn fill(bytes: &[u8], out: &mut [u32])
         let end = calm_end(bytes, at);
         n = widen(&bytes[at..end], out, n);
         at = end;
-        let stop = near(bytes.len(), at);
+        let stop = near(bytes.len(), at, 32);
         'some: while at < stop {
             let p = point_at(bytes, at);
             out[n] = p.code;

@@ -9,11 +9,15 @@ use native.Mathlib.Omega.{arith}
 use native.Mathlib.Numerals.{add-one}
 use lib.ListN.{length, getD, drop, drop-of-length-le}
 use lib.Dec.{ltb, leb}
-use borrow.Author.Tests.{ltb-true, leb-true}
+use borrow.Author.Tests.{lt-ltb, ltb-true, leb-true}
 use Rattle.utf8_read.specs.Table.{scalar}
 use Rattle.utf8_read.proofs.Tests.{and-both, or-one, pick-elim}
 use Rattle.utf8_read.proofs.Sequences.{front-1}
 use Rattle.utf8_write.specs.Writing.{scalars, Scalars}
+
+pub scalar-low : (x : ℕ) → x < 0xd800 → scalar x ≡ true
+unfolding scalar
+scalar-low x h = rw (lt-ltb x 0xd800 h)
 
 pub scalar-below : (x : ℕ) → scalar x ≡ true → x < 0x110000
 unfolding scalar

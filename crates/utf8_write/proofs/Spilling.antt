@@ -2,15 +2,15 @@
 -- The bytes of two parts are the bytes of the first and then of the second. Assumes nothing.
 use mathlib.Core.Path.{_≡_, refl, sym, ap, _∙_}
 use mathlib.Core.List.{List, [], _∷_, _++_}
-use Prim.Native.Nat.{ℕ, suc, _+_, _*_, _-_, _≤_, _<_}
+use Prim.Native.Nat.{ℕ, zero, suc, _+_, _*_, _-_, _≤_, _<_}
 use native.Mathlib.Omega.{arith}
 use native.Mathlib.Decide.{decLt}
 use native.Mathlib.Numerals.{add-one}
-use lib.ListN.{length, getD, take, drop, length-append, take-append-drop, length-drop, drop-of-length-le}
+use lib.ListN.{length, getD, take, drop, length-append, take-append-drop, length-drop, length-take, drop-of-length-le}
 use lib.Seq.{take-suc, take-add, take-all, getD-drop, getD-take, drop-drop, length-take-le}
 use borrow.Author.Tests.{le-leb, lt-leb}
 use Rattle.room.specs.Placed.{placed, answered, Put}
-use Rattle.room.proofs.Answers.{one-more, same-room}
+use Rattle.room.proofs.Answers.{at-start, one-more, same-room}
 use Rattle.utf8_read.specs.Table.{encode}
 use Rattle.utf8_read.specs.Window.{Ascii}
 use Rattle.utf8_read.proofs.Sequences.{front-1}
@@ -82,45 +82,38 @@ steps x = elim (decLt x 0x80) [
 ]
 
 -- one number more of a block
-pub block-more : (s : List ℕ) (at k n m : ℕ) → at + k < length s → n ≡ wide (take k (drop at s)) → m ≡ length (encode (getD s (at + k) 0))
-    → n + m ≡ wide (take (k + 1) (drop at s))
-block-more s at k n m h e g =
-    let t : take (k + 1) (drop at s) ≡ take k (drop at s) ++ (getD s (at + k) 0 ∷ [])
-    = rw (add-one k, take-suc (drop at s) k 0 (omega (arith, length-drop at s)), getD-drop at s k 0) in
-    omega (arith, ap (λ (r : List ℕ). wide r) t, wide-both (take k (drop at s)) (getD s (at + k) 0 ∷ []), wide-one (getD s (at + k) 0))
+pub number-more : (s : List ℕ) (k n m : ℕ) → k < length s → n ≡ wide (take k s) → m ≡ length (encode (getD s k 0)) → n + m ≡ wide (take (k + 1) s)
+number-more s k n m h e g =
+    let t : take (k + 1) s ≡ take k s ++ (getD s k 0 ∷ []) = rw (add-one k, take-suc s k 0 h) in
+    omega (arith, ap (λ (r : List ℕ). wide r) t, wide-both (take k s) (getD s k 0 ∷ []), wide-one (getD s k 0))
 
 pub record Measured (s : List ℕ) (at n : ℕ) : Type 0 where
   pub most : at ≤ length s
   pub sum : n + wide (drop at s) ≡ wide s
 
-pub measured-none : (s : List ℕ) → Measured s 0 0
-measured-none s = record { most = omega arith; sum = omega arith }
-
-pub by-block : {s : List ℕ} {at n : ℕ} (m : ℕ) → Measured s at n → 16 ≤ length s - at → m ≡ wide (take 16 (drop at s)) → Measured s (at + 16) (n + m)
-by-block {s} {at} {n} m c h e =
-    let l = c .most in
+-- the numbers from a place to another, measured
+pub by-block : {s : List ℕ} {at n : ℕ} (e m : ℕ) → Measured s at n → at ≤ e → e ≤ length s → m ≡ wide (take (e - at) (drop at s)) → Measured s e (n + m)
+by-block {s} {at} {n} e m c l h q =
+    let k : ℕ = e - at in
+    let z : at + k ≡ e = omega arith in
     record {
-      most = omega arith;
+      most = h;
       sum =
           omega (
             arith,
             c .sum,
-            ap (λ (r : List ℕ). wide r) (take-append-drop 16 (drop at s)),
-            wide-both (take 16 (drop at s))
-                (drop 16 (drop at s)),
-            ap (λ (r : List ℕ). wide r) (drop-drop 16 at s),
+            ap (λ (r : List ℕ). wide r) (take-append-drop k (drop at s)),
+            wide-both (take k (drop at s)) (drop k (drop at s)),
+            ap (λ (r : List ℕ). wide r) (drop-drop k at s),
+            ap (λ (i : ℕ). wide (drop i s)) z,
           );
     }
 
-pub by-number : {s : List ℕ} {at n : ℕ} (m : ℕ) → Measured s at n → at < length s → m ≡ length (encode (getD s at 0)) → Measured s (at + 1) (n + m)
-by-number {s} {at} {n} m c h e = record {
-  most = omega arith;
-  sum =
-      omega (arith, c .sum, ap (λ (r : List ℕ). wide r) (front-1 s at (omega arith)), wide-both (getD s at 0 ∷ []) (drop (at + 1) s), wide-one (getD s at 0));
-}
+pub measured : {s : List ℕ} {n : ℕ} → Measured s (length s) n → n ≡ wide s
+measured {s} {n} c = omega (arith, c .sum, ap (λ (r : List ℕ). wide r) (drop-of-length-le s {i = length s} (omega arith)), wide-none)
 
-pub measured : {s : List ℕ} {at n : ℕ} → Measured s at n → length s ≤ at → n ≡ wide s
-measured {s} {at} {n} c h = omega (arith, c .sum, ap (λ (r : List ℕ). wide r) (drop-of-length-le s h), wide-none)
+pub short : (s : List ℕ) (at e : ℕ) → e ≤ at + 65536 → length (take (e - at) (drop at s)) ≤ 65536
+short s at e h = omega (arith, length-take (e - at) (drop at s))
 
 pub within : {s : List ℕ} {at n : ℕ} → Measured s at n → n ≤ 4 * length s
 within {s} c = omega (arith, c .sum, wide-most s)
@@ -137,6 +130,48 @@ pub part-ascii : (s : List ℕ) (i e : ℕ) → i ≤ e → e ≤ length s → A
 part-ascii s i e l h f k a m =
     let w = length-take-le (e - i) (drop i s) (rw length-drop (omega arith)) in
     rw (getD-take (e - i) (drop i s) k 0 (omega arith), getD-drop i s k 0) (f (i + k) (omega arith) (omega arith))
+
+pub plain-measured : (s : List ℕ) (e : ℕ) → e ≤ length s → Ascii s 0 e → Measured s e e
+plain-measured s e h f = record {
+  most = h;
+  sum =
+      omega (
+        arith,
+        ap (λ (r : List ℕ). wide r) (take-append-drop e s),
+        wide-both (take e s) (drop e s),
+        ap length (plain-all (take e s) (λ k a m. rw (getD-take e s k 0 (omega (arith, length-take-le e s h))) (f k a (omega (arith, length-take-le e s h))))),
+        length-take-le e s h,
+      );
+}
+
+-- a text whose bytes are as many as its numbers is ASCII
+at-least-1 : (x : ℕ) → (1 ≤ length (encode x)) × (length (encode x) ≤ 1 → x < 0x80)
+at-least-1 x = elim (decLt x 0x80) [
+  | yes h ↦ (omega (arith, width-1 x h), λ _. h)
+  | no a ↦ elim (decLt x 0x800) [
+    | yes h ↦ (let w = width-2 x (omega arith) h in (omega arith, λ l. absurd (omega arith)))
+    | no b ↦ elim (decLt x 0x10000) [
+      | yes h ↦ (let w = width-3 x (omega arith) h in (omega arith, λ l. absurd (omega arith)))
+      | no c ↦ (let w = width-4 x (omega arith) in (omega arith, λ l. absurd (omega arith)))
+    ]
+  ]
+]
+
+wide-least : (s : List ℕ) → length s ≤ wide s
+wide-least [] = omega arith
+wide-least (x ∷ s) = omega (arith, wide-both (x ∷ []) s, wide-one x, at-least-1 x .0, wide-least s)
+
+pub narrow-text : (s : List ℕ) → wide s ≡ length s → Ascii s 0 (length s)
+narrow-text [] e k l h = absurd (omega arith)
+narrow-text (x ∷ s) e zero l h = at-least-1 x .1 (omega (arith, wide-both (x ∷ []) s, wide-one x, wide-least s))
+narrow-text (x ∷ s) e (suc k) l h =
+    narrow-text s (omega (arith, wide-both (x ∷ []) s, wide-one x, at-least-1 x .0, wide-least s)) k (omega arith) (omega arith)
+
+pub narrow-room : (s d d′ : List ℕ) (r : ℕ) → wide s ≡ length s → Put s d 0 d′ r → d′ ≡ answered (encode-all s) d
+narrow-room s d d′ r e w = w .stands ∙ at-start s d ∙ ap (λ (a : List ℕ). answered a d) (sym (plain-all s (narrow-text s e)))
+
+pub narrow-long : (s d d′ : List ℕ) (r : ℕ) → wide s ≡ length s → Put s d 0 d′ r → wide s ≤ length d → length d′ ≡ length d
+narrow-long s d d′ r e w h = rw (narrow-room s d d′ r e w) (same-room (encode-all s) d h)
 
 -- how far the room is filled
 pub record Spilling (s d o : List ℕ) (i at : ℕ) : Type 0 where

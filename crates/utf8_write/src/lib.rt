@@ -1,10 +1,11 @@
 // UTF-8, written (RFC 3629): how far numbers are code points, how many bytes these take, and the bytes.
-// Judge and measure go by blocks of 16 numbers, which the compiler makes vectors of.
+// Judge and measure go by many numbers at a time, which the compiler makes vectors of, and begin behind the
+// blocks of ASCII that a text begins with.
 ghost use mathlib.Core.Path.{_≡_};
 ghost use mathlib.Core.Bool.{true};
 ghost use mathlib.Core.List.{[], _∷_};
 ghost use Prim.Native.Nat.{_+_, _/_, _%_, _<_, _≤_, _^_};
-ghost use lib.ListN.{length, take, drop};
+ghost use lib.ListN.{length};
 ghost use Rattle.room.specs.Placed.{Put, answered};
 ghost use Rattle.utf8_read.specs.Table.{scalar, six, encode};
 ghost use Rattle.utf8_read.specs.Window.{Ascii};
@@ -31,11 +32,11 @@ fn clear(text: &[u32], at: usize) -> bool
     ok
 }
 
-// How far whole blocks of code points go.
+// How far whole blocks of code points go, after those of ASCII.
 fn clear_end(text: &[u32]) -> usize
     ensures { λ r. ⌜ (r ≤ length (now (text .entry))) × Scalars (now (text .entry)) 0 r ⌝ }
 {
-    let mut end: usize = 0;
+    let mut end = plain_end(text, 0);
     'many: while 16 <= text.len() - end {
         if !clear(text, end) {
             return end;
@@ -73,15 +74,15 @@ fn width(x: u32) -> u32
     1 + at_least(x, 0x80) + at_least(x, 0x800) + at_least(x, 0x10000)
 }
 
-// How many bytes the 16 numbers from a place on take.
-fn width_block(text: &[u32], at: usize) -> u32
-    requires { ⌜ at + 16 ≤ length (now text) ⌝ }
-    ensures { λ r. ⌜ r ≡ length (encode-all (take 16 (drop at (now (text .entry))))) ⌝ }
+// How many bytes at most 65,536 numbers take.
+fn width_block(src: &[u32]) -> u32
+    requires { ⌜ length (now src) ≤ 65536 ⌝ }
+    ensures { λ r. ⌜ r ≡ length (encode-all (now (src .entry))) ⌝ }
 {
     let mut n: u32 = 0;
     let mut k: usize = 0;
-    'block: while k < 16 {
-        n += width(text[at + k]);
+    'block: while k < src.len() {
+        n += width(src[k]);
         k += 1;
     }
     n
@@ -91,17 +92,15 @@ fn width_block(text: &[u32], at: usize) -> u32
 pub fn width_of(text: &[u32]) -> usize
     ensures { λ r. ⌜ r ≡ length (encode-all (now (text .entry))) ⌝ }
 {
-    let mut n: usize = 0;
-    let mut at: usize = 0;
-    'many: while 16 <= text.len() - at {
-        n += width_block(text, at) as usize;
-        at += 16;
+    let plain = plain_end(text, 0);
+    let mut n = plain;
+    let mut at = plain;
+    'many: while 65536 < text.len() - at {
+        let next = at + 65536;
+        n += width_block(&text[at..next]) as usize;
+        at = next;
     }
-    'rest: while at < text.len() {
-        n += width(text[at]) as usize;
-        at += 1;
-    }
-    n
+    n + width_block(&text[at..]) as usize
 }
 
 // The six low bits under the mark 10.
@@ -245,19 +244,32 @@ fn narrow(src: &[u32], out: &mut [u8], at: usize) -> usize
     at + j
 }
 
-// The bytes of code points, put into a room that holds them: ASCII by blocks, and where a block is
-// not ASCII its 16 numbers one at a time.
-pub fn spill(text: &[u32], out: &mut [u8])
-    requires { ⌜ (scalars (now text) ≡ length (now text)) × (length (encode-all (now text)) ≤ length (now out)) ⌝ }
+// How many numbers go one at a time before ASCII is looked for again: few where the width says that nearly
+// all are ASCII, else so many that looking costs nothing.
+fn pace(len: usize, width: usize) -> usize
+    ensures { λ r. ⌜ 0 < r ⌝ }
+{
+    if width / 17 < len / 16 { 16 } else { 4096 }
+}
+
+// The bytes of code points, as many as the width says, put into a room that holds them: ASCII by blocks, and
+// where a block is not ASCII some numbers one at a time.
+pub fn spill(text: &[u32], out: &mut [u8], width: usize)
+    requires { ⌜ (scalars (now text) ≡ length (now text)) × (length (encode-all (now text)) ≤ length (now out)) × (width ≡ length (encode-all (now text))) ⌝ }
     ensures { λ r. ⌜ now (out .exit) ≡ answered (encode-all (now (text .entry))) (now (out .entry)) ⌝ }
 {
+    if width == text.len() {
+        narrow(text, out, 0);
+        return;
+    }
+    let step = pace(text.len(), width);
     let mut i = 0;
     let mut at = 0;
     'spill: while i < text.len() {
         let end = plain_end(text, i);
         at = narrow(&text[i..end], out, at);
         i = end;
-        let stop = utf8_read::near(text.len(), i);
+        let stop = utf8_read::near(text.len(), i, step);
         'some: while i < stop {
             at = put_code(out, at, text[i]);
             i += 1;

@@ -23,7 +23,7 @@ spill-requires c κs =
     let c2 = c .before .before in
     let c3 = c2 .before in
     let c4 = c3 .before in
-    (all-scalar _ _ (c4 .scalars-of .ensures) (c3 .if1 .left), omega (arith, c2 .width-of .ensures))
+    (all-scalar _ _ (c4 .scalars-of .ensures) (c3 .if1 .left), omega (arith, c2 .width-of .ensures), c2 .width-of .ensures)
 
 same-length : tie.Need-same-length
 same-length c = search needs

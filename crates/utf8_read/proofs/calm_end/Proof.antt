@@ -16,8 +16,18 @@ Inv-calm bytes at end₀ end = (at ≤ end) × (end ≤ length bytes) × Ascii b
 abbrev μ-calm : tie.MeasureT-calm
 μ-calm bytes at end₀ end = length bytes - end
 
+shared-slice-read-if1 : tie.Need-shared-slice-read-if1 Inv-calm μ-calm
+shared-slice-read-if1 c = c .before .before .pre
+
+returns : tie.Need-returns Inv-calm μ-calm
+returns c =
+    let c3 = c .before .before .before in
+    (omega arith, omega (arith, c3 .pre), ascii-none (c3 .args .bytes .now) (c3 .args .at) _ (omega arith))
+
 calm-holds : tie.Need-calm-holds Inv-calm μ-calm
-calm-holds c = (omega arith, c .before .pre, ascii-none (c .before .args .bytes .now) (c .before .args .at) _ (omega arith))
+calm-holds c =
+    let c3 = c .before .before .before in
+    (omega arith, omega (arith, c3 .pre), ascii-none (c3 .args .bytes .now) (c3 .args .at) _ (omega arith))
 
 sub-calm : tie.Need-sub-calm Inv-calm μ-calm
 sub-calm c = c .calm .inv .1
@@ -25,8 +35,8 @@ sub-calm c = c .calm .inv .1
 calm-requires : tie.Need-calm-requires Inv-calm μ-calm
 calm-requires c κs = search needs
 
-returns : tie.Need-returns Inv-calm μ-calm
-returns c = c .before .before .before .calm .inv
+returns-2 : tie.Need-returns-2 Inv-calm μ-calm
+returns-2 c = c .before .before .before .calm .inv
 
 add-calm-far : tie.Need-add-calm-far Inv-calm μ-calm
 add-calm-far c = search needs
@@ -41,16 +51,16 @@ calm-again : tie.Need-calm-again Inv-calm μ-calm
 calm-again c =
     let c2 = c .before .before in
     let c4 = c2 .before .before in
-    let c6 = c4 .before .before in
-    let b = ascii-join (c6 .args .bytes .now) (c6 .args .at) (c4 .calm .end) (c4 .calm .end) (c4 .calm .end + 16) (omega arith) (c4 .calm .inv .2)
-    (c2 .calm2 .ensures (not-false _ (c .before .if1 .left))) in (
+    let c8 = c4 .before .before .before .before in
+    let b = ascii-join (c8 .args .bytes .now) (c8 .args .at) (c4 .calm .end) (c4 .calm .end) (c4 .calm .end + 16) (omega arith) (c4 .calm .inv .2)
+    (c2 .calm2 .ensures (not-false _ (c .before .if2 .left))) in (
       omega (arith, c .calm-far .ensures .0),
       c .calm-far .ensures .1,
-      ascii-join (c6 .args .bytes .now) (c6 .args .at) (c4 .calm .end + 16) (c4 .calm .end + 16) _ (omega arith) b (c .calm-far .ensures .2),
+      ascii-join (c8 .args .bytes .now) (c8 .args .at) (c4 .calm .end + 16) (c4 .calm .end + 16) _ (omega arith) b (c .calm-far .ensures .2),
     )
 
-returns-2 : tie.Need-returns-2 Inv-calm μ-calm
-returns-2 c = c .before .calm .inv
+returns-3 : tie.Need-returns-3 Inv-calm μ-calm
+returns-3 c = c .before .calm .inv
 
 pub calm-end-spec : {M : Type 1} → statement M
 calm-end-spec =
@@ -58,12 +68,14 @@ calm-end-spec =
     (tie.spec
     Inv-calm
     μ-calm
+    shared-slice-read-if1
+    returns
     calm-holds
     sub-calm
     calm-requires
-    returns
+    returns-2
     add-calm-far
     calm-far-requires
     calm-less
     calm-again
-    returns-2)
+    returns-3)

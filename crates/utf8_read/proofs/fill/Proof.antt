@@ -24,7 +24,7 @@ fill-holds : tie.Need-fill-holds Inv-some μ-some Inv-fill μ-fill
 fill-holds c = begins _ _ (c .before .before .pre .0)
 
 calm-end-requires : tie.Need-calm-end-requires Inv-some μ-some Inv-fill μ-fill
-calm-end-requires c κs = c .before .fill .inv .most
+calm-end-requires c κs = c .fill-test .taken
 
 sub-widen : tie.Need-sub-widen Inv-some μ-some Inv-fill μ-fill
 sub-widen c = search needs

@@ -1,69 +1,40 @@
 -- `good_end_of` is where the good sequences end.
--- What is good from the place on stays what is good of the whole: by runs and by one sequence. Assumes nothing.
-use Rattle.utf8_read.proofs.Judging.{Going, going, by-run, by-one, at-end, at-bad}
+-- Good sequences reach each place that it comes to; at the last one a bad sequence stands, or the end. Assumes nothing.
 use native.Mathlib.Omega.{arith}
-use lib.ListN.{length}
-use Prim.Native.Nat.{_-_}
+use Rattle.utf8_read.proofs.Walk.{clean-start}
+use Rattle.utf8_read.proofs.Judging.{begun, on-from, at-bad, at-last}
 use Rattle.utf8_read.proofs.good_end_of.Statement.{statement}
 use Rattle.utf8_read.proofs.good_end_of.Tie as tie
 
-abbrev Inv-judge : tie.InvT-judge
-Inv-judge bytes at₀ at = Going bytes at
+one-by-one-requires : tie.Need-one-by-one-requires
+one-by-one-requires c κs = (omega arith, omega arith, clean-start _)
 
-abbrev μ-judge : tie.MeasureT-judge
-μ-judge bytes at₀ at = length bytes - at
+returns : tie.Need-returns
+returns c = at-last (begun _) (c .one-by-one .ensures)
 
-judge-holds : tie.Need-judge-holds Inv-judge μ-judge
-judge-holds c = going (c .before .args .bytes .now)
+one-by-one-requires-2 : tie.Need-one-by-one-requires-2
+one-by-one-requires-2 c κs = (omega arith, omega arith, clean-start _)
 
-run-requires : tie.Need-run-requires Inv-judge μ-judge
-run-requires c κs = (c .before .judge .inv .most, c .before .judge .inv .clean)
+returns-2 : tie.Need-returns-2
+returns-2 c = at-bad (c .before .one-by-one2 .ensures .reached) (c .before .one-by-one2 .ensures .stopped (c .if2 .taken))
 
-returns : tie.Need-returns Inv-judge μ-judge
-returns c = at-end (by-run (c .before .before .before .judge .inv) (c .before .run .ensures)) (omega arith)
+run-requires : tie.Need-run-requires
+run-requires c κs = (c .if2 .left, c .before .one-by-one2 .ensures .reached .most, c .before .one-by-one2 .ensures .reached .clean)
 
-length-at-requires : tie.Need-length-at-requires Inv-judge μ-judge
-length-at-requires c κs = omega (arith, c .before .run .ensures .most)
+one-by-one-requires-3 : tie.Need-one-by-one-requires-3
+one-by-one-requires-3 c κs = (c .run .ensures .most, omega arith, c .run .ensures .clean)
 
-returns-2 : tie.Need-returns-2 Inv-judge μ-judge
-returns-2 c =
-    let c3 = c .before .before .before in
-    let c5 = c3 .before .before in
-    at-bad (by-run (c5 .judge .inv) (c3 .run .ensures)) (c .before .length-at .ensures) (c .if2 .taken)
-
-add-at : tie.Need-add-at Inv-judge μ-judge
-add-at c =
-    let c3 = c .before .before .before in
-    let c5 = c3 .before .before in
-    omega (arith, by-one _ (by-run (c5 .judge .inv) (c3 .run .ensures)) (c .before .length-at .ensures) (c .if2 .left))
-
-judge-less : tie.Need-judge-less Inv-judge μ-judge
-judge-less c =
-    let c3 = c .before .before .before in
-    let c5 = c3 .before .before in
-    omega (arith, by-one _ (by-run (c5 .judge .inv) (c3 .run .ensures)) (c .before .length-at .ensures) (c .if2 .left), c3 .run .ensures .least)
-
-judge-again : tie.Need-judge-again Inv-judge μ-judge
-judge-again c =
-    let c3 = c .before .before .before in
-    let c5 = c3 .before .before in
-    by-one _ (by-run (c5 .judge .inv) (c3 .run .ensures)) (c .before .length-at .ensures) (c .if2 .left) .0
-
-returns-3 : tie.Need-returns-3 Inv-judge μ-judge
-returns-3 c = at-end (c .before .judge .inv) (omega arith)
+returns-3 : tie.Need-returns-3
+returns-3 c = at-last (on-from (c .before .before .before .one-by-one2 .ensures .reached) (c .before .run .ensures)) (c .one-by-one3 .ensures)
 
 pub good-end-of-spec : {M : Type 1} → statement M
 good-end-of-spec =
     tie.close
     (tie.spec
-    Inv-judge
-    μ-judge
-    judge-holds
-    run-requires
+    one-by-one-requires
     returns
-    length-at-requires
+    one-by-one-requires-2
     returns-2
-    add-at
-    judge-less
-    judge-again
+    run-requires
+    one-by-one-requires-3
     returns-3)

@@ -4,7 +4,7 @@ use Prim.Native.Nat.{_-_}
 use lib.ListN.{length}
 use native.Mathlib.Omega.{arith}
 use Rattle.utf8_read.specs.Window.{Stretch}
-use Rattle.utf8_read.proofs.Judging.{here, stretch-none, stretch-on, stretch-calm}
+use Rattle.utf8_read.proofs.Judging.{stretch-none, stretch-on, stretch-calm}
 use Rattle.utf8_read.proofs.run.Statement.{statement}
 use Rattle.utf8_read.proofs.run.Tie as tie
 
@@ -14,11 +14,8 @@ Inv-run bytes at e₀ e = Stretch bytes at e
 abbrev μ-run : tie.MeasureT-run
 μ-run bytes at e₀ e = length bytes - e
 
-returns : tie.Need-returns Inv-run μ-run
-returns c = here _ _ (c .before .before .pre .0) (c .before .before .pre .1)
-
 run-holds : tie.Need-run-holds Inv-run μ-run
-run-holds c = stretch-none _ _ (omega arith) (c .before .before .pre .0) (c .before .before .pre .1)
+run-holds c = stretch-none _ _ (c .before .pre .0) (c .before .pre .1) (c .before .pre .2)
 
 sub-run : tie.Need-sub-run Inv-run μ-run
 sub-run c = c .run .inv .most
@@ -42,7 +39,7 @@ run-again : tie.Need-run-again Inv-run μ-run
 run-again c =
     let c2 = c .before .before in
     let c4 = c2 .before .before in
-    stretch-calm _ (c4 .run .inv) (c2 .calm-window .ensures (c .before .if2 .taken)) (c .calm-far .ensures .0) (c .calm-far .ensures .1) (c .calm-far .ensures .2)
+    stretch-calm _ (c4 .run .inv) (c2 .calm-window .ensures (c .before .if1 .taken)) (c .calm-far .ensures .0) (c .calm-far .ensures .1) (c .calm-far .ensures .2)
 
 misfits-requires : tie.Need-misfits-requires Inv-run μ-run
 misfits-requires c κs = omega arith
@@ -50,8 +47,8 @@ misfits-requires c κs = omega arith
 back-requires : tie.Need-back-requires Inv-run μ-run
 back-requires c κs = c .before .before .before .before .before .run .inv
 
-returns-2 : tie.Need-returns-2 Inv-run μ-run
-returns-2 c = c .back .ensures
+returns : tie.Need-returns Inv-run μ-run
+returns c = c .back .ensures
 
 run-less-2 : tie.Need-run-less-2 Inv-run μ-run
 run-less-2 c = omega arith
@@ -60,13 +57,13 @@ run-again-2 : tie.Need-run-again-2 Inv-run μ-run
 run-again-2 c =
     let c4 = c .before .before .before .before in
     let c5 = c4 .before in
-    stretch-on (c5 .run .inv) (c4 .run-test .taken) (c .before .misfits .ensures (c .if3 .left))
+    stretch-on (c5 .run .inv) (c4 .run-test .taken) (c .before .misfits .ensures (c .if2 .left))
 
 back-requires-2 : tie.Need-back-requires-2 Inv-run μ-run
 back-requires-2 c κs = c .before .run .inv
 
-returns-3 : tie.Need-returns-3 Inv-run μ-run
-returns-3 c = c .back2 .ensures
+returns-2 : tie.Need-returns-2 Inv-run μ-run
+returns-2 c = c .back2 .ensures
 
 pub run-spec : {M : Type 1} → statement M
 run-spec =
@@ -74,7 +71,6 @@ run-spec =
     (tie.spec
     Inv-run
     μ-run
-    returns
     run-holds
     sub-run
     sub-j
@@ -85,8 +81,8 @@ run-spec =
     run-again
     misfits-requires
     back-requires
-    returns-2
+    returns
     run-less-2
     run-again-2
     back-requires-2
-    returns-3)
+    returns-2)

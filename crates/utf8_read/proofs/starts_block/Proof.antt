@@ -1,27 +1,25 @@
 -- `starts_block` counts the bytes of a block that are no tails.
 -- The count so far is that of the bytes so far. Assumes nothing.
-use Rattle.utf8_read.proofs.Counting.{none, at-most, block-more}
+use Rattle.utf8_read.proofs.Counting.{none, at-most, one-more}
 use Rattle.utf8_read.specs.Window.{starts}
 use native.Mathlib.Omega.{arith}
-use lib.ListN.{take, drop, getD, length-take}
+use lib.ListN.{length, take, getD, length-take}
+use lib.Seq.{take-all}
 use mathlib.Core.Path.{_≡_, ap, _∙_}
 use mathlib.Core.List.{[], _∷_}
-use Prim.Native.Nat.{ℕ, _+_, _-_, _≤_}
+use Prim.Native.Nat.{_-_, _≤_}
 use borrow.Author.Needs.{needs}
 use Rattle.utf8_read.proofs.starts_block.Statement.{statement}
 use Rattle.utf8_read.proofs.starts_block.Tie as tie
 
 abbrev Inv-block : tie.InvT-block
-Inv-block bytes at n₀ k₀ n k = (k ≤ 64) × (n ≡ starts (take k (drop at bytes)))
+Inv-block src n₀ k₀ n k = (k ≤ length src) × (n ≡ starts (take k src))
 
 abbrev μ-block : tie.MeasureT-block
-μ-block bytes at n₀ k₀ n k = 64 - k
+μ-block src n₀ k₀ n k = length src - k
 
 block-holds : tie.Need-block-holds Inv-block μ-block
 block-holds c = (omega arith, none)
-
-add-start-of : tie.Need-add-start-of Inv-block μ-block
-add-start-of c = omega arith
 
 shared-slice-read-start-of : tie.Need-shared-slice-read-start-of Inv-block μ-block
 shared-slice-read-start-of c = omega arith
@@ -36,12 +34,11 @@ add-n c =
     omega (
       arith,
       c3 .block .inv .1,
-      at-most (take (c3 .block .k) (drop (c5 .args .at) (c5 .args .bytes .now))),
-      length-take (c3 .block .k)
-          (drop (c5 .args .at) (c5 .args .bytes .now)),
+      at-most (take (c3 .block .k) (c5 .args .src .now)),
+      length-take (c3 .block .k) (c5 .args .src .now),
       c .start-of .ensures,
-      at-most
-          (getD (c5 .args .bytes .now) (c5 .args .at + c3 .block .k) 0 ∷ []),
+      at-most (getD (c5 .args .src .now) (c3 .block .k) 0 ∷ []),
+      c5 .pre,
     )
 
 add-k : tie.Need-add-k Inv-block μ-block
@@ -53,13 +50,10 @@ block-less c = omega arith
 block-again : tie.Need-block-again Inv-block μ-block
 block-again c =
     let c3 = c .before .before .before in
-    let c5 = c3 .before .before in
-    (omega arith, block-more (c5 .args .bytes .now) (c5 .args .at) (c3 .block .k) _ _ (omega arith) (c3 .block .inv .1) (c .start-of .ensures))
+    (omega arith, one-more (c3 .before .before .args .src .now) (c3 .block .k) _ _ (omega arith) (c3 .block .inv .1) (c .start-of .ensures))
 
 returns : tie.Need-returns Inv-block μ-block
-returns c =
-    let c3 = c .before .before .before in
-    c .before .block .inv .1 ∙ ap (λ (k : ℕ). starts (take k (drop (c3 .args .at) (c3 .args .bytes .now)))) (let z : c .before .block .k ≡ 64 = omega arith in z)
+returns c = c .before .block .inv .1 ∙ ap starts (take-all (c .before .block .k) (c .before .before .before .args .src .now) (omega arith))
 
 pub starts-block-spec : {M : Type 1} → statement M
 starts-block-spec =
@@ -68,7 +62,6 @@ starts-block-spec =
     Inv-block
     μ-block
     block-holds
-    add-start-of
     shared-slice-read-start-of
     start-of-requires
     add-n

@@ -1,9 +1,9 @@
 -- `starts_of` counts the bytes that are no tails.
--- Both loops keep the count so far and the count of what is left together. Assumes nothing.
-use Prim.Native.Nat.{_-_}
+-- The loop keeps the count so far and the count of what is left together. Assumes nothing.
+use Prim.Native.Nat.{_+_, _-_}
 use lib.ListN.{length}
 use native.Mathlib.Omega.{arith}
-use Rattle.utf8_read.proofs.Counting.{Counted, begins, by-block, by-byte, ends}
+use Rattle.utf8_read.proofs.Counting.{Counted, begins, by-block, ends, short}
 use borrow.Author.Needs.{needs}
 use Rattle.utf8_read.proofs.starts_of.Statement.{statement}
 use Rattle.utf8_read.proofs.starts_of.Tie as tie
@@ -14,62 +14,71 @@ Inv-many bytes n₀ at₀ n at = Counted bytes at n
 abbrev μ-many : tie.MeasureT-many
 μ-many bytes n₀ at₀ n at = length bytes - at
 
-abbrev Inv-rest : tie.InvT-rest
-Inv-rest bytes n₀ at₀ n at = Counted bytes at n
-
-abbrev μ-rest : tie.MeasureT-rest
-μ-rest bytes n₀ at₀ n at = length bytes - at
-
-many-holds : tie.Need-many-holds Inv-many μ-many Inv-rest μ-rest
+many-holds : tie.Need-many-holds Inv-many μ-many
 many-holds c = begins _
 
-sub-many : tie.Need-sub-many Inv-many μ-many Inv-rest μ-rest
+sub-many : tie.Need-sub-many Inv-many μ-many
 sub-many c = c .many .inv .most
 
-starts-block-requires : tie.Need-starts-block-requires Inv-many μ-many Inv-rest μ-rest
-starts-block-requires c κs = search needs
+add-next : tie.Need-add-next Inv-many μ-many
+add-next c = omega arith
 
-cast-n : tie.Need-cast-n Inv-many μ-many Inv-rest μ-rest
+sub-starts-block : tie.Need-sub-starts-block Inv-many μ-many
+sub-starts-block c = omega arith
+
+part-starts-block-start : tie.Need-part-starts-block-start Inv-many μ-many
+part-starts-block-start c = search needs
+
+part-starts-block-end : tie.Need-part-starts-block-end Inv-many μ-many
+part-starts-block-end c = search needs
+
+starts-block-requires : tie.Need-starts-block-requires Inv-many μ-many
+starts-block-requires c κs = short (c .before .before .before .before .args .bytes .now) (c .before .before .many .at) (c .before .before .many .at + 192) (omega arith)
+
+cast-n : tie.Need-cast-n Inv-many μ-many
 cast-n c = search needs
 
-add-n : tie.Need-add-n Inv-many μ-many Inv-rest μ-rest
-add-n c = omega (arith, by-block _ (c .before .before .many .inv) (c .before .many-test .taken) (c .starts-block .ensures))
+add-n : tie.Need-add-n Inv-many μ-many
+add-n c =
+    let c3 = c .before .before .before in
+    omega (arith, by-block (c3 .many .at + 192) _ (c3 .many .inv) (omega arith) (omega arith) (c .starts-block .ensures))
 
-add-at : tie.Need-add-at Inv-many μ-many Inv-rest μ-rest
-add-at c = search needs
+many-less : tie.Need-many-less Inv-many μ-many
+many-less c = omega arith
 
-many-less : tie.Need-many-less Inv-many μ-many Inv-rest μ-rest
-many-less c = search needs
+many-again : tie.Need-many-again Inv-many μ-many
+many-again c =
+    let c3 = c .before .before .before in
+    by-block (c3 .many .at + 192) _ (c3 .many .inv) (omega arith) (omega arith) (c .starts-block .ensures)
 
-many-again : tie.Need-many-again Inv-many μ-many Inv-rest μ-rest
-many-again c = by-block _ (c .before .before .many .inv) (c .before .many-test .taken) (c .starts-block .ensures)
+sub-starts-block-2 : tie.Need-sub-starts-block-2 Inv-many μ-many
+sub-starts-block-2 c = search needs
 
-rest-holds : tie.Need-rest-holds Inv-many μ-many Inv-rest μ-rest
-rest-holds c = c .before .many .inv
+part-starts-block-start-2 : tie.Need-part-starts-block-start-2 Inv-many μ-many
+part-starts-block-start-2 c = search needs
 
-shared-slice-read-start-of : tie.Need-shared-slice-read-start-of Inv-many μ-many Inv-rest μ-rest
-shared-slice-read-start-of c = search needs
+part-starts-block-end-2 : tie.Need-part-starts-block-end-2 Inv-many μ-many
+part-starts-block-end-2 c = search needs
 
-start-of-requires : tie.Need-start-of-requires Inv-many μ-many Inv-rest μ-rest
-start-of-requires c κs = search needs
+starts-block-requires-2 : tie.Need-starts-block-requires-2 Inv-many μ-many
+starts-block-requires-2 c κs =
+    let c4 = c .before .before .before .before in
+    short (c4 .args .bytes .now) (c .before .before .many .at) (length (c4 .args .bytes .now)) (omega arith)
 
-cast-n-2 : tie.Need-cast-n-2 Inv-many μ-many Inv-rest μ-rest
-cast-n-2 c = search needs
+cast-result : tie.Need-cast-result Inv-many μ-many
+cast-result c = search needs
 
-add-n-2 : tie.Need-add-n-2 Inv-many μ-many Inv-rest μ-rest
-add-n-2 c = omega (arith, by-byte _ (c .before .before .before .rest .inv) (c .before .before .rest-test .taken) (c .start-of .ensures))
+add-result : tie.Need-add-result Inv-many μ-many
+add-result c =
+    let c3 = c .before .before .before in
+    let c5 = c3 .before .before in
+    omega (arith, by-block (length (c5 .args .bytes .now)) _ (c3 .many .inv) (c3 .many .inv .most) (omega arith) (c .starts-block2 .ensures))
 
-add-at-2 : tie.Need-add-at-2 Inv-many μ-many Inv-rest μ-rest
-add-at-2 c = search needs
-
-rest-less : tie.Need-rest-less Inv-many μ-many Inv-rest μ-rest
-rest-less c = search needs
-
-rest-again : tie.Need-rest-again Inv-many μ-many Inv-rest μ-rest
-rest-again c = by-byte _ (c .before .before .before .rest .inv) (c .before .before .rest-test .taken) (c .start-of .ensures)
-
-returns : tie.Need-returns Inv-many μ-many Inv-rest μ-rest
-returns c = ends (c .before .rest .inv) (omega arith)
+returns : tie.Need-returns Inv-many μ-many
+returns c =
+    let c3 = c .before .before .before in
+    let c5 = c3 .before .before in
+    ends (by-block (length (c5 .args .bytes .now)) _ (c3 .many .inv) (c3 .many .inv .most) (omega arith) (c .starts-block2 .ensures))
 
 pub starts-of-spec : {M : Type 1} → statement M
 starts-of-spec =
@@ -77,22 +86,21 @@ starts-of-spec =
     (tie.spec
     Inv-many
     μ-many
-    Inv-rest
-    μ-rest
     many-holds
     sub-many
+    add-next
+    sub-starts-block
+    part-starts-block-start
+    part-starts-block-end
     starts-block-requires
     cast-n
     add-n
-    add-at
     many-less
     many-again
-    rest-holds
-    shared-slice-read-start-of
-    start-of-requires
-    cast-n-2
-    add-n-2
-    add-at-2
-    rest-less
-    rest-again
+    sub-starts-block-2
+    part-starts-block-start-2
+    part-starts-block-end-2
+    starts-block-requires-2
+    cast-result
+    add-result
     returns)

@@ -1,6 +1,7 @@
 -- `clear_end` goes on by blocks of code points.
--- Stretches of code points join. Assumes nothing.
+-- ASCII numbers are code points, and stretches of code points join. Assumes nothing.
 use Rattle.utf8_write.specs.Writing.{Scalars}
+use Rattle.utf8_write.proofs.Scalar.{scalar-low}
 use Rattle.utf8_read.proofs.Judging.{each-join}
 use Rattle.utf8_read.specs.Table.{scalar}
 use borrow.Author.Tests.{not-false}
@@ -18,8 +19,11 @@ Inv-many text end₀ end = (end ≤ length text) × Scalars text 0 end
 abbrev μ-many : tie.MeasureT-many
 μ-many text end₀ end = length text - end
 
+plain-end-requires : tie.Need-plain-end-requires Inv-many μ-many
+plain-end-requires c κs = omega arith
+
 many-holds : tie.Need-many-holds Inv-many μ-many
-many-holds c = (omega arith, λ k l m. absurd (omega arith))
+many-holds c = (c .plain-end .ensures .1, λ k l m. scalar-low _ (omega (arith, c .plain-end .ensures .2 k l m)))
 
 sub-many : tie.Need-sub-many Inv-many μ-many
 sub-many c = c .many .inv .0
@@ -39,9 +43,9 @@ many-less c = omega arith
 many-again : tie.Need-many-again Inv-many μ-many
 many-again c =
     let c3 = c .before .before .before in
-    let c5 = c3 .before .before in (
+    let c6 = c3 .before .before .before in (
       omega arith,
-      each-join (λ (x : ℕ). scalar x ≡ true) (c5 .args .text .now) 0 (c3 .many .end) (c3 .many .end) _ (omega arith) (c3 .many .inv .1)
+      each-join (λ (x : ℕ). scalar x ≡ true) (c6 .args .text .now) 0 (c3 .many .end) (c3 .many .end) _ (omega arith) (c3 .many .inv .1)
           (c .before .clear .ensures (not-false _ (c .if1 .left))),
     )
 
@@ -54,6 +58,7 @@ clear-end-spec =
     (tie.spec
     Inv-many
     μ-many
+    plain-end-requires
     many-holds
     sub-many
     clear-requires

@@ -1,78 +1,93 @@
 -- `width_of` is how many bytes a text takes.
--- Both loops keep the width so far and the width of what is left together. Assumes nothing.
-use Rattle.utf8_write.proofs.Spilling.{Measured, measured-none, by-block, by-number, measured, within}
-use native.Mathlib.Omega.{arith}
+-- The ASCII at its start is as wide as it is long; the loop keeps the width so far and the width of what is left together. Assumes nothing.
+use Prim.Native.Nat.{_+_, _-_}
 use lib.ListN.{length}
-use Prim.Native.Nat.{_-_}
+use native.Mathlib.Omega.{arith}
+use Rattle.utf8_write.proofs.Spilling.{Measured, plain-measured, by-block, measured, within, short}
 use borrow.Author.Needs.{needs}
 use Rattle.utf8_write.proofs.width_of.Statement.{statement}
 use Rattle.utf8_write.proofs.width_of.Tie as tie
 
 abbrev Inv-many : tie.InvT-many
-Inv-many text n₀ at₀ n at = Measured text at n
+Inv-many text plain n₀ at₀ n at = Measured text at n
 
 abbrev μ-many : tie.MeasureT-many
-μ-many text n₀ at₀ n at = length text - at
+μ-many text plain n₀ at₀ n at = length text - at
 
-abbrev Inv-rest : tie.InvT-rest
-Inv-rest text n₀ at₀ n at = Measured text at n
+plain-end-requires : tie.Need-plain-end-requires Inv-many μ-many
+plain-end-requires c κs = omega arith
 
-abbrev μ-rest : tie.MeasureT-rest
-μ-rest text n₀ at₀ n at = length text - at
+many-holds : tie.Need-many-holds Inv-many μ-many
+many-holds c = plain-measured _ _ (c .plain-end .ensures .1) (c .plain-end .ensures .2)
 
-many-holds : tie.Need-many-holds Inv-many μ-many Inv-rest μ-rest
-many-holds c = measured-none _
-
-sub-many : tie.Need-sub-many Inv-many μ-many Inv-rest μ-rest
+sub-many : tie.Need-sub-many Inv-many μ-many
 sub-many c = c .many .inv .most
 
-width-block-requires : tie.Need-width-block-requires Inv-many μ-many Inv-rest μ-rest
-width-block-requires c κs = search needs
+add-next : tie.Need-add-next Inv-many μ-many
+add-next c = omega arith
 
-cast-n : tie.Need-cast-n Inv-many μ-many Inv-rest μ-rest
+mul-width-block : tie.Need-mul-width-block Inv-many μ-many
+mul-width-block c = search needs
+
+sub-width-block : tie.Need-sub-width-block Inv-many μ-many
+sub-width-block c = omega arith
+
+part-width-block-start : tie.Need-part-width-block-start Inv-many μ-many
+part-width-block-start c = search needs
+
+part-width-block-end : tie.Need-part-width-block-end Inv-many μ-many
+part-width-block-end c = search needs
+
+width-block-requires : tie.Need-width-block-requires Inv-many μ-many
+width-block-requires c κs = short (c .before .before .before .before .before .args .text .now) (c .before .before .many .at) (c .before .before .many .at + 65536) (omega arith)
+
+cast-n : tie.Need-cast-n Inv-many μ-many
 cast-n c = search needs
 
-add-n : tie.Need-add-n Inv-many μ-many Inv-rest μ-rest
-add-n c = omega (arith, within (by-block _ (c .before .before .many .inv) (c .before .many-test .taken) (c .width-block .ensures)))
+add-n : tie.Need-add-n Inv-many μ-many
+add-n c =
+    let c3 = c .before .before .before in
+    omega (arith, within (by-block (c3 .many .at + 65536) _ (c3 .many .inv) (omega arith) (omega arith) (c .width-block .ensures)))
 
-add-at : tie.Need-add-at Inv-many μ-many Inv-rest μ-rest
-add-at c = search needs
+many-less : tie.Need-many-less Inv-many μ-many
+many-less c = omega arith
 
-many-less : tie.Need-many-less Inv-many μ-many Inv-rest μ-rest
-many-less c = search needs
+many-again : tie.Need-many-again Inv-many μ-many
+many-again c =
+    let c3 = c .before .before .before in
+    by-block (c3 .many .at + 65536) _ (c3 .many .inv) (omega arith) (omega arith) (c .width-block .ensures)
 
-many-again : tie.Need-many-again Inv-many μ-many Inv-rest μ-rest
-many-again c = by-block _ (c .before .before .many .inv) (c .before .many-test .taken) (c .width-block .ensures)
+mul-width-block-2 : tie.Need-mul-width-block-2 Inv-many μ-many
+mul-width-block-2 c = search needs
 
-rest-holds : tie.Need-rest-holds Inv-many μ-many Inv-rest μ-rest
-rest-holds c = c .before .many .inv
+sub-width-block-2 : tie.Need-sub-width-block-2 Inv-many μ-many
+sub-width-block-2 c = search needs
 
-mul-width : tie.Need-mul-width Inv-many μ-many Inv-rest μ-rest
-mul-width c = search needs
+part-width-block-start-2 : tie.Need-part-width-block-start-2 Inv-many μ-many
+part-width-block-start-2 c = search needs
 
-shared-slice-read-width : tie.Need-shared-slice-read-width Inv-many μ-many Inv-rest μ-rest
-shared-slice-read-width c = search needs
+part-width-block-end-2 : tie.Need-part-width-block-end-2 Inv-many μ-many
+part-width-block-end-2 c = search needs
 
-width-requires : tie.Need-width-requires Inv-many μ-many Inv-rest μ-rest
-width-requires c κs = search needs
+width-block-requires-2 : tie.Need-width-block-requires-2 Inv-many μ-many
+width-block-requires-2 c κs =
+    let c5 = c .before .before .before .before .before in
+    short (c5 .args .text .now) (c .before .before .many .at) (length (c5 .args .text .now)) (omega arith)
 
-cast-n-2 : tie.Need-cast-n-2 Inv-many μ-many Inv-rest μ-rest
-cast-n-2 c = search needs
+cast-result : tie.Need-cast-result Inv-many μ-many
+cast-result c = search needs
 
-add-n-2 : tie.Need-add-n-2 Inv-many μ-many Inv-rest μ-rest
-add-n-2 c = omega (arith, within (by-number _ (c .before .before .before .rest .inv) (c .before .before .rest-test .taken) (c .width .ensures)))
+add-result : tie.Need-add-result Inv-many μ-many
+add-result c =
+    let c3 = c .before .before .before in
+    let c6 = c3 .before .before .before in
+    omega (arith, within (by-block (length (c6 .args .text .now)) _ (c3 .many .inv) (c3 .many .inv .most) (omega arith) (c .width-block2 .ensures)))
 
-add-at-2 : tie.Need-add-at-2 Inv-many μ-many Inv-rest μ-rest
-add-at-2 c = search needs
-
-rest-less : tie.Need-rest-less Inv-many μ-many Inv-rest μ-rest
-rest-less c = search needs
-
-rest-again : tie.Need-rest-again Inv-many μ-many Inv-rest μ-rest
-rest-again c = by-number _ (c .before .before .before .rest .inv) (c .before .before .rest-test .taken) (c .width .ensures)
-
-returns : tie.Need-returns Inv-many μ-many Inv-rest μ-rest
-returns c = measured (c .before .rest .inv) (omega arith)
+returns : tie.Need-returns Inv-many μ-many
+returns c =
+    let c3 = c .before .before .before in
+    let c6 = c3 .before .before .before in
+    measured (by-block (length (c6 .args .text .now)) _ (c3 .many .inv) (c3 .many .inv .most) (omega arith) (c .width-block2 .ensures))
 
 pub width-of-spec : {M : Type 1} → statement M
 width-of-spec =
@@ -80,23 +95,24 @@ width-of-spec =
     (tie.spec
     Inv-many
     μ-many
-    Inv-rest
-    μ-rest
+    plain-end-requires
     many-holds
     sub-many
+    add-next
+    mul-width-block
+    sub-width-block
+    part-width-block-start
+    part-width-block-end
     width-block-requires
     cast-n
     add-n
-    add-at
     many-less
     many-again
-    rest-holds
-    mul-width
-    shared-slice-read-width
-    width-requires
-    cast-n-2
-    add-n-2
-    add-at-2
-    rest-less
-    rest-again
+    mul-width-block-2
+    sub-width-block-2
+    part-width-block-start-2
+    part-width-block-end-2
+    width-block-requires-2
+    cast-result
+    add-result
     returns)
