@@ -5,6 +5,28 @@ pub mod accepted;
 
 use std::fmt::{Display, Write};
 
+/// The longest part that is looked for again, and how much its repeats have to make up.
+const LONGEST_PART: usize = 48;
+const LONG_REPEAT: usize = 20;
+
+/// How often the numbers begin with a part and how long that is: of the parts, the one whose
+/// repeats reach furthest, and the shortest of these.
+fn repeated<N: PartialEq>(numbers: &[N]) -> (usize, usize) {
+    let mut best = (1, 1);
+    for size in 1..=LONGEST_PART.min(numbers.len()) {
+        let alike = numbers
+            .iter()
+            .zip(&numbers[size..])
+            .take_while(|(number, later)| number == later)
+            .count();
+        let times = alike / size + 1;
+        if times > 1 && times * size > best.0 * best.1 {
+            best = (times, size);
+        }
+    }
+    best
+}
+
 /// The text of one vector file, growing line by line.
 #[derive(Debug, Clone, Default)]
 pub struct Vectors {
@@ -25,6 +47,34 @@ impl Vectors {
             write!(self.text, "{number}").expect("writing into a String does not fail");
         }
         self.text.push('\n');
+    }
+
+    /// Appends one line of pieces: how often a piece stands, how many numbers it has, and these.
+    /// What repeats much is said once, so that sizes at their limits make short lines.
+    pub fn pieces<N: Display + PartialEq>(&mut self, numbers: &[N]) {
+        let mut words: Vec<String> = Vec::new();
+        let mut piece = |times: usize, part: &[N]| {
+            words.extend([times, part.len()].map(|count| count.to_string()));
+            words.extend(part.iter().map(N::to_string));
+        };
+        let (mut plain, mut at) = (0, 0);
+        while at < numbers.len() {
+            let (times, size) = repeated(&numbers[at..]);
+            if times * size < LONG_REPEAT {
+                at += 1;
+                continue;
+            }
+            if plain < at {
+                piece(1, &numbers[plain..at]);
+            }
+            piece(times, &numbers[at..at + size]);
+            at += times * size;
+            plain = at;
+        }
+        if plain < at {
+            piece(1, &numbers[plain..]);
+        }
+        self.line(&words);
     }
 
     /// Appends another file's lines.

@@ -1,9 +1,10 @@
 //! Edit files: the paper's own, every rule broken once, every proper beginning, numbers of 1 to
-//! 40 digits, flipped bits; diffs to write, each refusal at each place, sums past every number.
+//! 40 digits, every bit flipped, each size at its limit and one past it, originals that fit or
+//! not; diffs to write, each refusal at each place, sums past every number, each size likewise.
 
-use super::super::edit_file;
-use super::super::refusal::AMPLE;
-use super::{NO_CODE_POINTS, PIECE, PIECES, one_part, points, replaced, two_parts};
+use super::super::edit_file::{self, EditFile};
+use super::super::refusal::{AMPLE, size};
+use super::{NO_CODE_POINTS, PIECE, PIECES, answer, points, replaced};
 use crate::flat::{ITEM_STRIDE, NUMBER, TEXT};
 use crate::random::Random;
 use crate::vectors::Vectors;
@@ -20,6 +21,12 @@ const LONG: &str = "form=1\noriginal=120\nresult=23\nitems=3\ndrop=100\nkeep=20\
                     add=1f411 0 a\nend=3\n";
 /// The shortest with an item.
 const SHORT: &str = "form=1\noriginal=0\nresult=1\nitems=1\nadd=a\nend=1\n";
+/// These, each with the original's length that it is for.
+const WHOLE: [(&str, usize); 5] = [(SHEET, 6), (EMPTY, 0), (KINDS, 3), (LONG, 120), (SHORT, 0)];
+
+/// So many lines of so many code points make 131,070.
+const PARTS: usize = PIECES / 10;
+const PART: usize = PIECE * 10;
 
 /// Each line of `KINDS` in turn becomes each of these; `@` stands for its key, `#` for the rest.
 const BROKEN_LINES: [&str; 12] = [
@@ -144,28 +151,71 @@ const WRAPPING: [&str; 5] = [
     "340282366920938463463374607431768211457",
 ];
 
+/// A case of reading: file, answer, text, items; the lengths given and for each whether the file
+/// is believed; the lines charged to its proper beginnings and to its flipped bits, if wanted.
+fn read_case(vectors: &mut Vectors, bytes: &[u8], lengths: &[usize], damaged: bool) {
+    let file = edit_file::read(bytes, AMPLE, AMPLE);
+    vectors.pieces(bytes);
+    let counts = |file: &EditFile| vec![file.items.len() / ITEM_STRIDE, file.text.len()];
+    answer(vectors, file.as_ref().map(counts).map_err(|no| *no));
+    let (items, text) = file.map_or_else(|_| Default::default(), |file| (file.items, file.text));
+    vectors.pieces(&text);
+    vectors.pieces(&items);
+    let believed = |&length: &usize| [length, edit_file::believed(bytes, length).into()];
+    vectors.line(&lengths.iter().flat_map(believed).collect::<Vec<_>>());
+    let places = 0..if damaged { bytes.len() } else { 0 };
+    let beginnings = places.clone().map(|length| charged(&bytes[..length]));
+    vectors.line(&beginnings.collect::<Vec<_>>());
+    let flips = places.flat_map(|place| (0..8).map(move |bit| flipped(bytes, place, bit)));
+    vectors.line(&flips.map(|bytes| charged(&bytes)).collect::<Vec<_>>());
+}
+
+/// The line charged, 0 where the file is accepted.
+fn charged(bytes: &[u8]) -> u64 {
+    match edit_file::read(bytes, AMPLE, AMPLE) {
+        Ok(_) => 0,
+        Err(refusal) => refusal.values()[0],
+    }
+}
+
+fn flipped(bytes: &[u8], place: usize, bit: u32) -> Vec<u8> {
+    let mut bytes = bytes.to_vec();
+    bytes[place] ^= 1 << bit;
+    bytes
+}
+
 pub fn read() -> Vectors {
     let mut vectors = Vectors::new();
-    let mut case = |bytes: &[u8]| {
-        vectors.line(bytes);
-        let file = edit_file::read(bytes, AMPLE, AMPLE);
-        two_parts(
-            &mut vectors,
-            file.map(|file| (file.items, file.text)),
-            [ITEM_STRIDE, 1],
-        );
-    };
 
-    for file in FILES {
-        case(file.as_bytes());
-    }
-    for file in [SHEET, EMPTY, LONG] {
-        for length in 0..=file.len() {
-            case(&file.as_bytes()[..length]);
+    // The paper's files and others like them, whole and damaged, for originals that fit or not.
+    for (file, length) in WHOLE {
+        let bytes = file.as_bytes();
+        let lengths = [
+            length,
+            length + 1,
+            length.wrapping_sub(1),
+            length + (1 << 32),
+        ];
+        read_case(&mut vectors, bytes, &lengths, true);
+        let lengths = &lengths[..1];
+        read_case(&mut vectors, &[bytes, b"\n"].concat(), lengths, false);
+        for place in 0..bytes.len() {
+            for damaged in (0..8).map(|bit| flipped(bytes, place, bit)) {
+                if charged(&damaged) == 0 {
+                    read_case(&mut vectors, &damaged, lengths, false);
+                }
+            }
         }
     }
+    for file in FILES {
+        read_case(&mut vectors, file.as_bytes(), &[0, 1, 2, 3, 4], false);
+    }
+    for file in limits() {
+        read_case(&mut vectors, file.as_bytes(), &[65_535, 65_536], false);
+    }
+    let mut case = |file: &str| read_case(&mut vectors, file.as_bytes(), &[1], false);
     for broken in broken_lines() {
-        case(broken.as_bytes());
+        case(&broken);
     }
     for line in ITEM_LINES {
         let (original, result) = if line.starts_with("add=") {
@@ -173,32 +223,79 @@ pub fn read() -> Vectors {
         } else {
             (1, 1)
         };
-        let file =
-            format!("form=1\noriginal={original}\nresult={result}\nitems=1\n{line}\nend=1\n");
-        case(file.as_bytes());
+        case(&format!(
+            "form=1\noriginal={original}\nresult={result}\nitems=1\n{line}\nend=1\n"
+        ));
     }
-    for (place, file) in NUMBERS.into_iter().enumerate() {
-        // Every number of digits where there is no size, some of them elsewhere.
-        let step = if place == 0 { 1 } else { 5 };
-        for digits in (1..=40).step_by(step) {
-            case(file.replace('#', &"1".repeat(digits)).as_bytes());
+    for file in NUMBERS {
+        for digits in 1..=40 {
+            case(&file.replace('#', &"1".repeat(digits)));
         }
         for number in WRAPPING {
-            case(file.replace('#', number).as_bytes());
+            case(&file.replace('#', number));
         }
-    }
-    // Flipped bits at every place: three of them in the one file, one in the other.
-    let mut random = Random::new(62);
-    for place in 0..SHORT.len() {
-        let first = random.below(8);
-        for bit in [first, first + 2, first + 5] {
-            case(&flipped(SHORT, place, bit % 8));
-        }
-    }
-    for place in 0..KINDS.len() {
-        case(&flipped(KINDS, place, random.below(8)));
     }
     vectors
+}
+
+/// Each size at its limit and one past it, alone and with the others.
+fn limits() -> Vec<String> {
+    let file = |original: usize, result: usize, items: usize, lines: &str| {
+        format!("form=1\noriginal={original}\nresult={result}\nitems={items}\n{lines}end={items}\n")
+    };
+    let drops = |count: usize| "drop=1\n".repeat(count);
+    let add = |count: usize| format!("add={}9\n", "9 ".repeat(count - 1));
+    let mut files = Vec::new();
+    // Items, counted or there.
+    for count in [size::DIFF_ITEMS - 1, size::DIFF_ITEMS, size::DIFF_ITEMS + 1] {
+        files.push(file(count, 0, count, &drops(count)));
+        files.push(file(count, 0, size::DIFF_ITEMS, &drops(count)));
+    }
+    // Code points of text, in one line and in several, the last of one code point or none.
+    for count in [size::DIFF_TEXT - 1, size::DIFF_TEXT, size::DIFF_TEXT + 1] {
+        files.push(file(0, count, 1, &add(count)));
+        files.push(file(0, count, 2, &(add(count - 1) + &add(1))));
+        files.push(file(0, count, 3, &(add(1) + &add(count - 2) + &add(1))));
+        let lines = add(PART).repeat(PARTS - 1) + &add(count - PART * (PARTS - 1));
+        files.push(file(0, count, PARTS, &lines));
+    }
+    files.push(file(
+        0,
+        size::DIFF_TEXT,
+        2,
+        &(add(size::DIFF_TEXT) + &add(1)),
+    ));
+    // The original, in one line and in as many as there may be.
+    for count in [size::ORIGINAL - 1, size::ORIGINAL, size::ORIGINAL + 1] {
+        for original in [count, size::ORIGINAL] {
+            files.push(file(original, count, 1, &format!("keep={count}\n")));
+            let kept = count - (size::DIFF_ITEMS - 1);
+            let lines = drops(size::DIFF_ITEMS - 1) + &format!("keep={kept}\n");
+            files.push(file(original, kept, size::DIFF_ITEMS, &lines));
+            files.push(file(original, kept, size::DIFF_ITEMS - 1, &lines));
+        }
+    }
+    // All at once, and each of them one past its limit.
+    let dropped = size::DIFF_ITEMS - 2;
+    let kept = size::ORIGINAL - dropped;
+    for (kept, added) in [
+        (kept, size::DIFF_TEXT),
+        (kept + 1, size::DIFF_TEXT),
+        (kept, size::DIFF_TEXT + 1),
+        (kept + 1, size::DIFF_TEXT + 1),
+    ] {
+        for items in [size::DIFF_ITEMS, size::DIFF_ITEMS + 1] {
+            let lines = drops(items - 2) + &format!("keep={kept}\n") + &add(added);
+            files.push(file(size::ORIGINAL, kept + added, items, &lines));
+        }
+    }
+    // The largest result there can be, and one that is false.
+    let most = size::ORIGINAL + size::DIFF_TEXT;
+    for result in [most, most + 1] {
+        let lines = format!("keep={}\n", size::ORIGINAL) + &add(size::DIFF_TEXT);
+        files.push(file(size::ORIGINAL, result, 2, &lines));
+    }
+    files
 }
 
 /// `KINDS` with one of its lines broken.
@@ -218,63 +315,21 @@ fn broken_lines() -> Vec<String> {
     files
 }
 
-fn flipped(file: &str, place: usize, bit: u64) -> Vec<u8> {
-    let mut bytes = file.as_bytes().to_vec();
-    bytes[place] ^= 1 << bit;
-    bytes
-}
-
-pub fn believed() -> Vectors {
-    let mut vectors = Vectors::new();
-    let mut case = |bytes: &[u8], length: usize| {
-        vectors.line(bytes);
-        vectors.line(&[length]);
-        vectors.line(&[u8::from(edit_file::believed(bytes, length))]);
-    };
-
-    for (file, length) in [
-        (SHEET, 6usize),
-        (EMPTY, 0),
-        (KINDS, 3),
-        (LONG, 120),
-        (SHORT, 0),
-    ] {
-        for length in [
-            length,
-            length + 1,
-            length.wrapping_sub(1),
-            length + (1 << 32),
-        ] {
-            case(file.as_bytes(), length);
-        }
-        case(&file.as_bytes()[..file.len() - 1], length);
-        case(&[file.as_bytes(), b"\n"].concat(), length);
-    }
-    for length in [2, 3, 4] {
-        for file in FILES.iter().filter(|file| file.contains("keep=2\ndrop=1")) {
-            case(file.as_bytes(), length);
-        }
-    }
-    for length in [65_535, 65_536] {
-        for file in FILES.iter().filter(|file| file.contains("original=6553")) {
-            case(file.as_bytes(), length);
-        }
-    }
-    vectors
-}
-
 pub fn write() -> Vectors {
     let mut vectors = Vectors::new();
     let mut case = |items: &[i64], text: &[u32]| {
-        vectors.line(items);
-        vectors.line(text);
-        one_part(&mut vectors, edit_file::write(items, text, AMPLE));
+        let bytes = edit_file::write(items, text, AMPLE);
+        vectors.pieces(bytes.as_deref().unwrap_or_default());
+        let length = bytes.map(|bytes| vec![bytes.len()]);
+        answer(&mut vectors, length);
+        vectors.pieces(text);
+        vectors.pieces(items);
     };
     let number = |number| [NUMBER, number, 0];
     let text = points("XYZ");
 
     // The paper's file, nothing at all, and what other files say.
-    for file in [SHEET, EMPTY, KINDS, LONG, SHORT] {
+    for (file, _) in WHOLE {
         let file = edit_file::read(file.as_bytes(), AMPLE, AMPLE).expect("these files are good");
         case(&file.items, &file.text);
     }
@@ -345,6 +400,44 @@ pub fn write() -> Vectors {
     let nines = vec![9; PIECE];
     case(&[&much[..], &number(0)].concat(), &nines);
     case(&[&much[..], &[TEXT, 0, 1], &number(0)].concat(), &nines);
+    let much = [TEXT, 0, PART as i64].repeat(PARTS);
+    let nines = vec![9; PART];
+    case(&much, &nines);
+    case(&[&much[..], &[TEXT, 0, 1]].concat(), &nines);
+
+    // Each size at its limit and one past it: items, text that is lent and text that is used.
+    for count in [size::DIFF_ITEMS, size::DIFF_ITEMS + 1] {
+        case(&number(-1).repeat(count), &[]);
+        // Code points and records come after.
+        case(&number(0).repeat(count), &text);
+        case(&number(-1).repeat(count), &[0xD800]);
+    }
+    for count in [size::DIFF_TEXT, size::DIFF_TEXT + 1] {
+        let nines = vec![9; count];
+        case(&[TEXT, 0, count as i64], &nines);
+        case(&number(1), &nines);
+        let mut last_bad = nines;
+        last_bad[count - 1] = 0xDFFF;
+        case(&[TEXT, 0, 1], &last_bad);
+        case(&[TEXT, 0, 0], &last_bad);
+    }
+    // All at once, and each of them one past its limit.
+    let most = size::DIFF_TEXT;
+    let dropped = size::DIFF_ITEMS - 2;
+    let kept = (size::ORIGINAL - dropped) as i64;
+    for (dropped, kept, added) in [
+        (dropped, kept, most),
+        (dropped + 1, kept - 1, most),
+        (dropped, kept + 1, most),
+        (dropped, kept, most + 1),
+    ] {
+        let items = [
+            number(-1).repeat(dropped),
+            number(kept).to_vec(),
+            vec![TEXT, 0, added as i64],
+        ];
+        case(&items.concat(), &vec![9; added]);
+    }
 
     let mut random = Random::new(61);
     for _ in 0..30 {

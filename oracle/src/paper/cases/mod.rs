@@ -25,7 +25,6 @@ pub fn files() -> Vec<(&'static str, Vectors)> {
         ("replay.txt", diffs::replay()),
         ("read.txt", edit_files::read()),
         ("write.txt", edit_files::write()),
-        ("believed.txt", edit_files::believed()),
         ("utf8_read.txt", utf8::read()),
         ("utf8_pairs.txt", utf8::pairs()),
         ("utf8_write.txt", utf8::write()),

@@ -1,0 +1,73 @@
+-- `run` ends.
+-- How: each case moves the offset on; the invariant keeps the arrays' lengths. Assumes nothing.
+use Prim.Native.Nat.{_-_}
+use mathlib.Core.Path.{_≡_, refl}
+use lib.ListN.{length}
+use borrow.Author.Needs.{needs}
+use Rattle.edit_read_vectors.proofs.run.Statement.{statement}
+use Rattle.edit_read_vectors.proofs.run.Tie as tie
+
+abbrev Inv-cases : tie.InvT-cases
+Inv-cases bytes file₀ text₀ items₀ tallies₀ at₀ file text items tallies at = (length file ≡ 327680) × (length text ≡ 131072) × (length items ≡ 327680)
+
+abbrev μ-cases : tie.MeasureT-cases
+μ-cases bytes file₀ text₀ items₀ tallies₀ at₀ file text items tallies at = length bytes - at
+
+none-requires : tie.Need-none-requires Inv-cases μ-cases
+none-requires c κs = search needs
+
+none-requires-2 : tie.Need-none-requires-2 Inv-cases μ-cases
+none-requires-2 c κs = search needs
+
+none-requires-3 : tie.Need-none-requires-3 Inv-cases μ-cases
+none-requires-3 c κs = search needs
+
+none-requires-4 : tie.Need-none-requires-4 Inv-cases μ-cases
+none-requires-4 c κs = search needs
+
+cases-holds : tie.Need-cases-holds Inv-cases μ-cases
+cases-holds c = (refl, refl, refl)
+
+slice-aggregate-turn-at : tie.Need-slice-aggregate-turn-at Inv-cases μ-cases
+slice-aggregate-turn-at c = search needs
+
+slice-aggregate-turn-at-2 : tie.Need-slice-aggregate-turn-at-2 Inv-cases μ-cases
+slice-aggregate-turn-at-2 c = search needs
+
+slice-aggregate-turn-at-3 : tie.Need-slice-aggregate-turn-at-3 Inv-cases μ-cases
+slice-aggregate-turn-at-3 c = search needs
+
+turn-at-requires : tie.Need-turn-at-requires Inv-cases μ-cases
+turn-at-requires c κs = search needs
+
+cases-less : tie.Need-cases-less Inv-cases μ-cases
+cases-less c = search needs
+
+cases-again : tie.Need-cases-again Inv-cases μ-cases
+cases-again c = search needs
+
+tell-requires : tie.Need-tell-requires Inv-cases μ-cases
+tell-requires c κs = search needs
+
+returns : tie.Need-returns Inv-cases μ-cases
+returns c = search needs
+
+pub run-spec : {M : Type 1} → statement M
+run-spec =
+    tie.close
+    (tie.spec
+    Inv-cases
+    μ-cases
+    none-requires
+    none-requires-2
+    none-requires-3
+    none-requires-4
+    cases-holds
+    slice-aggregate-turn-at
+    slice-aggregate-turn-at-2
+    slice-aggregate-turn-at-3
+    turn-at-requires
+    cases-less
+    cases-again
+    tell-requires
+    returns)
