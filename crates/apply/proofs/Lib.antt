@@ -1,0 +1,9 @@
+pub mod Parts
+pub mod Sorting
+pub mod Texts
+pub mod Histories
+pub mod Lists
+pub mod Answering
+pub mod ApplyWays
+pub mod HistoryWays
+pub mod AllWays

@@ -1,0 +1,57 @@
+-- `apply_lengths` counts what `apply` writes.
+-- By the verdict, as Answering says. Assumes nothing.
+use Rattle.apply.proofs.Answering.{small, judged, lengths-refuse, lengths-count}
+use Rattle.records.proofs.Cursors.{length-of}
+use Rattle.apply.specs.Parts.{lentOf}
+use Rattle.records.specs.Cursors.{cursorsOf}
+use Rattle.records.specs.Operations.{operationsOf}
+use mathlib.Core.Path.{sym}
+use borrow.Author.Needs.{needs}
+use Rattle.apply.proofs.apply_lengths.Statement.{statement}
+use Rattle.apply.proofs.apply_lengths.Tie as tie
+
+other-limits-requires : tie.Need-other-limits-requires
+other-limits-requires c κs = search needs
+
+check-list-requires : tie.Need-check-list-requires
+check-list-requires c κs = small _ (c .other-limits .ensures)
+
+enum-known-refusal : tie.Need-enum-known-refusal
+enum-known-refusal c = search needs
+
+enum-told : tie.Need-enum-told
+enum-told c = search needs
+
+text-length-requires : tie.Need-text-length-requires
+text-length-requires c κs = search needs
+
+returns : tie.Need-returns
+returns c =
+    let c3 = c .before .before .before in
+    let c4 = c3 .before in
+    let c11 = c4 .before .before .before .before .before .before .before in
+    let b = c11 in let L = lentOf (b .args .original .now) (b .args .text .now) (b .args .spans .now) (b .args .keys .now) in let os = operationsOf
+    (b .args .operations .now) in let cs = cursorsOf (b .args .cursors .now) in lengths-refuse L os cs _
+    (judged L os cs _ _ _ (c4 .other-limits .ensures) (c3 .check-list .ensures) (c .before .refusal .given .1))
+
+returns-2 : tie.Need-returns-2
+returns-2 c =
+    let c3 = c .before .before .before in
+    let c4 = c3 .before in
+    let c11 = c4 .before .before .before .before .before .before .before in
+    let b = c11 in let L = lentOf (b .args .original .now) (b .args .text .now) (b .args .spans .now) (b .args .keys .now) in let os = operationsOf
+    (b .args .operations .now) in let cs = cursorsOf (b .args .cursors .now) in lengths-count L os cs _ _
+    (judged L os cs _ _ _ (c4 .other-limits .ensures) (c3 .check-list .ensures) (c .before .enum-told .given .1)) (c .text-length .ensures)
+    (sym (length-of (b .args .cursors .now)))
+
+pub apply-lengths-spec : {M : Type 1} → statement M
+apply-lengths-spec =
+    tie.close
+    (tie.spec
+    other-limits-requires
+    check-list-requires
+    enum-known-refusal
+    enum-told
+    text-length-requires
+    returns
+    returns-2)

@@ -1,0 +1,67 @@
+-- `apply_with_all_lengths` counts what `apply_with_all` writes.
+-- By the verdict, as Answering says. Assumes nothing.
+use Rattle.apply.proofs.Answering.{small, judged, all-refuse, all-count}
+use Rattle.records.proofs.Cursors as cursors
+use Rattle.records.proofs.Operations.{length-of}
+use Rattle.apply.specs.Parts.{lentOf}
+use Rattle.records.specs.Cursors.{cursorsOf}
+use Rattle.records.specs.Operations.{operationsOf}
+use mathlib.Core.Path.{sym}
+use borrow.Author.Needs.{needs}
+use Rattle.apply.proofs.apply_with_all_lengths.Statement.{statement}
+use Rattle.apply.proofs.apply_with_all_lengths.Tie as tie
+
+other-limits-requires : tie.Need-other-limits-requires
+other-limits-requires c κs = search needs
+
+check-list-requires : tie.Need-check-list-requires
+check-list-requires c κs = small _ (c .other-limits .ensures)
+
+enum-known-refusal : tie.Need-enum-known-refusal
+enum-known-refusal c = search needs
+
+enum-told : tie.Need-enum-told
+enum-told c = search needs
+
+text-length-requires : tie.Need-text-length-requires
+text-length-requires c κs = search needs
+
+removed-requires : tie.Need-removed-requires
+removed-requires c κs = search needs
+
+add-t17 : tie.Need-add-t17
+add-t17 c = search needs
+
+returns : tie.Need-returns
+returns c =
+    let c3 = c .before .before .before in
+    let c4 = c3 .before in
+    let c11 = c4 .before .before .before .before .before .before .before in
+    let b = c11 in let L = lentOf (b .args .original .now) (b .args .text .now) (b .args .spans .now) (b .args .keys .now) in let os = operationsOf
+    (b .args .operations .now) in let cs = cursorsOf (b .args .cursors .now) in all-refuse L os cs _
+    (judged L os cs _ _ _ (c4 .other-limits .ensures) (c3 .check-list .ensures) (c .before .refusal .given .1))
+
+returns-2 : tie.Need-returns-2
+returns-2 c =
+    let c2 = c .before .before in
+    let c4 = c2 .before .before in
+    let c5 = c4 .before in
+    let c12 = c5 .before .before .before .before .before .before .before in
+    let b = c12 in let L = lentOf (b .args .original .now) (b .args .text .now) (b .args .spans .now) (b .args .keys .now) in let os = operationsOf
+    (b .args .operations .now) in let cs = cursorsOf (b .args .cursors .now) in all-count L os cs _ _ _ _
+    (judged L os cs _ _ _ (c5 .other-limits .ensures) (c4 .check-list .ensures) (c2 .enum-told .given .1)) (c .before .text-length .ensures)
+    (sym (cursors.length-of (b .args .cursors .now))) (sym (length-of (b .args .operations .now))) (c .removed .ensures)
+
+pub apply-with-all-lengths-spec : {M : Type 1} → statement M
+apply-with-all-lengths-spec =
+    tie.close
+    (tie.spec
+    other-limits-requires
+    check-list-requires
+    enum-known-refusal
+    enum-told
+    text-length-requires
+    removed-requires
+    add-t17
+    returns
+    returns-2)
