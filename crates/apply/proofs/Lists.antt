@@ -131,7 +131,7 @@ module _ (lent : Lent) where
   told-length : (os : List Operation) → AllLie lent os → length (historyText (historyBy lent os)) ≡ length (textBy lent os) + total removedBy os
   unfolding AllLie historyBy historyText textBy total
   told-length [] a = refl
-  told-length (o ∷ os) a = rw (length-append, length-append) (omega (arith, span-words o (a .0), told-length os (a .1)))
+  told-length (o ∷ os) a = rw (length-append (spanBy lent o .text) (historyText (historyBy lent os)), length-append (givenBy lent o) (textBy lent os)) (omega (arith, span-words o (a .0), told-length os (a .1)))
 
   pub length-history : (os : List Operation) → length (historyBy lent os) ≡ length os
   unfolding historyBy

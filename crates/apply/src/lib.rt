@@ -133,10 +133,10 @@ fn write_text(
     requires { ⌜ AllLie (lentOf (now original) (now text) (now spans) (now keys)) (operationsOf (now operations)) × (length (textBy (lentOf (now original) (now text) (now spans) (now keys)) (operationsOf (now operations))) ≤ length (now out)) ⌝ }
     ensures { λ _. ⌜ now (out .exit) ≡ answered (textBy (lentOf (now (original .entry)) (now (text .entry)) (now (spans .entry)) (now (keys .entry))) (operationsOf (now (operations .entry)))) (now (out .entry)) ⌝ }
 {
-    let count = operations.len() / 6;
+    let end = operations.len() / 6;
     let mut i = 0;
     let mut at = 0;
-    'text: while i < count {
+    'text: while i < end {
         let o = records::operation_at(operations, i);
         at = put_text(original, text, spans, keys, o, out, at);
         i += 1;
@@ -245,13 +245,13 @@ fn text_fits(count: usize, length: usize, moved: usize, out: usize) -> bool
 }
 
 // Whether the rooms are as long as asked for so many spans and code points.
-fn history_fits(count: usize, length: usize, history: usize, out: usize) -> bool
-    ensures { λ r. ⌜ r ≡ leb (count * 4) history && leb length out ⌝ }
+fn history_fits(count: usize, texts: usize, history: usize, out: usize) -> bool
+    ensures { λ r. ⌜ r ≡ leb (count * 4) history && leb texts out ⌝ }
 {
     if history / 4 < count {
         return false;
     }
-    length <= out
+    texts <= out
 }
 
 // The code points and cursors that `apply` writes.

@@ -9,10 +9,10 @@ use Rattle.apply.proofs.write_text.Statement.{statement}
 use Rattle.apply.proofs.write_text.Tie as tie
 
 abbrev Inv-text : tie.InvT-text
-Inv-text original text spans keys operations out₀ count i₀ at₀ out i at = Writing (lentOf original text spans keys) operations out₀ out i at
+Inv-text original text spans keys operations out₀ end i₀ at₀ out i at = Writing (lentOf original text spans keys) operations out₀ out i at
 
 abbrev μ-text : tie.MeasureT-text
-μ-text original text spans keys operations out₀ count i₀ at₀ out i at = count - i
+μ-text original text spans keys operations out₀ end i₀ at₀ out i at = end - i
 
 text-holds : tie.Need-text-holds Inv-text μ-text
 text-holds c = text-begins _ _ _ (c .before .before .before .before .before .before .pre .0)
