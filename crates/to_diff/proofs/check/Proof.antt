@@ -1,0 +1,24 @@
+-- Shown: `check` gives refusals 3, 4, 1 and 2 of a list.
+-- How: the check of lists, with the sizes for diffs and no cursors.
+use Rattle.to_diff.proofs.Answering.{others-small, checked}
+use mathlib.Core.Path.{refl}
+use borrow.Author.Needs.{needs}
+use Rattle.to_diff.proofs.check.Statement.{statement}
+use Rattle.to_diff.proofs.check.Tie as tie
+
+other-limits-requires : tie.Need-other-limits-requires
+other-limits-requires c κs = search needs
+
+slice-aggregate-check-list : tie.Need-slice-aggregate-check-list
+slice-aggregate-check-list c = search needs
+
+check-list-requires : tie.Need-check-list-requires
+check-list-requires c κs = others-small (c .before .other-limits .ensures)
+
+returns : tie.Need-returns
+returns c = checked _ _ _ _ _ _ _ _ (c .before .before .other-limits .ensures) (refl) (c .check-list .ensures)
+
+pub check-spec : {M : Type 1} → statement M
+check-spec =
+    tie.close
+    (tie.spec other-limits-requires slice-aggregate-check-list check-list-requires returns)

@@ -1,0 +1,55 @@
+-- What making a diff answers, and what it leaves in the rooms. Assumes nothing.
+use Prim.Native.Nat.{ℕ, _*_}
+use mathlib.Core.Path.{_≡_}
+use mathlib.Core.Bool.{_&&_}
+use mathlib.Core.List.{List, []}
+use lib.ListN.{length}
+use lib.IntN.{ℤ}
+use lib.Dec.{leb}
+use Rattle.refusal.specs.declared.Refusal.the-variants.{Room}
+use Rattle.room.specs.Choice.{pick}
+use Rattle.room.specs.Placed.{answered}
+use Rattle.records.specs.declared.Operation.{Operation}
+use Rattle.checks.specs.declared.Verdict.{Verdict}
+use Rattle.checks.specs.declared.Verdict.the-variants.{Accepted, Refused}
+use Rattle.checks.specs.Verdicts.{andThen}
+use Rattle.checks.specs.Sizes.{otherwise}
+use Rattle.checks.specs.Lists.{listVerdict}
+use Rattle.edit_format.specs.Items.{Item, texts}
+use Rattle.edit_format.specs.Records.{recordsOf}
+use Rattle.merging.specs.Lent.{Lent}
+use Rattle.to_diff.specs.declared.Diffed.{Diffed}
+use Rattle.to_diff.specs.declared.Diffed.the-variants.{Counts, Refused as No}
+use Rattle.to_diff.specs.Items.{diffOf}
+
+-- "Order for lists: 3, 4, 1, 2, 5, 7", before 7: a diff takes no cursors, so 5 is never given
+unfoldable pub verdictOn : Lent → List Operation → Verdict
+verdictOn lent os = listVerdict otherwise (lent .original) (lent .inserted) (lent .spans) (lent .keys) os []
+
+-- "All others: the exact length of the answer": rooms of so many numbers and so many code points; a record is three numbers
+unfoldable pub roomFor : List Item → ℕ → ℕ → Verdict
+roomFor is a b = pick (leb (3 * length is) a && leb (length (texts is)) b) Accepted (Refused Room)
+
+-- "Order for lists: 3, 4, 1, 2, 5, 7"
+unfoldable pub verdictIn : Lent → List Operation → List ℤ → List ℕ → Verdict
+verdictIn lent os d e = andThen (verdictOn lent os) (roomFor (diffOf lent os) (length d) (length e))
+
+-- the counts of items and of code points, or the refusal
+abbrev pub answerOf : Verdict → List Item → Diffed
+answerOf Accepted is = Counts (length is) (length (texts is))
+answerOf (Refused r) is = No r
+
+-- how much to lend
+unfoldable pub lengthsOf : Lent → List Operation → Diffed
+lengthsOf lent os = answerOf (verdictOn lent os) (diffOf lent os)
+
+-- "A refusal writes nothing. On success a room past its answer is unchanged"
+abbrev pub leaves : {A : Type 0} → Verdict → List A → List A → List A
+leaves Accepted s d = answered s d
+leaves (Refused r) s d = d
+
+-- a list's diff with its checks, into two rooms: the answer, and the rooms afterwards
+pub record Diffs (lent : Lent) (os : List Operation) (d : List ℤ) (e : List ℕ) (d′ : List ℤ) (e′ : List ℕ) (r : Diffed) : Type 0 where
+  pub answer : r ≡ answerOf (verdictIn lent os d e) (diffOf lent os)
+  pub items : d′ ≡ leaves (verdictIn lent os d e) (recordsOf (diffOf lent os)) d
+  pub text : e′ ≡ leaves (verdictIn lent os d e) (texts (diffOf lent os)) e
