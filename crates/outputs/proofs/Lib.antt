@@ -1,0 +1,4 @@
+pub mod Points
+pub mod GoodItems
+pub mod Replaying
+pub mod Filing
