@@ -7,9 +7,9 @@ ghost use lib.ListN.{length};
 ghost use Rattle.records.specs.Operations.{operationsOf};
 ghost use Rattle.records.specs.Tokens.{tokensLent, tokensFrom};
 ghost use Rattle.records.specs.Cursors.{cursorsOf};
-ghost use mathlib.Core.Bool.{_&&_};
+ghost use mathlib.Core.Bool.{true, _&&_};
 ghost use Rattle.checks.specs.Verdicts.{andThen};
-ghost use Rattle.checks.specs.Points.{isPoint, pointsFrom, pointsVerdict};
+ghost use Rattle.checks.specs.Points.{isPoint, pointsFrom, pointsVerdict, Reading, Searched};
 ghost use Rattle.checks.specs.Texts.{total, inText, runText, runLent, claimedBy, insertedBy, retainedBy, textLength};
 ghost use Rattle.checks.specs.Sizes.{Small, merging, otherwise, lentFits, listFits};
 ghost use Rattle.checks.specs.Shapes.{runGood, isRun, isRecord, recordsFrom};
@@ -79,18 +79,65 @@ fn is_point(c: u32) -> bool
     c <= 0x10FFFF
 }
 
-// Refusal 4 of one text.
-pub fn check_text(text: &[u32]) -> Verdict
-    ensures { λ r. ⌜ r ≡ pointsFrom (now (text .entry)) 0 ⌝ }
+// 0 for a number below the surrogates, else 1.
+fn high(c: u32) -> u32
+    ensures { λ r. ⌜ (r ≤ 1) × (r ≡ 0 → isPoint c ≡ true) ⌝ }
 {
-    let mut i = 0;
-    'points: while i < text.len() {
+    if c < 0xD800 { 0 } else { 1 }
+}
+
+// Whether the next 16 numbers are below the surrogates. All are read, with no way out between them, so
+// that a machine with wide registers reads several at once.
+fn all_low(text: &[u32], at: usize) -> bool
+    requires { ⌜ at + 16 ≤ length (now text) ⌝ }
+    ensures { λ r. ⌜ (r ≡ true → Reading (now (text .entry)) at (at + 16)) ⌝ }
+{
+    let mut highs: u32 = 0;
+    let mut i: usize = 0;
+    'block: while i < 16 {
+        highs += high(text[at + i]);
+        i += 1;
+    }
+    highs == 0
+}
+
+// The first place from `at` on that holds no code point, or the end.
+fn points_to(text: &[u32], at: usize, end: usize) -> usize
+    requires { ⌜ (at ≤ end) × (end ≤ length (now text)) ⌝ }
+    ensures { λ r. ⌜ Searched (now (text .entry)) at end r ⌝ }
+{
+    let mut i = at;
+    'points: while i < end {
         let c = text[i];
         if is_point(c) {
             i += 1;
         } else {
-            return Verdict::Refused(refusal::Refusal::CodePoint { index: i });
+            return i;
         }
+    }
+    end
+}
+
+// Refusal 4 of one text.
+pub fn check_text(text: &[u32]) -> Verdict
+    ensures { λ r. ⌜ r ≡ pointsFrom (now (text .entry)) 0 ⌝ }
+{
+    let mut i: usize = 0;
+    'sixteens: while 16 <= text.len() - i {
+        let end = i + 16;
+        if all_low(text, i) {
+            i = end;
+            continue 'sixteens;
+        }
+        let bad = points_to(text, i, end);
+        if bad < end {
+            return Verdict::Refused(refusal::Refusal::CodePoint { index: bad });
+        }
+        i = end;
+    }
+    let bad = points_to(text, i, text.len());
+    if bad < text.len() {
+        return Verdict::Refused(refusal::Refusal::CodePoint { index: bad });
     }
     Verdict::Accepted
 }

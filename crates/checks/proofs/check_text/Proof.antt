@@ -1,61 +1,79 @@
 -- `check_text` gives refusal 4 of a text.
 -- The loop keeps `Reading`, whose ways are in Points. Assumes nothing.
-use Rattle.checks.proofs.Points.{Reading, reads-begin, reads-on, reads-bad, reads-end}
+use Rattle.checks.specs.Points.{Reading}
+use Rattle.checks.proofs.Points.{reads-begin, reads-bad, reads-end, reads-further, read-all}
 use lib.ListN.{length}
-use mathlib.Core.Path.{sym, _∙_}
-use Prim.Native.Nat.{_-_}
+use native.Mathlib.Omega.{arith}
+use Prim.Native.Nat.{_-_, zero-le}
 use borrow.Author.Needs.{needs}
 use Rattle.checks.proofs.check_text.Statement.{statement}
 use Rattle.checks.proofs.check_text.Tie as tie
 
-abbrev Inv-points : tie.InvT-points
-Inv-points text i₀ i = Reading text i
+abbrev Inv-sixteens : tie.InvT-sixteens
+Inv-sixteens text i₀ i = Reading text 0 i
 
-abbrev μ-points : tie.MeasureT-points
-μ-points text i₀ i = length text - i
+abbrev μ-sixteens : tie.MeasureT-sixteens
+μ-sixteens text i₀ i = length text - i
 
-points-holds : tie.Need-points-holds Inv-points μ-points
-points-holds c = reads-begin _
+sixteens-holds : tie.Need-sixteens-holds Inv-sixteens μ-sixteens
+sixteens-holds c = reads-begin _ 0 zero-le
 
-mul-c : tie.Need-mul-c Inv-points μ-points
-mul-c c = search needs
+sub-sixteens : tie.Need-sub-sixteens Inv-sixteens μ-sixteens
+sub-sixteens c = search needs
 
-shared-slice-read-c : tie.Need-shared-slice-read-c Inv-points μ-points
-shared-slice-read-c c = search needs
+add-end : tie.Need-add-end Inv-sixteens μ-sixteens
+add-end c = search needs
 
-is-point-requires : tie.Need-is-point-requires Inv-points μ-points
-is-point-requires c κs = search needs
+all-low-requires : tie.Need-all-low-requires Inv-sixteens μ-sixteens
+all-low-requires c κs = search needs
 
-add-i : tie.Need-add-i Inv-points μ-points
-add-i c = search needs
+sixteens-less : tie.Need-sixteens-less Inv-sixteens μ-sixteens
+sixteens-less c = search needs
 
-points-less : tie.Need-points-less Inv-points μ-points
-points-less c = search needs
+sixteens-again : tie.Need-sixteens-again Inv-sixteens μ-sixteens
+sixteens-again c = reads-further (c .before .before .before .sixteens .inv) (c .before .all-low .ensures (c .if1 .taken))
 
-points-again : tie.Need-points-again Inv-points μ-points
-points-again c =
-    let c3 = c .before .before .before in
-    let c4 = c3 .before in
-    reads-on (c4 .points .inv) (c3 .points-test .taken) (sym (c .before .is-point .ensures) ∙ c .if1 .taken)
+points-to-requires : tie.Need-points-to-requires Inv-sixteens μ-sixteens
+points-to-requires c κs = search needs
 
-returns : tie.Need-returns Inv-points μ-points
-returns c = reads-bad (c .before .before .before .before .points .inv) (c .before .before .before .points-test .taken) (sym (c .before .is-point .ensures) ∙ c .if1 .left)
+returns : tie.Need-returns Inv-sixteens μ-sixteens
+returns c =
+    let s = c .before .points-to .ensures in
+    reads-bad (reads-further (c .before .before .before .before .before .sixteens .inv) (s .read)) (omega (arith, c .if2 .taken, c .before .before .before .before .sixteens-test .taken, c .before .before .before .before .before .sixteens .inv .most)) (s .bad (c .if2 .taken))
 
-returns-2 : tie.Need-returns-2 Inv-points μ-points
-returns-2 c = reads-end (c .before .points .inv) (c .points-test .left)
+sixteens-less-2 : tie.Need-sixteens-less-2 Inv-sixteens μ-sixteens
+sixteens-less-2 c = search needs
+
+sixteens-again-2 : tie.Need-sixteens-again-2 Inv-sixteens μ-sixteens
+sixteens-again-2 c = reads-further (c .before .before .before .before .before .sixteens .inv) (read-all (c .before .points-to .ensures) (c .if2 .left))
+
+points-to-requires-2 : tie.Need-points-to-requires-2 Inv-sixteens μ-sixteens
+points-to-requires-2 c κs = search needs
+
+returns-2 : tie.Need-returns-2 Inv-sixteens μ-sixteens
+returns-2 c =
+    let s = c .before .points-to2 .ensures in
+    reads-bad (reads-further (c .before .before .before .sixteens .inv) (s .read)) (c .if3 .taken) (s .bad (c .if3 .taken))
+
+returns-3 : tie.Need-returns-3 Inv-sixteens μ-sixteens
+returns-3 c = reads-end (reads-further (c .before .before .before .sixteens .inv) (c .before .points-to2 .ensures .read)) (c .if3 .left)
 
 pub check-text-spec : {M : Type 1} → statement M
 check-text-spec =
     tie.close
     (tie.spec
-    Inv-points
-    μ-points
-    points-holds
-    mul-c
-    shared-slice-read-c
-    is-point-requires
-    add-i
-    points-less
-    points-again
+    Inv-sixteens
+    μ-sixteens
+    sixteens-holds
+    sub-sixteens
+    add-end
+    all-low-requires
+    sixteens-less
+    sixteens-again
+    points-to-requires
     returns
-    returns-2)
+    sixteens-less-2
+    sixteens-again-2
+    points-to-requires-2
+    returns-2
+    returns-3)
