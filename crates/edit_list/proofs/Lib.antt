@@ -1,0 +1,10 @@
+pub mod Bounds
+pub mod Back
+pub mod Decoding
+pub mod Runs
+pub mod Points
+pub mod Passing
+pub mod Shifting
+pub mod Writing
+pub mod Making
+pub mod Raising

@@ -1,0 +1,94 @@
+-- Shown: a good text with good code points put into it is good.
+-- How: being good is a property of each code point, and the two crates' rules of a code point agree. Assumes nothing.
+use mathlib.Core.Path.{_≡_, refl, sym, ap, _∙_}
+use mathlib.Core.Bool.{Bool, true, false, not}
+use mathlib.Core.List.{List, [], _∷_, _++_}
+use Prim.Native.Nat.{ℕ, zero, suc, _+_}
+use native.Mathlib.Omega.{arith}
+use native.Mathlib.Decide.{decLt}
+use lib.ListN.{length, take, drop}
+use lib.Dec.{leb}
+use borrow.Author.Tests.{le-leb, le-ltb, lt-ltb}
+use Rattle.room.specs.Placed.{placed}
+use Rattle.refusal.specs.declared.Refusal.{Refusal}
+use Rattle.refusal.specs.declared.Refusal.the-variants.{CodePoint}
+use Rattle.checks.specs.declared.Verdict.{Verdict}
+use Rattle.checks.specs.declared.Verdict.the-variants.{Accepted, Refused}
+use Rattle.checks.specs.Points.{isPoint, pointsFrom}
+use Rattle.edit_format.specs.Tests.{both}
+use Rattle.edit_format.specs.Items.{Item, Keep, Drop, Add, texts, allPoints, itemsGood}
+use Rattle.edit_format.specs.Items as F
+use Rattle.edit_format.proofs.Picks.{both-0, both-1, apart}
+
+unfoldable AllPoints : List ℕ → Type 0
+AllPoints [] = Unit
+AllPoints (c ∷ cs) = (isPoint c ≡ true) × AllPoints cs
+
+went : (b : Bool) (v : Verdict) (r : Refusal) → elim b [ true ↦ v | false ↦ Refused r ] ≡ Accepted → (b ≡ true) × (v ≡ Accepted)
+went true v r h = (refl, h)
+went false v r h = let z : _≡_ {A = ℕ} 0 1 = cc in absurd (omega arith)
+
+told : (cs : List ℕ) (i : ℕ) → pointsFrom cs i ≡ Accepted → AllPoints cs
+unfolding pointsFrom AllPoints
+told [] i h = tt
+told (c ∷ cs) i h = let w = went (isPoint c) (pointsFrom cs (i + 1)) (CodePoint i) h in (w .0, told cs (i + 1) (w .1))
+
+tells : (cs : List ℕ) (i : ℕ) → AllPoints cs → pointsFrom cs i ≡ Accepted
+unfolding pointsFrom AllPoints
+tells [] i h = refl
+tells (c ∷ cs) i h = rw (h .0, pointsFrom) (tells cs (i + 1) (h .1))
+
+all-append : (cs ds : List ℕ) → AllPoints cs → AllPoints ds → AllPoints (cs ++ ds)
+unfolding AllPoints
+all-append [] ds h g = g
+all-append (c ∷ cs) ds h g = (h .0, all-append cs ds (h .1) g)
+
+all-take : (n : ℕ) (cs : List ℕ) → AllPoints cs → AllPoints (take n cs)
+unfolding AllPoints
+all-take zero cs h = tt
+all-take (suc n) [] h = tt
+all-take (suc n) (c ∷ cs) h = (h .0, all-take n cs (h .1))
+
+all-drop : (n : ℕ) (cs : List ℕ) → AllPoints cs → AllPoints (drop n cs)
+unfolding AllPoints
+all-drop zero cs h = h
+all-drop (suc n) [] h = tt
+all-drop (suc n) (c ∷ cs) h = all-drop n cs (h .1)
+
+-- the rule of the edit file's code points and that of refusal 4
+same-rule : (c : ℕ) → F.isPoint c ≡ true → isPoint c ≡ true
+unfolding F.isPoint
+same-rule c h = elim (decLt c 55296) [
+  | yes l ↦ rw (lt-ltb c 55296 l)
+  | no l ↦
+      elim (decLt 57343 c) [
+        | yes m ↦ rw (le-ltb c 55296 (omega arith), lt-ltb 57343 c m, both-0 (leb c 1114111) (not (both (leb 55296 c) (leb c 57343))) h)
+        | no m ↦
+            let z : not (both (leb 55296 c) (leb c 57343)) ≡ true = both-1 (leb c 1114111) (not (both (leb 55296 c) (leb c 57343))) h in
+            let y : both (leb 55296 c) (leb c 57343) ≡ true = rw (le-leb 55296 c (omega arith), le-leb c 57343 (omega arith)) in
+            absurd (apart (sym (sym (ap not y) ∙ z)))
+      ]
+]
+
+all-points : (cs : List ℕ) → allPoints cs ≡ true → AllPoints cs
+unfolding AllPoints allPoints
+all-points [] h = tt
+all-points (c ∷ cs) h = (same-rule c (both-0 (F.isPoint c) (allPoints cs) h), all-points cs (both-1 (F.isPoint c) (allPoints cs) h))
+
+all-texts : (k : Bool) (is : List Item) → itemsGood k is ≡ true → AllPoints (texts is)
+unfolding texts itemsGood AllPoints
+all-texts k [] g = tt
+all-texts k (Keep n ∷ is) g = all-texts true is (both-1 (both (leb 1 n) (not k)) (itemsGood true is) g)
+all-texts k (Drop n ∷ is) g = all-texts false is (both-1 (leb 1 n) (itemsGood false is) g)
+all-texts k (Add cs ∷ is) g =
+    let h = both-0 (both (leb 1 (length cs)) (allPoints cs)) (itemsGood false is) g in
+    all-append cs (texts is) (all-points cs (both-1 (leb 1 (length cs)) (allPoints cs) h))
+    (all-texts false is (both-1 (both (leb 1 (length cs)) (allPoints cs)) (itemsGood false is) g))
+
+pub good-text : (d : List ℕ) (at : ℕ) (is : List Item) → pointsFrom d 0 ≡ Accepted → itemsGood false is ≡ true → pointsFrom (placed d at (texts is)) 0 ≡ Accepted
+unfolding placed
+good-text d at is h g =
+    let a = told d 0 h in
+    tells (take at d ++ texts is ++ drop (at + length (texts is)) d) 0
+    (all-append (take at d ++ texts is) (drop (at + length (texts is)) d) (all-append (take at d) (texts is) (all-take at d a) (all-texts false is g))
+    (all-drop (at + length (texts is)) d a))

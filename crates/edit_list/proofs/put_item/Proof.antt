@@ -1,0 +1,109 @@
+-- Shown: `put_item` puts the run of an item.
+-- How: each kind of item is a law of proofs/Writing.antt. Assumes nothing.
+use native.Mathlib.Omega.{arith}
+use mathlib.Core.Path.{sym, _∙_}
+use Rattle.edit_list.proofs.Writing.{retain-run, delete-run, no-run, insert-in, insert-fits, insert-puts}
+use borrow.Author.Needs.{needs}
+use Rattle.edit_list.proofs.put_item.Statement.{statement}
+use Rattle.edit_list.proofs.put_item.Tie as tie
+
+item-at-requires : tie.Need-item-at-requires
+item-at-requires c κs = omega (arith, c .before .before .before .before .pre .0 .items-fit)
+
+enum-known-n : tie.Need-enum-known-n
+enum-known-n c = search needs
+
+put-part-requires : tie.Need-put-part-requires
+put-part-requires c κs = rw (retain-run _ _ _ _ (sym (c .before .before .before .before .before .before .item-at .ensures) ∙ c .before .before .before .before .n .given .1)) at (c .before .before .before .before .before .before .before .before .before .before .before .pre .1)
+
+enum-known-n-2 : tie.Need-enum-known-n-2
+enum-known-n-2 c = search needs
+
+put-part-requires-2 : tie.Need-put-part-requires-2
+put-part-requires-2 c κs = rw (delete-run _ _ _ _ (sym (c .before .before .before .before .before .before .item-at .ensures) ∙ c .before .before .before .before .n2 .given .1)) at (c .before .before .before .before .before .before .before .before .before .before .before .pre .1)
+
+enum-known-start : tie.Need-enum-known-start
+enum-known-start c = search needs
+
+put-raw-requires : tie.Need-put-raw-requires
+put-raw-requires c κs = c .before .before .before .before .before .before .before .before .before .pre .1 .in-raw
+
+add-put-points : tie.Need-add-put-points
+add-put-points c = record { fits = omega (arith, insert-in _ _ _ _ _ _ _ _ _ _ _ (c .before .before .before .before .before .before .before .before .before .before .before .before .pre .0) (c .before .before .before .before .before .before .before .before .before .before .before .before .pre .1) (sym (c .before .before .before .before .before .before .before .item-at .ensures) ∙ c .before .before .before .before .before .start .given .1), c .before .before .before .before .before .before .before .before .before .before .before .before .pre .0 .most) }
+
+put-points-requires : tie.Need-put-points-requires
+put-points-requires c κs = insert-fits _ _ _ _ _ _ _ _ _ _ _ (c .before .before .before .before .before .before .before .before .before .before .before .before .before .before .pre .0) (c .before .before .before .before .before .before .before .before .before .before .before .before .before .before .pre .1) (sym (c .before .before .before .before .before .before .before .before .before .item-at .ensures) ∙ c .before .before .before .before .before .before .before .start .given .1)
+
+add-result : tie.Need-add-result
+add-result c = record { fits = omega (arith, insert-fits _ _ _ _ _ _ _ _ _ _ _ (c .before .before .before .before .before .before .before .before .before .before .before .before .before .before .before .before .before .before .before .pre .0) (c .before .before .before .before .before .before .before .before .before .before .before .before .before .before .before .before .before .before .before .pre .1) (sym (c .before .before .before .before .before .before .before .before .before .before .before .before .before .before .item-at .ensures) ∙ c .before .before .before .before .before .before .before .before .before .before .before .before .start .given .1) .in-keys) }
+
+enum-told : tie.Need-enum-told
+enum-told c = search needs
+
+same-length : tie.Need-same-length
+same-length c = search needs
+
+same-length-2 : tie.Need-same-length-2
+same-length-2 c = search needs
+
+same-length-3 : tie.Need-same-length-3
+same-length-3 c = search needs
+
+returns : tie.Need-returns
+returns c = rw (retain-run _ _ _ _ (sym (c .before .before .before .before .before .before .before .before .before .before .before .before .before .item-at .ensures) ∙ c .before .before .before .before .before .before .before .before .before .before .before .n .given .1)) (c .before .before .before .before .before .before .put-part .ensures)
+
+same-length-4 : tie.Need-same-length-4
+same-length-4 c = search needs
+
+same-length-5 : tie.Need-same-length-5
+same-length-5 c = search needs
+
+same-length-6 : tie.Need-same-length-6
+same-length-6 c = search needs
+
+returns-2 : tie.Need-returns-2
+returns-2 c = rw (delete-run _ _ _ _ (sym (c .before .before .before .before .before .before .before .before .before .before .before .before .before .item-at .ensures) ∙ c .before .before .before .before .before .before .before .before .before .before .before .n2 .given .1)) (c .before .before .before .before .before .before .put-part2 .ensures)
+
+same-length-7 : tie.Need-same-length-7
+same-length-7 c = search needs
+
+same-length-8 : tie.Need-same-length-8
+same-length-8 c = search needs
+
+same-length-9 : tie.Need-same-length-9
+same-length-9 c = search needs
+
+returns-3 : tie.Need-returns-3
+returns-3 c = insert-puts _ _ _ _ _ _ _ _ _ _ _ (c .before .before .before .before .before .before .before .before .before .before .before .before .before .before .before .before .before .before .before .pre .0) (c .before .before .before .before .before .before .before .before .before .before .before .before .before .before .before .before .before .before .before .pre .1) (sym (c .before .before .before .before .before .before .before .before .before .before .before .before .before .before .item-at .ensures) ∙ c .before .before .before .before .before .before .before .before .before .before .before .before .start .given .1) (c .before .before .before .before .before .before .before .before .before .put-raw .ensures) (c .before .before .before .before .put-points .ensures)
+
+returns-4 : tie.Need-returns-4
+returns-4 c = absurd (no-run _ _ _ _ _ _ _ _ (sym (c .before .before .item-at .ensures) ∙ c .enum-told .given .1) (c .before .before .before .before .before .before .before .pre .1))
+
+pub put-item-spec : {M : Type 1} → statement M
+put-item-spec =
+    tie.close
+    (tie.spec
+    item-at-requires
+    enum-known-n
+    put-part-requires
+    enum-known-n-2
+    put-part-requires-2
+    enum-known-start
+    put-raw-requires
+    add-put-points
+    put-points-requires
+    add-result
+    enum-told
+    same-length
+    same-length-2
+    same-length-3
+    returns
+    same-length-4
+    same-length-5
+    same-length-6
+    returns-2
+    same-length-7
+    same-length-8
+    same-length-9
+    returns-3
+    returns-4)
