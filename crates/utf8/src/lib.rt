@@ -16,7 +16,7 @@ pub fn read_length(bytes: &[u8]) -> Counted
     if end < bytes.len() {
         return Counted::Refused(Refusal::Utf8 { offset: end });
     }
-    Counted::Count(utf8_read::starts_of(bytes))
+    Counted::Count(utf8_points::starts_of(bytes))
 }
 
 // The code points of bytes, at the start of a room.
@@ -27,11 +27,11 @@ pub fn read(bytes: &[u8], out: &mut [u32]) -> Counted
     if good < bytes.len() {
         return Counted::Refused(Refusal::Utf8 { offset: good });
     }
-    let count = utf8_read::starts_of(bytes);
+    let count = utf8_points::starts_of(bytes);
     if out.len() < count {
         return Counted::Refused(Refusal::Room);
     }
-    utf8_read::fill(bytes, out);
+    utf8_points::fill(bytes, out);
     Counted::Count(count)
 }
 

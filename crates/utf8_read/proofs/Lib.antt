@@ -1,9 +1,6 @@
 pub mod Bytes
-pub mod Counting
-pub mod Filling
 pub mod Judging
 pub mod Leads
-pub mod Pointing
 pub mod Rules
 pub mod Sequences
 pub mod Steps

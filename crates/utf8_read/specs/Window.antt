@@ -3,13 +3,11 @@ use Prim.Native.Nat.{ℕ, suc, _+_, _≤_, _<_}
 use mathlib.Core.Bool.{Bool, false, not, _&&_, _||_, Bool·beq}
 use mathlib.Core.Path.{_≡_}
 use mathlib.Core.List.{List, [], _∷_}
-use lib.ListN.{getD, length, take, drop}
+use lib.ListN.{getD, length, drop}
 use lib.Dec.{ltb, leb, eqb}
 use Rattle.room.specs.Choice.{pick}
 use Rattle.utf8_read.specs.Grammar.{tail, utf8-char}
-use Rattle.utf8_read.specs.Table.{decode}
 use Rattle.utf8_read.specs.Reading.{good-from}
-use Rattle.utf8_read.specs.declared.Point.{Point}
 
 -- "The number of one bits at the top of the first byte"
 unfoldable pub ones : ℕ → ℕ
@@ -67,8 +65,3 @@ pub record Walked (s : List ℕ) (from until p : ℕ) : Type 0 where
 unfoldable pub starts : List ℕ → ℕ
 starts [] = 0
 starts (b ∷ s) = pick (tail b) (starts s) (suc (starts s))
-
--- the code point at a place, and the bytes it takes
-pub record Pointed (s : List ℕ) (at : ℕ) (r : Point) : Type 0 where
-  pub long : r .len ≡ utf8-char (drop at s)
-  pub number : r .code ≡ decode (take (utf8-char (drop at s)) (drop at s))

@@ -1,7 +1,7 @@
 -- `starts_block` counts the bytes of a block that are no tails.
 -- The count so far is that of the bytes so far. Assumes nothing.
-use Rattle.utf8_read.proofs.Counting.{none, at-most, one-more}
+use Rattle.utf8_points.proofs.Counting.{none, at-most, one-more}
 use Rattle.utf8_read.specs.Window.{starts}
 use native.Mathlib.Omega.{arith}
 use lib.ListN.{length, take, getD, length-take}
 use lib.Seq.{take-all}
@@ -9,8 +9,8 @@ use mathlib.Core.Path.{_≡_, ap, _∙_}
 use mathlib.Core.List.{[], _∷_}
 use Prim.Native.Nat.{_-_, _≤_}
 use borrow.Author.Needs.{needs}
-use Rattle.utf8_read.proofs.starts_block.Statement.{statement}
-use Rattle.utf8_read.proofs.starts_block.Tie as tie
+use Rattle.utf8_points.proofs.starts_block.Statement.{statement}
+use Rattle.utf8_points.proofs.starts_block.Tie as tie
 
 abbrev Inv-block : tie.InvT-block
 Inv-block src n₀ k₀ n k = (k ≤ length src) × (n ≡ starts (take k src))

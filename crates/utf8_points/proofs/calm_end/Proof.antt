@@ -4,11 +4,11 @@ use Prim.Native.Nat.{_+_, _-_, _≤_}
 use lib.ListN.{length}
 use native.Mathlib.Omega.{arith}
 use borrow.Author.Tests.{not-false}
 use Rattle.utf8_read.specs.Window.{Ascii}
 use Rattle.utf8_read.proofs.Judging.{ascii-none, ascii-join}
 use borrow.Author.Needs.{needs}
-use Rattle.utf8_read.proofs.calm_end.Statement.{statement}
-use Rattle.utf8_read.proofs.calm_end.Tie as tie
+use Rattle.utf8_points.proofs.calm_end.Statement.{statement}
+use Rattle.utf8_points.proofs.calm_end.Tie as tie
 
 abbrev Inv-calm : tie.InvT-calm
 Inv-calm bytes at end₀ end = (at ≤ end) × (end ≤ length bytes) × Ascii bytes at end

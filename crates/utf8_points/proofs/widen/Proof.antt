@@ -5,8 +5,8 @@ use Prim.Native.Nat.{_-_}
 use lib.ListN.{length}
 use Rattle.room.proofs.Copying.{Copying, begins, goes-on, ends}
 use borrow.Author.Needs.{needs}
-use Rattle.utf8_read.proofs.widen.Statement.{statement}
-use Rattle.utf8_read.proofs.widen.Tie as tie
+use Rattle.utf8_points.proofs.widen.Statement.{statement}
+use Rattle.utf8_points.proofs.widen.Tie as tie
 
 abbrev Inv-put : tie.InvT-put
 Inv-put src out₀ at j₀ out j = Copying src out₀ at out j

@@ -6,8 +6,8 @@ use lib.Bits.{and-mask, or-shifted}
 use native.Mathlib.Omega.{arith}
 use Prim.Native.Nat.{_%_}
 use borrow.Author.Needs.{needs}
-use Rattle.utf8_read.proofs.push.Statement.{statement}
-use Rattle.utf8_read.proofs.push.Tie as tie
+use Rattle.utf8_points.proofs.push.Statement.{statement}
+use Rattle.utf8_points.proofs.push.Tie as tie
 
 wide-requires : tie.Need-wide-requires
 wide-requires c κs = search needs

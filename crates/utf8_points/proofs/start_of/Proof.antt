@@ -1,10 +1,10 @@
 -- `start_of` is 1 for a byte that is no tail.
 -- Each return by the test that led there. Assumes nothing.
-use Rattle.utf8_read.proofs.Counting.{of-tail, of-start}
+use Rattle.utf8_points.proofs.Counting.{of-tail, of-start}
 use mathlib.Core.Path.{sym, _∙_}
 use borrow.Author.Needs.{needs}
-use Rattle.utf8_read.proofs.start_of.Statement.{statement}
-use Rattle.utf8_read.proofs.start_of.Tie as tie
+use Rattle.utf8_points.proofs.start_of.Statement.{statement}
+use Rattle.utf8_points.proofs.start_of.Tie as tie
 
 is-tail-requires : tie.Need-is-tail-requires
 is-tail-requires c κs = search needs

@@ -3,10 +3,10 @@
 use Prim.Native.Nat.{_-_}
 use lib.ListN.{length}
 use native.Mathlib.Omega.{arith}
-use Rattle.utf8_read.proofs.Filling.{Filling, Grown, begins, by-run, run-fits, not-yet, there, past, room-left, by-pointed, as-long, ends}
+use Rattle.utf8_points.proofs.Filling.{Filling, Grown, begins, by-run, run-fits, not-yet, there, past, room-left, by-pointed, as-long, ends}
 use borrow.Author.Needs.{needs}
-use Rattle.utf8_read.proofs.fill.Statement.{statement}
-use Rattle.utf8_read.proofs.fill.Tie as tie
+use Rattle.utf8_points.proofs.fill.Statement.{statement}
+use Rattle.utf8_points.proofs.fill.Tie as tie
 
 abbrev Inv-some : tie.InvT-some
 Inv-some bytes out₀ at₀ n₀ end stop out at n = Grown bytes out₀ at₀ n₀ out at n

@@ -9,13 +9,14 @@ use lib.ListN.{length, getD, set, take, drop, length-append, length-drop}
 use lib.Seq.{take-add, drop-drop, take-append-seam, drop-append-seam, length-take-le, sets-eq, take-all}
 use Rattle.room.specs.Placed.{placed, answered, Put}
 use Rattle.room.proofs.Answers.{one-more, same-room}
 use Rattle.utf8_read.specs.Grammar.{utf8-char}
 use Rattle.utf8_read.specs.Table.{decode}
 use Rattle.utf8_read.specs.Reading.{good-from, good-end, points-from, points}
-use Rattle.utf8_read.specs.Window.{Ascii, Pointed}
-use Rattle.utf8_read.specs.declared.Point.{Point}
+use Rattle.utf8_read.specs.Window.{Ascii}
+use Rattle.utf8_points.specs.Found.{Pointed}
+use Rattle.utf8_points.specs.declared.Point.{Point}
 use Rattle.utf8_read.proofs.Sequences.{At, fits, stands, front-1, value-1}
 use Rattle.utf8_read.proofs.Steps.{next-good, next-points, end-points, on}
 
 -- ASCII bytes are their own code points
 ascii-points : (m : ℕ) (s : List ℕ) (at : ℕ) → at + m ≤ length s → Ascii s at (at + m) → points-from 0 (drop at s) ≡ take m (drop at s) ++ points-from 0 (drop (at + m) s)

@@ -5,11 +5,11 @@ use mathlib.Core.List.{List}
 use Prim.Native.Nat.{ℕ, zero, suc, _+_, _≤_, _<_}
 use native.Mathlib.Omega.{arith}
 use lib.ListN.{length, getD, take, drop}
 use Rattle.utf8_read.specs.Grammar.{utf8-char}
 use Rattle.utf8_read.specs.Table.{decode}
-use Rattle.utf8_read.specs.Window.{Pointed}
+use Rattle.utf8_points.specs.Found.{Pointed}
 use Rattle.utf8_read.proofs.Sequences.{At, found, stands}
 use Rattle.utf8_read.proofs.Leads.{says-1}
 
 pub some : (s : List ℕ) (at : ℕ) → at < length s → 0 < utf8-char (drop at s) → (k : ℕ) × At s at (suc k)
 some s at h p = go (utf8-char (drop at s)) refl

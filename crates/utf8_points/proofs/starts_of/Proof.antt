@@ -3,10 +3,10 @@
 use Prim.Native.Nat.{_+_, _-_}
 use lib.ListN.{length}
 use native.Mathlib.Omega.{arith}
-use Rattle.utf8_read.proofs.Counting.{Counted, begins, by-block, ends, short}
+use Rattle.utf8_points.proofs.Counting.{Counted, begins, by-block, ends, short}
 use borrow.Author.Needs.{needs}
-use Rattle.utf8_read.proofs.starts_of.Statement.{statement}
-use Rattle.utf8_read.proofs.starts_of.Tie as tie
+use Rattle.utf8_points.proofs.starts_of.Statement.{statement}
+use Rattle.utf8_points.proofs.starts_of.Tie as tie
 
 abbrev Inv-many : tie.InvT-many
 Inv-many bytes n₀ at₀ n at = Counted bytes at n

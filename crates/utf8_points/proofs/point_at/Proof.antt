@@ -2,11 +2,11 @@
 -- The first byte says the length; the leaf functions give the number. Assumes nothing.
 use mathlib.Core.Path.{sym, _∙_}
 use native.Mathlib.Omega.{arith}
 use Rattle.utf8_read.proofs.Sequences.{value-1, value-2, value-3, value-4}
-use Rattle.utf8_read.proofs.Pointing.{known-1, known-2, known-3, known-4, pointed}
+use Rattle.utf8_points.proofs.Pointing.{known-1, known-2, known-3, known-4, pointed}
 use borrow.Author.Needs.{needs}
-use Rattle.utf8_read.proofs.point_at.Statement.{statement}
-use Rattle.utf8_read.proofs.point_at.Tie as tie
+use Rattle.utf8_points.proofs.point_at.Statement.{statement}
+use Rattle.utf8_points.proofs.point_at.Tie as tie
 
 shared-slice-read-a : tie.Need-shared-slice-read-a
 shared-slice-read-a c = search needs
