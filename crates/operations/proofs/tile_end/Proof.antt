@@ -2,7 +2,6 @@
 -- Assumes nothing.
 use borrow.Author.Tests.{eq-eqb, ne-eqb}
 use Rattle.operations.specs.Folds.{tileEnd}
-use borrow.Author.Needs.{needs}
 use Rattle.operations.proofs.tile_end.Statement.{statement}
 use Rattle.operations.proofs.tile_end.Tie as tie
 
