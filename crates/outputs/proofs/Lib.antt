@@ -2,3 +2,4 @@ pub mod Points
 pub mod GoodItems
 pub mod Replaying
 pub mod Filing
+pub mod Spelling
