@@ -26,8 +26,8 @@ use Rattle.edit_read.specs.Answer.{answerOf, itemsLeft, textLeft, ReadInto}
 use Rattle.edit_read.specs.declared.FileRead.{FileRead}
 use Rattle.edit_read.specs.declared.FileRead.the-variants.{Counts, Refused as No}
 use Rattle.edit_list.specs.declared.Sizes.{Sizes}
-use Rattle.edit_list.specs.Raws.{runsOf}
-use Rattle.edit_list.specs.Steps.{runsIn, ItemsLent, Fits, Filled, ItemsRead, RawsMade}
+use Rattle.edit_list.specs.Raws.{runsOf, itemsIn}
+use Rattle.edit_list.specs.Steps.{runsIn, ItemsLent, Fits, Filled, Readable, ItemsRead, Makeable, RawsMade}
 use Rattle.edit_list.proofs.Bounds.{file-long}
 use Rattle.edit_list.proofs.Decoding.{edits}
 use Rattle.edit_list.proofs.Runs.{runs-length, runs-size, runs-tokens, runs-good, runs-small}
@@ -72,7 +72,7 @@ module _ (file : List ℕ) (is : List Item) (a : readFile file ≡ Accepted is) 
         )
 
     module _ {items′ : List ℤ} {t : List ℕ} {r : FileRead} (h : ReadInto (readFile file) items (midOf at (length text - at) text) items′ t r) where
-      pub reads : (n m : ℕ) → r ≡ Counts n m → ItemsRead is at text (putMid at (length text - at) text t) items items′ (record { items = n; text = m })
+      reads : (n m : ℕ) → r ≡ Counts n m → ItemsRead is at text (putMid at (length text - at) text t) items items′ (record { items = n; text = m })
       unfolding itemsLeft textLeft
       reads n m e =
           let q : Counts n m ≡ Counts (length is) (length (texts is)) = sym e ∙ h .answer ∙ answers in
@@ -83,7 +83,7 @@ module _ (file : List ℕ) (is : List Item) (a : readFile file ≡ Accepted is) 
             many-points = cc;
           }
 
-      pub reads-all : (x : Refusal) → r ≡ No x → ⊥
+      reads-all : (x : Refusal) → r ≡ No x → ⊥
       reads-all x e =
           let q : No x ≡ Counts (length is) (length (texts is)) = sym e ∙ h .answer ∙ answers in
           let z : _≡_ {A = ℕ} 0 1 = cc in
@@ -91,7 +91,8 @@ module _ (file : List ℕ) (is : List Item) (a : readFile file ≡ Accepted is) 
 
   -- the raw list
 
-  module _ (at : ℕ) (text raw s k : List ℕ) (ft : at + 1024 ≤ length text) (most : length text ≤ 131070) (fr : 1536 ≤ length raw) (fs : 2048 ≤ length s) (fk : 1024 ≤ length k)
+  module _ (at : ℕ) (text raw s k : List ℕ) (ft : at + 1024 ≤ length text) (most : length text ≤ 131070) (fr : 1536 ≤ length raw)
+      (fs : 2048 ≤ length s) (fk : 1024 ≤ length k)
       {text′ : List ℕ} {items items′ : List ℤ} {z : Sizes} (h : ItemsRead is at text text′ items items′ z) where
     text-long : length text′ ≡ length text
     text-long = ap length (h .text-is) ∙ length-placed text (texts is) at (omega (arith, little))
@@ -105,20 +106,22 @@ module _ (file : List ℕ) (is : List Item) (a : readFile file ≡ Accepted is) 
     runs-are : runsIn text′ at (itemsFrom items′ (z .text) 0 (z .items)) ≡ runsOf at is
     unfolding recordsOf
     runs-are =
-        let e = edits is false items′ (drop (length (recordsOf is)) items) (drop (at + length (texts is)) text) text′ at 0 0 (z .text) (good .each) (h .items-are) text-there
+        let e = edits is false items′ (drop (length (recordsOf is)) items) (drop (at + length (texts is)) text) text′ at 0 0 (z .text) (good .each)
+        (h .items-are) text-there
         (omega (arith, h .many-points, texts-length is)) in
         rw (h .many-items) (rw (add-zero at) at e)
 
-    pub made-lent : ItemsLent items′ (z .items) (z .text) text′ at
+    made-lent : ItemsLent items′ (z .items) (z .text) text′ at
     made-lent =
-        let l : length items′ ≡ length (recordsOf is) + length (drop (length (recordsOf is)) items) = ap length (h .items-are) ∙ length-append (recordsOf is) (drop (length (recordsOf is)) items) in
+        let l : length items′ ≡ length (recordsOf is) + length (drop (length (recordsOf is)) items) = ap length (h .items-are) ∙ length-append
+        (recordsOf is) (drop (length (recordsOf is)) items) in
         record {
           items-fit = omega (arith, l, length-records is, h .many-items);
           within = omega (arith, text-long, h .many-points, little);
           most = omega (arith, text-long);
         }
 
-    pub made-fits : Fits (runsIn text′ at (itemsFrom items′ (z .text) 0 (z .items))) raw s k
+    made-fits : Fits (runsIn text′ at (itemsFrom items′ (z .text) 0 (z .items))) raw s k
     made-fits =
         let n : ℕ = 65535 + (at + 1024) in
         let g = runs-good n false at is (good .each) (omega (arith, good .original)) (omega (arith, little, texts-length is)) in
@@ -130,6 +133,32 @@ module _ (file : List ℕ) (is : List Item) (a : readFile file ≡ Accepted is) 
           in-keys = omega (arith, tokens-few at);
         })
 
-    pub makes : {raw′ s′ k′ : List ℕ} {n : ℕ} → Filled (runsIn text′ at (itemsFrom items′ (z .text) 0 (z .items))) raw s k raw′ s′ k′ n
+    makes : {raw′ s′ k′ : List ℕ} {n : ℕ} → Filled (runsIn text′ at (itemsFrom items′ (z .text) 0 (z .items))) raw s k raw′ s′ k′ n
         → RawsMade is at text text′ raw s k raw′ s′ k′ (record { items = z .items; tokens = n; text = z .text })
     makes f = record { text-is = h .text-is; raws = rw runs-are at f; many-items = h .many-items; many-points = h .many-points }
+
+-- the same, by what the two functions ask
+
+module _ {file : List ℕ} {at : ℕ} {text : List ℕ} {items : List ℤ} (p : Readable file at text items) {items′ : List ℤ} {t : List ℕ} {r : FileRead}
+    (h : ReadInto (readFile file) items (midOf at (length text - at) text) items′ t r) where
+  pub read-done : (n m : ℕ) → r ≡ Counts n m
+      → ItemsRead (itemsIn (readFile file)) at text (putMid at (length text - at) text t) items items′ (record { items = n; text = m })
+  read-done n m e = reads file (itemsIn (readFile file)) (p .accepted) (p .short) at text items (p .text-fits) (p .items-fit) h n m e
+
+  pub read-never : (x : Refusal) → r ≡ No x → ⊥
+  read-never x e = reads-all file (itemsIn (readFile file)) (p .accepted) (p .short) at text items (p .text-fits) (p .items-fit) h x e
+
+module _ {file : List ℕ} {at : ℕ} {text raw s k : List ℕ} (p : Makeable file at text raw s k) {text′ : List ℕ} {items items′ : List ℤ} {z : Sizes}
+    (h : ItemsRead (itemsIn (readFile file)) at text text′ items items′ z) where
+  abbrev is : List Item
+  is = itemsIn (readFile file)
+
+  pub fill-lent : ItemsLent items′ (z .items) (z .text) text′ at
+  fill-lent = made-lent file is (p .accepted) (p .short) at text raw s k (p .text-fits) (p .most) (p .in-raw) (p .in-spans) (p .in-keys) h
+
+  pub fill-fits : Fits (runsIn text′ at (itemsFrom items′ (z .text) 0 (z .items))) raw s k
+  fill-fits = made-fits file is (p .accepted) (p .short) at text raw s k (p .text-fits) (p .most) (p .in-raw) (p .in-spans) (p .in-keys) h
+
+  pub fill-makes : {raw′ s′ k′ : List ℕ} {n : ℕ} → Filled (runsIn text′ at (itemsFrom items′ (z .text) 0 (z .items))) raw s k raw′ s′ k′ n
+      → RawsMade is at text text′ raw s k raw′ s′ k′ (record { items = z .items; tokens = n; text = z .text })
+  fill-makes f = makes file is (p .accepted) (p .short) at text raw s k (p .text-fits) (p .most) (p .in-raw) (p .in-spans) (p .in-keys) h f

@@ -33,11 +33,11 @@ use Rattle.elongate.proofs.Joining.{tokens-joined, cooked-length}
 use Rattle.elongate.proofs.Walking.{length-tokens}
 use Rattle.elongate.proofs.Laws.{no-longer}
 use Rattle.edit_format.specs.Items.{Item, texts}
-use Rattle.edit_format.specs.Reading.{Accepted, readFile}
+use Rattle.edit_format.specs.Reading.{readFile}
 use Rattle.edit_format.proofs.TextLaws.{texts-length}
 use Rattle.edit_list.specs.declared.Made.{Made}
-use Rattle.edit_list.specs.Raws.{runsOf, listOf}
-use Rattle.edit_list.specs.Lists.{Lists}
+use Rattle.edit_list.specs.Raws.{runsOf, listOf, itemsIn}
+use Rattle.edit_list.specs.Lists.{Listable, Lists}
 use Rattle.edit_list.specs.Steps.{flatRaws, RawsMade, shiftedFrom, Shiftable, joinable, Elongable, Stands, Raised}
 use Rattle.edit_list.proofs.Back.{rawList, raws-back, runs-back, length-raws, list-length, list-counts}
 use Rattle.edit_list.proofs.Runs.{runs-length, runs-join, runs-size, runs-good}
@@ -71,7 +71,8 @@ shifted-list E o o₁ o₂ first n e l f =
     ∙ ap (λ (x : ℕ). flatOperations (cookedFrom E 0 x) ++ drop (length (flatOperations (cookedFrom E 0 0))) o) (zero-add first)
     ∙ ap (λ (x : ℕ). flatOperations (cookedFrom E 0 first) ++ drop x o) a
 
-shiftable : (E : List Run) (o o₁ : List ℕ) (first n t : ℕ) → o₁ ≡ answered (flatOperations (cookedFrom E 0 0)) o → n ≡ length E → length (allTokens E) ≡ t → t + first < 9223372036854775808
+shiftable : (E : List Run) (o o₁ : List ℕ) (first n t : ℕ) → o₁ ≡ answered (flatOperations (cookedFrom E 0 0)) o → n ≡ length E → length
+    (allTokens E) ≡ t → t + first < 9223372036854775808
     → Shiftable o₁ n first
 shiftable E o o₁ first n t e l g h =
     let q : List ℕ = drop (length (flatOperations (cookedFrom E 0 0))) o in
@@ -82,7 +83,7 @@ shiftable E o o₁ first n t e l g h =
 
 -- `elongate_at`
 
-module _ (raw s k text : List ℕ) (first : ℕ) (o s₀ k₀ j₀ : List ℕ) (f : Elongable raw s k text first o s₀ k₀) (lj : length j₀ ≡ 1024) where
+module _ {raw s k text : List ℕ} {first : ℕ} {o s₀ k₀ : List ℕ} (f : Elongable raw s k text first o s₀ k₀) (j₀ : List ℕ) (lj : length j₀ ≡ 1024) where
   abbrev v : Verdict
   v = verdictOn raw s k joinable text o (midOf (first * 2) (length s₀ - first * 2) s₀) (midOf first (length k₀ - first) k₀) j₀
 
@@ -92,7 +93,9 @@ module _ (raw s k text : List ℕ) (first : ℕ) (o s₀ k₀ j₀ : List ℕ) (
   abbrev E : List Run
   E = elongated (runsLent s k joinable (rawsOf raw))
 
-  module _ {o₁ s₁ k₁ j₁ : List ℕ} {r : Answer} (h : Elongates raw s k joinable text o (midOf (first * 2) (length s₀ - first * 2) s₀) (midOf first (length k₀ - first) k₀) j₀ o₁ s₁ k₁ j₁ v r) where
+  module _ {o₁ s₁ k₁ j₁ : List ℕ} {r : Answer}
+      (h : Elongates raw s k joinable text o (midOf (first * 2) (length s₀ - first * 2) s₀)
+      (midOf first (length k₀ - first) k₀) j₀ o₁ s₁ k₁ j₁ v r) where
     counted : r ≡ A.Counts (record { operations = length E; tokens = counts (rawsOf raw) })
     counted = h .answer ∙ rw fine
 
@@ -116,10 +119,12 @@ module _ (raw s k text : List ℕ) (first : ℕ) (o s₀ k₀ j₀ : List ℕ) (
       many-tokens = ap (λ (x : Written). x .tokens) same
 
       pub can-shift : first < 9000000000000000000 → Shiftable o₁ (w .operations) first
-      can-shift l = shiftable E o o₁ first (w .operations) (counts (rawsOf raw)) cooked-are many-operations (tokens-same s k joinable (rawsOf raw)) (omega (arith, f .few))
+      can-shift l = shiftable E o o₁ first (w .operations) (counts (rawsOf raw)) cooked-are many-operations (tokens-same s k joinable (rawsOf raw))
+          (omega (arith, f .few))
 
       pub raises : {o₂ : List ℕ} → o₂ ≡ shiftedFrom o₁ first 0 (w .operations)
-          → Raised raw s k first o s₀ k₀ o₂ (putMid (first * 2) (length s₀ - first * 2) s₀ s₁) (putMid first (length k₀ - first) k₀ k₁) (record { operations = w .operations; tokens = w .tokens })
+          → Raised raw s k first o s₀ k₀ o₂ (putMid (first * 2) (length s₀ - first * 2) s₀ s₁) (putMid first (length k₀ - first) k₀ k₁)
+          (record { operations = w .operations; tokens = w .tokens })
       raises {o₂} g = record {
         stands = record {
           operations-are = shifted-list E o o₁ o₂ first (w .operations) cooked-are many-operations g;
@@ -132,9 +137,12 @@ module _ (raw s k text : List ℕ) (first : ℕ) (o s₀ k₀ j₀ : List ℕ) (
 
 -- `list_of`
 
-module _ (file : List ℕ) (is : List Item) (a : readFile file ≡ Accepted is) (short : length file ≤ 2048) (at : ℕ) (text raw s k : List ℕ) (pt : pointsFrom text 0 ≡ Fine)
-    (long : 65535 ≤ length text) (most : length text ≤ 131070) (ft : at + 1024 ≤ length text) (lr : length raw ≡ 1536) (ls : length s ≡ 2048) (lk : length k ≡ 1024)
-    {text′ raw′ s′ k′ : List ℕ} {z : Made} (h : RawsMade is at text text′ raw s k raw′ s′ k′ z) where
+module _ {file : List ℕ} {at first : ℕ} {text o s₀ k₀ : List ℕ} (p : Listable file at first text o s₀ k₀) {raw s k : List ℕ}
+    (lr : length raw ≡ 1536) (ls : length s ≡ 2048) (lk : length k ≡ 1024)
+    {text′ raw′ s′ k′ : List ℕ} {z : Made} (h : RawsMade (itemsIn (readFile file)) at text text′ raw s k raw′ s′ k′ z) where
+  abbrev is : List Item
+  is = itemsIn (readFile file)
+
   abbrev rs : List Run
   rs = runsOf at is
 
@@ -142,10 +150,10 @@ module _ (file : List ℕ) (is : List Item) (a : readFile file ≡ Accepted is) 
   length-is = runs-length at is
 
   tokens-most : length (allTokens rs) ≤ 1024
-  tokens-most = tokens-few file is a short at
+  tokens-most = tokens-few file is (p .accepted) (p .short) at
 
   items-few : length is ≤ 512
-  items-few = few file is a short
+  items-few = few file is (p .accepted) (p .short)
 
   raw-long : length raw′ ≡ 1536
   raw-long = ap length (h .raws .in-raw) ∙ same-room (flatRaws 0 rs) raw (omega (arith, length-raws 0 rs, length-is, items-few)) ∙ lr
@@ -167,45 +175,46 @@ module _ (file : List ℕ) (is : List Item) (a : readFile file ≡ Accepted is) 
 
   runs-are : runsLent s′ k′ joinable (rawList 0 rs) ≡ rs
   runs-are =
-      runs-back s′ k′ joinable rs 0 (drop (length (flatSpans (allTokens rs))) s) (drop (length (flatKeys (allTokens rs))) k) (h .raws .in-spans) (h .raws .in-keys) (runs-join at is)
+      runs-back s′ k′ joinable rs 0 (drop (length (flatSpans (allTokens rs))) s) (drop (length (flatKeys (allTokens rs))) k) (h .raws .in-spans)
+      (h .raws .in-keys) (runs-join at is)
       (λ i l. getD-replicate 1024 i 3 0 (omega (arith, l, tokens-most)))
 
   text-long : length text′ ≡ length text
-  text-long = ap length (h .text-is) ∙ length-placed text (texts is) at (omega (arith, little file is a short))
+  text-long = ap length (h .text-is) ∙ length-placed text (texts is) at (omega (arith, little file is (p .accepted) (p .short), p .text-fits))
 
-  pub elongable : (first : ℕ) (o s₀ k₀ : List ℕ) → 3072 ≤ length o → (first + 1024) * 2 ≤ length s₀ → first + 1024 ≤ length k₀
-      → Elongable (take (z .items * 3) raw′) s′ k′ text′ first o s₀ k₀
-  elongable first o s₀ k₀ fo fs fk =
+  pub elongable : Elongable (take (z .items * 3) raw′) s′ k′ text′ first o s₀ k₀
+  elongable =
       let c = list-counts 0 rs in
       let l = list-length 0 rs in
       let lj : length joinable ≡ 1024 = length-replicate {A = ℕ} 1024 3 in
       let added-is = texts-length is in
-      let tm = little file is a short in
-      let sums = good file is a short .original in
+      let tm = little file is (p .accepted) (p .short) in
+      let sums = good file is (p .accepted) (p .short) .original in
       let sized : Sized (rawList 0 rs) s′ k′ joinable text′ (length o) (length s₀ - first * 2) (length k₀ - first) 1024 = record {
-        text-most = omega (arith, text-long);
+        text-most = omega (arith, text-long, p .most);
         few = omega (arith, l, length-is, items-few);
         tokens = omega (arith, c, tokens-most);
         used = rw runs-are (omega (arith, runs-size at is, sums, tm, added-is));
         lent = list-lent (piecesLent s′ k′ joinable) 0 rs (omega (arith, tokens-most, spans-long, keys-long, lj));
-        in-operations = omega (arith, l, length-is, items-few);
-        in-spans = omega (arith, c, tokens-most);
-        in-keys = omega (arith, c, tokens-most);
+        in-operations = omega (arith, l, length-is, items-few, p .operations-fit);
+        in-spans = omega (arith, c, tokens-most, p .spans-fit);
+        in-keys = omega (arith, c, tokens-most, p .keys-fit);
         in-joins = omega (arith, c, tokens-most);
       } in
-      let p : pointsFrom text′ 0 ≡ Fine = rw (h .text-is) (good-text text at is pt (good file is a short .each)) in
-      let g = runs-good (length text′) false at is (good file is a short .each) (omega (arith, sums, text-long)) (omega (arith, added-is, tm, text-long)) in
+      let q : pointsFrom text′ 0 ≡ Fine = rw (h .text-is) (good-text text at is (p .good) (good file is (p .accepted) (p .short) .each)) in
+      let g = runs-good (length text′) false at is (good file is (p .accepted) (p .short) .each) (omega (arith, sums, text-long, p .long))
+      (omega (arith, added-is, tm, text-long, p .text-fits)) in
       record {
-        fine = rw raws-are (passes (rawList 0 rs) s′ k′ joinable text′ (length o) (length s₀ - first * 2) (length k₀ - first) 1024 sized p (rw runs-are g));
-        in-spans = omega arith;
-        in-keys = omega arith;
+        fine = rw raws-are (passes (rawList 0 rs) s′ k′ joinable text′ (length o) (length s₀ - first * 2) (length k₀ - first) 1024 sized q (rw runs-are g));
+        in-spans = omega (arith, p .spans-fit);
+        in-keys = omega (arith, p .keys-fit);
         few = rw raws-are (omega (arith, c, tokens-most));
       }
 
-  pub lists : {first : ℕ} {o s₀ k₀ o′ s₁ k₁ : List ℕ} {w : Written} → Raised (take (z .items * 3) raw′) s′ k′ first o s₀ k₀ o′ s₁ k₁ w
+  pub lists : {o′ s₁ k₁ : List ℕ} {w : Written} → Raised (take (z .items * 3) raw′) s′ k′ first o s₀ k₀ o′ s₁ k₁ w
       → Lists is at first text text′ o o′ s₀ s₁ k₀ k₁ (record { operations = w .operations; tokens = w .tokens; text = z .text })
   unfolding listOf
-  lists {first} {o} {s₀} {k₀} {o′} {s₁} {k₁} {w} r =
+  lists {o′} {s₁} {k₁} {w} r =
       let e : runsLent s′ k′ joinable (rawsOf (take (z .items * 3) raw′)) ≡ rs = rw raws-are runs-are in
       let t : length (allTokens (elongated rs)) ≡ counts (rawsOf (take (z .items * 3) raw′)) = rw e at (tokens-same s′ k′ joinable (rawsOf (take (z .items * 3) raw′))) in
       let c : counts (rawsOf (take (z .items * 3) raw′)) ≡ length (allTokens rs) = rw raws-are (list-counts 0 rs) in
@@ -221,5 +230,5 @@ module _ (file : List ℕ) (is : List Item) (a : readFile file ≡ Accepted is) 
         many-points = h .many-points;
         operations-most = omega (arith, m, no-longer rs, length-is, items-few);
         tokens-most = omega (arith, r .many-tokens, c, tokens-most);
-        points-most = omega (arith, h .many-points, little file is a short);
+        points-most = omega (arith, h .many-points, little file is (p .accepted) (p .short));
       }

@@ -99,7 +99,8 @@ runs-good n k at (Drop m ∷ is) g h l =
       runs-good n false (at + 0) is (both-1 (leb 1 m) (itemsGood false is) g) (omega arith) (omega arith),
     )
 runs-good n k at (Add cs ∷ is) g h l =
-    let p : 1 ≤ length cs = leb-true 1 (length cs) (both-0 (leb 1 (length cs)) (allPoints cs) (both-0 (both (leb 1 (length cs)) (allPoints cs)) (itemsGood false is) g)) in (
+    let p : 1 ≤ length cs = leb-true 1 (length cs)
+    (both-0 (leb 1 (length cs)) (allPoints cs) (both-0 (both (leb 1 (length cs)) (allPoints cs)) (itemsGood false is) g)) in (
       record { known = omega arith; some = omega (arith, points-length at cs); inside = points-in at n cs (omega arith) },
       runs-good n false (at + length cs) is (both-1 (both (leb 1 (length cs)) (allPoints cs)) (itemsGood false is) g) (omega arith) (omega arith),
     )

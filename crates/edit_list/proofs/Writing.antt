@@ -62,14 +62,16 @@ putting-on ps rest here qs at s₀ k₀ s k s′ k′ h t =
       same-keys = ek ∙ h .same-keys;
       fits-spans = omega (arith, l, es, h .fits-spans);
       fits-keys = omega (arith, l, ek, h .fits-keys);
-      whole-spans = goes-on s s′ (flatSpans ps) (flatSpans rest) (placed s₀ (at * 2) (flatSpans qs)) (here * 2) ((here + length ps) * 2) (t .in-spans) (omega (arith, ls)) fs
+      whole-spans = goes-on s s′ (flatSpans ps) (flatSpans rest) (placed s₀ (at * 2) (flatSpans qs)) (here * 2) ((here + length ps) * 2)
+          (t .in-spans) (omega (arith, ls)) fs
           (rw (spans-append ps rest) at (h .whole-spans));
       whole-keys = goes-on k k′ (flatKeys ps) (flatKeys rest) (placed k₀ at (flatKeys qs)) here (here + length ps) (t .in-keys) (omega (arith, lk)) fk
           (rw (keys-append ps rest) at (h .whole-keys));
     }
 
 -- the same tokens at the same place
-as-putting : {ps : List Piece} {here : ℕ} (ps′ : List Piece) (here′ : ℕ) {qs : List Piece} {at : ℕ} {s₀ k₀ s k : List ℕ} → ps′ ≡ ps → here′ ≡ here → Putting ps here qs at s₀ k₀ s k
+as-putting : {ps : List Piece} {here : ℕ} (ps′ : List Piece) (here′ : ℕ) {qs : List Piece} {at : ℕ} {s₀ k₀ s k : List ℕ} → ps′ ≡ ps → here′ ≡ here
+    → Putting ps here qs at s₀ k₀ s k
     → Putting ps′ here′ qs at s₀ k₀ s k
 as-putting ps′ here′ e f h = rw (e, f) h
 
@@ -116,7 +118,8 @@ points-begin text from count at s k f =
 
 module _ {text : List ℕ} {from count at : ℕ} {s₀ k₀ s k : List ℕ} {j : ℕ} (f : from + count ≤ length text) (h : Pointing text from count at s₀ k₀ s k j) where
   next-puts : j < count
-      → Putting (record { start = from + j; length = 1; key = getD text (from + j) 0; joins = 3 } ∷ pointsLeft text from count (j + 1)) (at + j) (pointTokens from (take count (drop from text))) at s₀ k₀ s k
+      → Putting (record { start = from + j; length = 1; key = getD text (from + j) 0; joins = 3 } ∷ pointsLeft text from count (j + 1)) (at + j)
+      (pointTokens from (take count (drop from text))) at s₀ k₀ s k
   next-puts l = rw (left-more text from count j l f) at (h .puts)
 
   pub next-fits : j < count → ((at + j) * 2 + 2 ≤ length s) × (at + j + 1 ≤ length k)
@@ -147,7 +150,8 @@ pub delete-run : (text : List ℕ) (at n : ℕ) (x : Edit) → x ≡ Delete n �
 unfolding runIn
 delete-run text at n x e = rw e
 
-pub insert-run : (text : List ℕ) (at a n : ℕ) (x : Edit) → x ≡ Insert a n → runIn text at x ≡ record { kind = 1; tokens = pointTokens (at + a) (take n (drop (at + a) text)) }
+pub insert-run : (text : List ℕ) (at a n : ℕ) (x : Edit) → x ≡ Insert a n → runIn text at x ≡ record
+    { kind = 1; tokens = pointTokens (at + a) (take n (drop (at + a) text)) }
 unfolding runIn
 insert-run text at a n x e = rw e
 
@@ -162,11 +166,13 @@ module _ (items : List ℤ) (i lent : ℕ) (text : List ℕ) (at first a n : ℕ
 
   pub insert-fits : PointsFit text (at + a) n s k first
   insert-fits =
-      let g : RunFits (record { kind = 1; tokens = pointTokens (at + a) (take n (drop (at + a) text)) }) i first raw s k = rw (insert-run text at a n (itemAt items lent i) e) at f in
+      let g : RunFits (record { kind = 1; tokens = pointTokens (at + a) (take n (drop (at + a) text)) }) i first raw s k = rw
+      (insert-run text at a n (itemAt items lent i) e) at f in
       let m = part-length text (at + a) n insert-in in
       record { within = insert-in; most = l .most; in-spans = omega (arith, g .in-spans, m); in-keys = omega (arith, g .in-keys, m) }
 
-  pub insert-puts : {raw′ s′ k′ : List ℕ} → raw′ ≡ placed raw (i * 3) (1 ∷ first ∷ n ∷ []) → TokensPut (pointTokens (at + a) (take n (drop (at + a) text))) first s k s′ k′
+  pub insert-puts : {raw′ s′ k′ : List ℕ} → raw′ ≡ placed raw (i * 3) (1 ∷ first ∷ n ∷ []) → TokensPut
+      (pointTokens (at + a) (take n (drop (at + a) text))) first s k s′ k′
       → RunPut (runIn text at (itemAt items lent i)) i first raw s k raw′ s′ k′ (first + n)
   insert-puts r t =
       let m = part-length text (at + a) n insert-in in
@@ -196,7 +202,13 @@ module _ {r : Run} {rs all : List Run} {raw₀ s₀ k₀ raw s k : List ℕ} {i 
   unfolding AllSmall allTokens
   run-fits =
       let l = length-append (r .tokens) (allTokens rs) in
-      record { small = h .small .0; in-raw = omega (arith, h .fits-raw); in-spans = omega (arith, l, h .puts .fits-spans); in-keys = omega (arith, l, h .puts .fits-keys) }
+      record {
+        small = h .small .0;
+        in-raw = omega (arith, h .fits-raw);
+        in-spans = omega (arith, l, h .puts .fits-spans);
+        in-keys = omega
+            (arith, l, h .puts .fits-keys);
+      }
 
   filling-on : {raw′ s′ k′ : List ℕ} {n : ℕ} → RunPut r i tokens raw s k raw′ s′ k′ n → Filling rs all raw₀ s₀ k₀ raw′ s′ k′ (i + 1) n
   unfolding AllSmall allTokens flatRaws
@@ -204,7 +216,8 @@ module _ {r : Run} {rs all : List Run} {raw₀ s₀ k₀ raw s k : List ℕ} {i 
       let l = length-append (r .tokens) (allTokens rs) in
       let three : List ℕ = r .kind ∷ tokens ∷ length (r .tokens) ∷ [] in
       let e : length raw′ ≡ length raw = ap length (p .in-raw) ∙ length-placed raw three (i * 3) (omega (arith, h .fits-raw)) in
-      let w = goes-on raw raw′ three (flatRaws (tokens + length (r .tokens)) rs) (answered (flatRaws 0 all) raw₀) (i * 3) ((i + 1) * 3) (p .in-raw) (omega arith) (omega (arith, h .fits-raw)) (h .whole-raw) in
+      let w = goes-on raw raw′ three (flatRaws (tokens + length (r .tokens)) rs) (answered (flatRaws 0 all) raw₀) (i * 3) ((i + 1) * 3) (p .in-raw)
+      (omega arith) (omega (arith, h .fits-raw)) (h .whole-raw) in
       record {
         small = h .small .1;
         same-raw = e ∙ h .same-raw;
@@ -246,9 +259,11 @@ going-begins items count lent text at raw s k f =
     let e : count - 0 ≡ count = omega arith in
     record { most = zero-le; fills = rw e (filling-begins (runsIn text at (itemsFrom items lent 0 count)) raw s k f) }
 
-module _ {items : List ℤ} {count lent : ℕ} {text : List ℕ} {at : ℕ} {raw₀ s₀ k₀ raw s k : List ℕ} {i tokens : ℕ} (h : Going items count lent text at raw₀ s₀ k₀ raw s k i tokens) where
+module _ {items : List ℤ} {count lent : ℕ} {text : List ℕ} {at : ℕ} {raw₀ s₀ k₀ raw s k : List ℕ} {i tokens : ℕ}
+    (h : Going items count lent text at raw₀ s₀ k₀ raw s k i tokens) where
   next-fills : i < count
-      → Filling (runIn text at (itemAt items lent i) ∷ runsIn text at (itemsFrom items lent (i + 1) (count - (i + 1)))) (runsIn text at (itemsFrom items lent 0 count)) raw₀ s₀ k₀ raw s k i tokens
+      → Filling (runIn text at (itemAt items lent i) ∷ runsIn text at (itemsFrom items lent (i + 1) (count - (i + 1))))
+      (runsIn text at (itemsFrom items lent 0 count)) raw₀ s₀ k₀ raw s k i tokens
   next-fills l = rw (runs-more items lent text at i count l) at (h .fills)
 
   pub going-fits : i < count → RunFits (runIn text at (itemAt items lent i)) i tokens raw s k

@@ -47,7 +47,11 @@ enum-known-written : tie.Need-enum-known-written
 enum-known-written c = search needs
 
 shift-requires : tie.Need-shift-requires
-shift-requires c κs = can-shift _ _ _ _ _ _ _ _ _ (c .before .before .before .before .before .before .before .before .before .before .before .before .before .before .before .before .before .before .before .before .before .before .before .before .pre) refl (c .before .before .before .before .before .before .before .before .before .before .before .elongate .ensures) _ (c .before .before .written .given .1) (omega (arith, c .before .before .before .before .before .before .before .before .before .before .before .before .before .before .before .before .before .before .before .before .before .before .before .before .pre .in-keys, c .before .before .before .before .before .before .before .before .before .before .before .before .before .before .before .before .before .before .before .before .before .before .before .before .good .1 .1 .1 .1 .1 .1 .1 .0))
+shift-requires c κs =
+    let c2 = c .before .before in
+    let c11 = c2 .before .before .before .before .before .before .before .before .before in
+    let c24 = c11 .before .before .before .before .before .before .before .before .before .before .before .before .before in
+    can-shift (c24 .pre) _ refl (c11 .elongate .ensures) _ (c2 .written .given .1) (omega (arith, c24 .pre .in-keys, c24 .good .1 .1 .1 .1 .1 .1 .1 .0))
 
 enum-told : tie.Need-enum-told
 enum-told c = search needs
@@ -62,7 +66,12 @@ same-length-3 : tie.Need-same-length-3
 same-length-3 c = search needs
 
 returns : tie.Need-returns
-returns c = raises _ _ _ _ _ _ _ _ _ (c .before .before .before .before .before .before .before .before .before .before .before .before .before .before .before .before .before .before .before .before .before .before .before .before .before .before .before .pre) refl (c .before .before .before .before .before .before .before .before .before .before .before .before .before .before .elongate .ensures) _ (c .before .before .before .before .before .written .given .1) (c .before .before .shift .ensures)
+returns c =
+    let c2 = c .before .before in
+    let c5 = c2 .before .before .before in
+    let c14 = c5 .before .before .before .before .before .before .before .before .before in
+    let c27 = c14 .before .before .before .before .before .before .before .before .before .before .before .before .before in
+    raises (c27 .pre) _ refl (c14 .elongate .ensures) _ (c5 .written .given .1) (c2 .shift .ensures)
 
 same-length-4 : tie.Need-same-length-4
 same-length-4 c = search needs
@@ -74,7 +83,10 @@ same-length-6 : tie.Need-same-length-6
 same-length-6 c = search needs
 
 returns-2 : tie.Need-returns-2
-returns-2 c = absurd (never-refused _ _ _ _ _ _ _ _ _ (c .before .before .before .before .before .before .before .before .before .before .before .before .before .before .before .before .before .before .before .before .before .before .pre) refl (c .before .before .before .before .before .before .before .before .before .elongate .ensures) _ (c .enum-told .given .1))
+returns-2 c =
+    let c9 = c .before .before .before .before .before .before .before .before .before in
+    let c22 = c9 .before .before .before .before .before .before .before .before .before .before .before .before .before in
+    absurd (never-refused (c22 .pre) _ refl (c9 .elongate .ensures) _ (c .enum-told .given .1))
 
 pub elongate-at-spec : {M : Type 1} → statement M
 elongate-at-spec =

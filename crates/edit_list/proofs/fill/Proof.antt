@@ -17,7 +17,11 @@ items-holds : tie.Need-items-holds Inv-items μ-items
 items-holds c = going-begins _ _ _ _ _ _ _ _ (c .before .before .before .before .pre .1)
 
 put-item-requires : tie.Need-put-item-requires Inv-items μ-items
-put-item-requires c κs = (lent-to _ (c .before .before .before .before .before .before .before .before .before .pre .0) (c .before .before .before .items-test .taken), going-fits (c .before .before .before .before .items .inv) (c .before .before .before .items-test .taken))
+put-item-requires c κs =
+    let c3 = c .before .before .before in
+    let c4 = c3 .before in
+    let c9 = c4 .before .before .before .before .before in
+    (lent-to _ (c9 .pre .0) (c3 .items-test .taken), going-fits (c4 .items .inv) (c3 .items-test .taken))
 
 add-i : tie.Need-add-i Inv-items μ-items
 add-i c = search needs
@@ -26,7 +30,11 @@ items-less : tie.Need-items-less Inv-items μ-items
 items-less c = omega arith
 
 items-again : tie.Need-items-again Inv-items μ-items
-items-again c = going-on (c .before .before .before .before .before .before .before .before .before .before .before .items .inv) (c .before .before .before .before .before .before .before .before .before .before .items-test .taken) (c .before .before .before .before .before .before .put-item .ensures)
+items-again c =
+    let c6 = c .before .before .before .before .before .before in
+    let c10 = c6 .before .before .before .before in
+    let c11 = c10 .before in
+    going-on (c11 .items .inv) (c10 .items-test .taken) (c6 .put-item .ensures)
 
 same-length : tie.Need-same-length Inv-items μ-items
 same-length c = c .before .items .inv .fills .same-raw

@@ -17,16 +17,27 @@ slice-aggregate-raws-of-3 : tie.Need-slice-aggregate-raws-of-3
 slice-aggregate-raws-of-3 c = search needs
 
 raws-of-requires : tie.Need-raws-of-requires
-raws-of-requires c κs = record { accepted = c .before .before .before .before .before .before .before .before .before .pre .accepted; short = c .before .before .before .before .before .before .before .before .before .pre .short; text-fits = c .before .before .before .before .before .before .before .before .before .pre .text-fits; most = c .before .before .before .before .before .before .before .before .before .pre .most; in-raw = omega arith; in-spans = omega arith; in-keys = omega arith }
+raws-of-requires c κs =
+    let c9 = c .before .before .before .before .before .before .before .before .before in
+    record { accepted = c9 .pre .accepted; short = c9 .pre .short; text-fits = c9 .pre .text-fits; most = c9 .pre .most; in-raw = omega arith; in-spans = omega arith; in-keys = omega arith }
 
 mul-end : tie.Need-mul-end
-mul-end c = record { fits = omega (arith, end-most _ _ (c .before .before .before .before .before .before .before .before .before .before .before .before .before .before .before .before .pre .accepted) (c .before .before .before .before .before .before .before .before .before .before .before .before .before .before .before .before .pre .short) _ _ _ _ _ (c .before .before .before .before .before .before .before .before .before .before .before .before .before .before .before .before .pre .good) (c .before .before .before .before .before .before .before .before .before .before .before .before .before .before .before .before .pre .long) (c .before .before .before .before .before .before .before .before .before .before .before .before .before .before .before .before .pre .most) (c .before .before .before .before .before .before .before .before .before .before .before .before .before .before .before .before .pre .text-fits) refl refl refl (c .before .before .before .before .before .before .raws-of .ensures)) }
+mul-end c =
+    let c6 = c .before .before .before .before .before .before in
+    let c16 = c6 .before .before .before .before .before .before .before .before .before .before in
+    record { fits = omega (arith, end-most (c16 .pre) refl refl refl (c6 .raws-of .ensures)) }
 
 array-share-prefix-raw : tie.Need-array-share-prefix-raw
-array-share-prefix-raw c = end-most _ _ (c .before .before .before .before .before .before .before .before .before .before .before .before .before .before .before .before .pre .accepted) (c .before .before .before .before .before .before .before .before .before .before .before .before .before .before .before .before .pre .short) _ _ _ _ _ (c .before .before .before .before .before .before .before .before .before .before .before .before .before .before .before .before .pre .good) (c .before .before .before .before .before .before .before .before .before .before .before .before .before .before .before .before .pre .long) (c .before .before .before .before .before .before .before .before .before .before .before .before .before .before .before .before .pre .most) (c .before .before .before .before .before .before .before .before .before .before .before .before .before .before .before .before .pre .text-fits) refl refl refl (c .before .before .before .before .before .before .raws-of .ensures)
+array-share-prefix-raw c =
+    let c6 = c .before .before .before .before .before .before in
+    let c16 = c6 .before .before .before .before .before .before .before .before .before .before in
+    end-most (c16 .pre) refl refl refl (c6 .raws-of .ensures)
 
 slice-aggregate-elongate-at : tie.Need-slice-aggregate-elongate-at
-slice-aggregate-elongate-at c = end-length _ _ (c .before .before .before .before .before .before .before .before .before .before .before .before .before .before .before .before .before .pre .accepted) (c .before .before .before .before .before .before .before .before .before .before .before .before .before .before .before .before .before .pre .short) _ _ _ _ _ (c .before .before .before .before .before .before .before .before .before .before .before .before .before .before .before .before .before .pre .good) (c .before .before .before .before .before .before .before .before .before .before .before .before .before .before .before .before .before .pre .long) (c .before .before .before .before .before .before .before .before .before .before .before .before .before .before .before .before .before .pre .most) (c .before .before .before .before .before .before .before .before .before .before .before .before .before .before .before .before .before .pre .text-fits) refl refl refl (c .before .before .before .before .before .before .before .raws-of .ensures)
+slice-aggregate-elongate-at c =
+    let c7 = c .before .before .before .before .before .before .before in
+    let c17 = c7 .before .before .before .before .before .before .before .before .before .before in
+    end-length (c17 .pre) refl refl refl (c7 .raws-of .ensures)
 
 slice-aggregate-elongate-at-2 : tie.Need-slice-aggregate-elongate-at-2
 slice-aggregate-elongate-at-2 c = search needs
@@ -35,7 +46,10 @@ slice-aggregate-elongate-at-3 : tie.Need-slice-aggregate-elongate-at-3
 slice-aggregate-elongate-at-3 c = search needs
 
 elongate-at-requires : tie.Need-elongate-at-requires
-elongate-at-requires c κs = elongable _ _ (c .before .before .before .before .before .before .before .before .before .before .before .before .before .before .before .before .before .before .before .before .before .before .before .pre .accepted) (c .before .before .before .before .before .before .before .before .before .before .before .before .before .before .before .before .before .before .before .before .before .before .before .pre .short) _ _ _ _ _ (c .before .before .before .before .before .before .before .before .before .before .before .before .before .before .before .before .before .before .before .before .before .before .before .pre .good) (c .before .before .before .before .before .before .before .before .before .before .before .before .before .before .before .before .before .before .before .before .before .before .before .pre .long) (c .before .before .before .before .before .before .before .before .before .before .before .before .before .before .before .before .before .before .before .before .before .before .before .pre .most) (c .before .before .before .before .before .before .before .before .before .before .before .before .before .before .before .before .before .before .before .before .before .before .before .pre .text-fits) refl refl refl (c .before .before .before .before .before .before .before .before .before .before .before .before .before .raws-of .ensures) _ _ _ _ (c .before .before .before .before .before .before .before .before .before .before .before .before .before .before .before .before .before .before .before .before .before .before .before .pre .operations-fit) (c .before .before .before .before .before .before .before .before .before .before .before .before .before .before .before .before .before .before .before .before .before .before .before .pre .spans-fit) (c .before .before .before .before .before .before .before .before .before .before .before .before .before .before .before .before .before .before .before .before .before .before .before .pre .keys-fit)
+elongate-at-requires c κs =
+    let c13 = c .before .before .before .before .before .before .before .before .before .before .before .before .before in
+    let c23 = c13 .before .before .before .before .before .before .before .before .before .before in
+    elongable (c23 .pre) refl refl refl (c13 .raws-of .ensures)
 
 same-length : tie.Need-same-length
 same-length c = search needs
@@ -50,7 +64,11 @@ same-length-4 : tie.Need-same-length-4
 same-length-4 c = search needs
 
 returns : tie.Need-returns
-returns c = lists _ _ (c .before .before .before .before .before .before .before .before .before .before .before .before .before .before .before .before .before .before .before .before .before .before .before .before .before .before .before .before .before .before .pre .accepted) (c .before .before .before .before .before .before .before .before .before .before .before .before .before .before .before .before .before .before .before .before .before .before .before .before .before .before .before .before .before .before .pre .short) _ _ _ _ _ (c .before .before .before .before .before .before .before .before .before .before .before .before .before .before .before .before .before .before .before .before .before .before .before .before .before .before .before .before .before .before .pre .good) (c .before .before .before .before .before .before .before .before .before .before .before .before .before .before .before .before .before .before .before .before .before .before .before .before .before .before .before .before .before .before .pre .long) (c .before .before .before .before .before .before .before .before .before .before .before .before .before .before .before .before .before .before .before .before .before .before .before .before .before .before .before .before .before .before .pre .most) (c .before .before .before .before .before .before .before .before .before .before .before .before .before .before .before .before .before .before .before .before .before .before .before .before .before .before .before .before .before .before .pre .text-fits) refl refl refl (c .before .before .before .before .before .before .before .before .before .before .before .before .before .before .before .before .before .before .before .before .raws-of .ensures) (c .before .before .before .before .before .before .elongate-at .ensures)
+returns c =
+    let c6 = c .before .before .before .before .before .before in
+    let c20 = c6 .before .before .before .before .before .before .before .before .before .before .before .before .before .before in
+    let c30 = c20 .before .before .before .before .before .before .before .before .before .before in
+    lists (c30 .pre) refl refl refl (c20 .raws-of .ensures) (c6 .elongate-at .ensures)
 
 pub list-of-spec : {M : Type 1} → statement M
 list-of-spec =

@@ -14,10 +14,14 @@ cast-put-token : tie.Need-cast-put-token
 cast-put-token c = record { fits = omega (arith, part-small (c .before .before .before .before .before .before .before .before .before .pre .small)) }
 
 put-token-requires : tie.Need-put-token-requires
-put-token-requires c κs = (omega (arith, c .before .before .before .before .before .before .before .before .before .pre .in-spans), omega (arith, c .before .before .before .before .before .before .before .before .before .pre .in-keys))
+put-token-requires c κs =
+    let c9 = c .before .before .before .before .before .before .before .before .before in
+    (omega (arith, c9 .pre .in-spans), omega (arith, c9 .pre .in-keys))
 
 add-result : tie.Need-add-result
-add-result c = record { fits = omega (arith, c .before .before .before .before .before .before .before .before .before .before .before .before .before .before .pre .in-keys) }
+add-result c =
+    let c14 = c .before .before .before .before .before .before .before .before .before .before .before .before .before .before in
+    record { fits = omega (arith, c14 .pre .in-keys) }
 
 same-length : tie.Need-same-length
 same-length c = search needs
@@ -29,7 +33,10 @@ same-length-3 : tie.Need-same-length-3
 same-length-3 c = search needs
 
 returns : tie.Need-returns
-returns c = record { in-raw = c .before .before .before .before .before .before .before .before .before .put-raw .ensures; tokens = c .before .before .before .before .put-token .ensures; after = refl }
+returns c =
+    let c4 = c .before .before .before .before in
+    let c9 = c4 .before .before .before .before .before in
+    record { in-raw = c9 .put-raw .ensures; tokens = c4 .put-token .ensures; after = refl }
 
 pub put-part-spec : {M : Type 1} → statement M
 put-part-spec =

@@ -20,10 +20,16 @@ add-place : tie.Need-add-place Inv-points μ-points
 add-place c = record { fits = omega (arith, c .before .before .before .before .before .pre .within, c .before .before .before .before .before .pre .most) }
 
 add-put-token : tie.Need-add-put-token Inv-points μ-points
-add-put-token c = record { fits = omega (arith, next-fits (c .before .before .before .before .before .before .before .pre .within) (c .before .before .before .points .inv) (c .before .before .points-test .taken) .1) }
+add-put-token c =
+    let c2 = c .before .before in
+    let c3 = c2 .before in
+    let c7 = c3 .before .before .before .before in
+    record { fits = omega (arith, next-fits (c7 .pre .within) (c3 .points .inv) (c2 .points-test .taken) .1) }
 
 cast-put-token : tie.Need-cast-put-token Inv-points μ-points
-cast-put-token c = record { fits = omega (arith, c .before .before .before .before .before .before .before .pre .within, c .before .before .before .before .before .before .before .pre .most) }
+cast-put-token c =
+    let c7 = c .before .before .before .before .before .before .before in
+    record { fits = omega (arith, c7 .pre .within, c7 .pre .most) }
 
 mul-put-token : tie.Need-mul-put-token Inv-points μ-points
 mul-put-token c = search needs
@@ -32,7 +38,11 @@ shared-slice-read-put-token : tie.Need-shared-slice-read-put-token Inv-points μ
 shared-slice-read-put-token c = omega (arith, c .before .before .before .before .before .before .before .before .pre .within)
 
 put-token-requires : tie.Need-put-token-requires Inv-points μ-points
-put-token-requires c κs = next-fits (c .before .before .before .before .before .before .before .before .pre .within) (c .before .before .before .before .points .inv) (c .before .before .before .points-test .taken)
+put-token-requires c κs =
+    let c3 = c .before .before .before in
+    let c4 = c3 .before in
+    let c8 = c4 .before .before .before .before in
+    next-fits (c8 .pre .within) (c4 .points .inv) (c3 .points-test .taken)
 
 add-j : tie.Need-add-j Inv-points μ-points
 add-j c = search needs
@@ -41,7 +51,12 @@ points-less : tie.Need-points-less Inv-points μ-points
 points-less c = omega arith
 
 points-again : tie.Need-points-again Inv-points μ-points
-points-again c = points-on (c .before .before .before .before .before .before .before .before .before .before .before .before .before .pre .within) (c .before .before .before .before .before .before .before .before .before .points .inv) (c .before .before .before .before .before .before .before .before .points-test .taken) (c .before .before .before .before .put-token .ensures)
+points-again c =
+    let c4 = c .before .before .before .before in
+    let c8 = c4 .before .before .before .before in
+    let c9 = c8 .before in
+    let c13 = c9 .before .before .before .before in
+    points-on (c13 .pre .within) (c9 .points .inv) (c8 .points-test .taken) (c4 .put-token .ensures)
 
 same-length : tie.Need-same-length Inv-points μ-points
 same-length c = c .before .points .inv .puts .same-spans

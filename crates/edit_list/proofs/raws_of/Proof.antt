@@ -1,7 +1,7 @@
 -- Shown: `raws_of` makes a file's raw list.
 -- How: by what it calls, and the laws of proofs/Making.antt. Assumes nothing.
 use native.Mathlib.Omega.{arith}
-use Rattle.edit_list.proofs.Making.{made-lent, made-fits, makes}
+use Rattle.edit_list.proofs.Making.{fill-lent, fill-fits, fill-makes}
 use borrow.Author.Needs.{needs}
 use Rattle.edit_list.proofs.raws_of.Statement.{statement}
 use Rattle.edit_list.proofs.raws_of.Tie as tie
@@ -10,13 +10,18 @@ slice-aggregate-read-at : tie.Need-slice-aggregate-read-at
 slice-aggregate-read-at c = search needs
 
 read-at-requires : tie.Need-read-at-requires
-read-at-requires c κs = record { accepted = c .before .before .before .before .before .before .before .pre .accepted; short = c .before .before .before .before .before .before .before .pre .short; text-fits = c .before .before .before .before .before .before .before .pre .text-fits; items-fit = omega arith }
+read-at-requires c κs =
+    let c7 = c .before .before .before .before .before .before .before in
+    record { accepted = c7 .pre .accepted; short = c7 .pre .short; text-fits = c7 .pre .text-fits; items-fit = omega arith }
 
 slice-aggregate-fill : tie.Need-slice-aggregate-fill
 slice-aggregate-fill c = search needs
 
 fill-requires : tie.Need-fill-requires
-fill-requires c κs = (made-lent _ _ (c .before .before .before .before .before .before .before .before .before .before .before .before .before .before .before .before .pre .accepted) (c .before .before .before .before .before .before .before .before .before .before .before .before .before .before .before .before .pre .short) _ _ (c .before .before .before .before .before .before .before .before .before .before .before .before .before .before .before .before .args .raw .now) (c .before .before .before .before .before .before .before .before .before .before .before .before .before .before .before .before .args .spans .now) (c .before .before .before .before .before .before .before .before .before .before .before .before .before .before .before .before .args .keys .now) (c .before .before .before .before .before .before .before .before .before .before .before .before .before .before .before .before .pre .text-fits) (c .before .before .before .before .before .before .before .before .before .before .before .before .before .before .before .before .pre .most) (c .before .before .before .before .before .before .before .before .before .before .before .before .before .before .before .before .pre .in-raw) (c .before .before .before .before .before .before .before .before .before .before .before .before .before .before .before .before .pre .in-spans) (c .before .before .before .before .before .before .before .before .before .before .before .before .before .before .before .before .pre .in-keys) (c .before .before .before .before .before .before .before .before .read-at .ensures), made-fits _ _ (c .before .before .before .before .before .before .before .before .before .before .before .before .before .before .before .before .pre .accepted) (c .before .before .before .before .before .before .before .before .before .before .before .before .before .before .before .before .pre .short) _ _ (c .before .before .before .before .before .before .before .before .before .before .before .before .before .before .before .before .args .raw .now) (c .before .before .before .before .before .before .before .before .before .before .before .before .before .before .before .before .args .spans .now) (c .before .before .before .before .before .before .before .before .before .before .before .before .before .before .before .before .args .keys .now) (c .before .before .before .before .before .before .before .before .before .before .before .before .before .before .before .before .pre .text-fits) (c .before .before .before .before .before .before .before .before .before .before .before .before .before .before .before .before .pre .most) (c .before .before .before .before .before .before .before .before .before .before .before .before .before .before .before .before .pre .in-raw) (c .before .before .before .before .before .before .before .before .before .before .before .before .before .before .before .before .pre .in-spans) (c .before .before .before .before .before .before .before .before .before .before .before .before .before .before .before .before .pre .in-keys) (c .before .before .before .before .before .before .before .before .read-at .ensures))
+fill-requires c κs =
+    let c8 = c .before .before .before .before .before .before .before .before in
+    let c16 = c8 .before .before .before .before .before .before .before .before in
+    (fill-lent (c16 .pre) (c8 .read-at .ensures), fill-fits (c16 .pre) (c8 .read-at .ensures))
 
 same-length : tie.Need-same-length
 same-length c = search needs
@@ -31,7 +36,11 @@ same-length-4 : tie.Need-same-length-4
 same-length-4 c = search needs
 
 returns : tie.Need-returns
-returns c = makes _ _ (c .before .before .before .before .before .before .before .before .before .before .before .before .before .before .before .before .before .before .before .before .before .before .before .pre .accepted) (c .before .before .before .before .before .before .before .before .before .before .before .before .before .before .before .before .before .before .before .before .before .before .before .pre .short) _ _ (c .before .before .before .before .before .before .before .before .before .before .before .before .before .before .before .before .before .before .before .before .before .before .before .args .raw .now) (c .before .before .before .before .before .before .before .before .before .before .before .before .before .before .before .before .before .before .before .before .before .before .before .args .spans .now) (c .before .before .before .before .before .before .before .before .before .before .before .before .before .before .before .before .before .before .before .before .before .before .before .args .keys .now) (c .before .before .before .before .before .before .before .before .before .before .before .before .before .before .before .before .before .before .before .before .before .before .before .pre .text-fits) (c .before .before .before .before .before .before .before .before .before .before .before .before .before .before .before .before .before .before .before .before .before .before .before .pre .most) (c .before .before .before .before .before .before .before .before .before .before .before .before .before .before .before .before .before .before .before .before .before .before .before .pre .in-raw) (c .before .before .before .before .before .before .before .before .before .before .before .before .before .before .before .before .before .before .before .before .before .before .before .pre .in-spans) (c .before .before .before .before .before .before .before .before .before .before .before .before .before .before .before .before .before .before .before .before .before .before .before .pre .in-keys) (c .before .before .before .before .before .before .before .before .before .before .before .before .before .before .before .read-at .ensures) (c .before .before .before .before .before .before .fill .ensures)
+returns c =
+    let c6 = c .before .before .before .before .before .before in
+    let c15 = c6 .before .before .before .before .before .before .before .before .before in
+    let c23 = c15 .before .before .before .before .before .before .before .before in
+    fill-makes (c23 .pre) (c15 .read-at .ensures) (c6 .fill .ensures)
 
 pub raws-of-spec : {M : Type 1} → statement M
 raws-of-spec =

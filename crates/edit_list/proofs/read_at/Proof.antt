@@ -1,6 +1,6 @@
 -- Shown: `read_at` reads an accepted file into the rooms.
 -- How: the answer of `read` is known, since the file is short and the rooms are long. Assumes nothing.
-use Rattle.edit_list.proofs.Making.{reads, reads-all}
+use Rattle.edit_list.proofs.Making.{read-done, read-never}
 use borrow.Author.Needs.{needs}
 use Rattle.edit_list.proofs.read_at.Statement.{statement}
 use Rattle.edit_list.proofs.read_at.Tie as tie
@@ -33,7 +33,10 @@ same-length-2 : tie.Need-same-length-2
 same-length-2 c = search needs
 
 returns : tie.Need-returns
-returns c = reads _ _ (c .before .before .before .before .before .before .before .before .before .before .before .pre .accepted) (c .before .before .before .before .before .before .before .before .before .before .before .pre .short) _ (c .before .before .before .before .before .before .before .before .before .before .before .args .text .now) _ (c .before .before .before .before .before .before .before .before .before .before .before .pre .text-fits) (c .before .before .before .before .before .before .before .before .before .before .before .pre .items-fit) (c .before .before .before .before .before .before .read .ensures) _ _ (c .before .n .given .1)
+returns c =
+    let c6 = c .before .before .before .before .before .before in
+    let c11 = c6 .before .before .before .before .before in
+    read-done (c11 .pre) (c6 .read .ensures) _ _ (c .before .n .given .1)
 
 same-length-3 : tie.Need-same-length-3
 same-length-3 c = search needs
@@ -42,7 +45,10 @@ same-length-4 : tie.Need-same-length-4
 same-length-4 c = search needs
 
 returns-2 : tie.Need-returns-2
-returns-2 c = absurd (reads-all _ _ (c .before .before .before .before .before .before .before .before .before .before .pre .accepted) (c .before .before .before .before .before .before .before .before .before .before .pre .short) _ (c .before .before .before .before .before .before .before .before .before .before .args .text .now) _ (c .before .before .before .before .before .before .before .before .before .before .pre .text-fits) (c .before .before .before .before .before .before .before .before .before .before .pre .items-fit) (c .before .before .before .before .before .read .ensures) _ (c .enum-told .given .1))
+returns-2 c =
+    let c5 = c .before .before .before .before .before in
+    let c10 = c5 .before .before .before .before .before in
+    absurd (read-never (c10 .pre) (c5 .read .ensures) _ (c .enum-told .given .1))
 
 pub read-at-spec : {M : Type 1} → statement M
 read-at-spec =
