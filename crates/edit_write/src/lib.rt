@@ -203,7 +203,7 @@ fn plus(a: usize, b: usize) -> usize
 }
 
 // The length of a line of one number, by that of its key.
-fn line_length(key: usize, n: u64) -> usize
+pub fn line_length(key: usize, n: u64) -> usize
     requires { ⌜ key ≤ 9 ⌝ }
     ensures { λ r. ⌜ r ≡ cap (key + length (digits 10 n) + 1) ⌝ }
 {
@@ -269,7 +269,7 @@ fn file_length(items: &[i64], text: &[u32], original: u64, result: u64) -> usize
 }
 
 // A key, a decimal and LF at a place.
-fn put_line(out: &mut [u8], at: usize, key: &[u8], n: u64) -> usize
+pub fn put_line(out: &mut [u8], at: usize, key: &[u8], n: u64) -> usize
     requires { ⌜ at + length (numberLine (now key) n) ≤ length (now out) ⌝ }
     ensures { λ r. ⌜ Put (numberLine (now (key .entry)) n) (now (out .entry)) at (now (out .exit)) r ⌝ }
 {

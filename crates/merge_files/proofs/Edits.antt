@@ -1,0 +1,212 @@
+-- Shown: the lists of two accepted edit files, in one text and one run of tokens, are those of the definition, and few enough to be merged.
+-- How: what was put behind something that stands at the front of a room stands at the front with it.
+use Prim.Native.Nat.{ℕ, _+_, _*_, _≤_}
+use mathlib.Core.Path.{_≡_, refl, sym, _∙_, ap}
+use mathlib.Core.Bool.{Bool, true, false}
+use mathlib.Core.List.{List, [], _∷_, _++_}
+use native.Mathlib.Omega.{arith}
+use lib.ListN.{length, take, length-append}
+use lib.Dec.{eqb}
+use Rattle.room.specs.Choice.{pick}
+use Rattle.room.specs.Placed.{placed, answered}
+use Rattle.room.proofs.Answers.{at-start, one-more, same-room}
+use Rattle.records.specs.declared.Operation.{Operation}
+use Rattle.records.specs.Operations.{operationsOf}
+use Rattle.records.proofs.Operations.{of-answered, length-answered}
+use Rattle.checks.specs.Texts.{total, claimedBy}
+use Rattle.elongate.specs.Raws.{Piece, Run, flatSpans, flatKeys}
+use Rattle.elongate.specs.Elongated.{cookedFrom, allTokens, consumes, piecesLength}
+use Rattle.elongate.proofs.Joining.{cooked-length}
+use Rattle.edit_format.specs.Items.{Item, texts}
+use Rattle.edit_format.specs.Reading.{readFile}
+use Rattle.edit_format.proofs.Accepts.{accepted-good}
+use Rattle.outputs.proofs.Replaying.{front}
+use Rattle.edit_list.specs.declared.Listed.{Listed}
+use Rattle.edit_list.specs.Raws.{listOf, itemsIn}
+use Rattle.edit_list.specs.Lists.{Listable, Lists}
+use Rattle.edit_list.proofs.Points.{good-text}
+use Rattle.merge_files.specs.declared.Outcome.{Outcome}
+use Rattle.merge_files.specs.Program.{textOf, tokensOf, rightOf, Written}
+use Rattle.merge_files.specs.Steps.{mergeResult, goodResult, Mergeable, Files, Rooms}
+
+spans-append : (ps qs : List Piece) → flatSpans (ps ++ qs) ≡ flatSpans ps ++ flatSpans qs
+unfolding flatSpans
+spans-append [] qs = refl
+spans-append (p ∷ ps) qs = ap (λ (x : List ℕ). p .start ∷ p .length ∷ x) (spans-append ps qs)
+
+keys-append : (ps qs : List Piece) → flatKeys (ps ++ qs) ≡ flatKeys ps ++ flatKeys qs
+unfolding flatKeys
+keys-append [] qs = refl
+keys-append (p ∷ ps) qs = ap (λ (x : List ℕ). p .key ∷ x) (keys-append ps qs)
+
+spans-length : (ps : List Piece) → length (flatSpans ps) ≡ length ps * 2
+unfolding flatSpans
+spans-length [] = refl
+spans-length (p ∷ ps) = omega (arith, spans-length ps)
+
+keys-length : (ps : List Piece) → length (flatKeys ps) ≡ length ps
+unfolding flatKeys
+keys-length [] = refl
+keys-length (p ∷ ps) = omega (arith, keys-length ps)
+
+-- a list's inserts claim no more tokens than it has
+picked : (k n : ℕ) → pick (eqb k 1) n 0 ≤ n
+picked k n = at (eqb k 1)
+  where
+    at : (b : Bool) → pick b n 0 ≤ n
+    at b = elim b [ true ↦ omega arith | false ↦ omega arith ]
+
+claims-most : (rs : List Run) (at first : ℕ) → total claimedBy (cookedFrom rs at first) ≤ length (allTokens rs)
+unfolding total cookedFrom allTokens
+claims-most [] at first = omega arith
+claims-most (r ∷ rs) at first =
+    omega (
+      arith,
+      picked (r .kind) (length (r .tokens)),
+      length-append (r .tokens) (allTokens rs),
+      claims-most rs (at + consumes (r .kind) (piecesLength (r .tokens))) (first + length (r .tokens)),
+    )
+
+-- the front of a room that two puts made
+two-puts : {A : Type 0} (s t d d₁ d₂ : List A) (n : ℕ) → d₁ ≡ placed d 0 s → n ≡ length s → d₂ ≡ placed d₁ n t → d₂ ≡ answered (s ++ t) d
+two-puts s t d d₁ d₂ n e q f = f ∙ rw (q, e, at-start s d) (one-more s t d)
+
+module _ (left right : List ℕ) (F : Files left right) (text lefts rights spans keys : List ℕ) (R : Rooms text lefts rights spans keys) where
+  abbrev ls : List Item
+  ls = itemsIn (readFile left)
+
+  abbrev rs : List Item
+  rs = itemsIn (readFile right)
+
+  pub left-listable : Listable left 0 0 text lefts spans keys
+  left-listable =
+      record {
+        accepted = F .left-accepted;
+        short = F .left-short;
+        good = R .good;
+        long = omega (arith, R .text-long);
+        most = R .text-most;
+        text-fits = omega (arith, R .text-long);
+        operations-fit = R .lefts-fit;
+        spans-fit = omega (arith, R .spans-fit);
+        keys-fit = omega (arith, R .keys-fit);
+      }
+
+  module _ {text₁ lefts₁ spans₁ keys₁ : List ℕ} {l : Listed} (L : Lists ls 0 0 text text₁ lefts lefts₁ spans spans₁ keys keys₁ l) where
+    text-same : length text₁ ≡ length text
+    text-same =
+        rw (L .text-is, at-start (texts ls) text) (same-room (texts ls) text (omega (arith, L .many-points, L .points-most, R .text-long)))
+
+    spans-same : length spans₁ ≡ length spans
+    spans-same =
+        rw (L .spans-are, at-start (flatSpans (allTokens (listOf 0 ls))) spans)
+        (same-room (flatSpans (allTokens (listOf 0 ls))) spans (omega (arith, spans-length (allTokens (listOf 0 ls)), L .many-tokens, L .tokens-most, R .spans-fit)))
+
+    keys-same : length keys₁ ≡ length keys
+    keys-same =
+        rw (L .keys-are, at-start (flatKeys (allTokens (listOf 0 ls))) keys)
+        (same-room (flatKeys (allTokens (listOf 0 ls))) keys (omega (arith, keys-length (allTokens (listOf 0 ls)), L .many-tokens, L .tokens-most, R .keys-fit)))
+
+    pub right-listable : Listable right (l .text) (l .tokens) text₁ rights spans₁ keys₁
+    right-listable =
+        record {
+          accepted = F .right-accepted;
+          short = F .right-short;
+          good = rw (L .text-is) (good-text text 0 ls (R .good) (accepted-good left (F .left-accepted) .each));
+          long = omega (arith, text-same, R .text-long);
+          most = omega (arith, text-same, R .text-most);
+          text-fits = omega (arith, text-same, R .text-long, L .points-most);
+          operations-fit = R .rights-fit;
+          spans-fit = omega (arith, spans-same, R .spans-fit, L .tokens-most);
+          keys-fit = omega (arith, keys-same, R .keys-fit, L .tokens-most);
+        }
+
+    module _ {text₂ rights₁ spans₂ keys₂ : List ℕ} {r : Listed} (M : Lists rs (l .text) (l .tokens) text₁ text₂ rights rights₁ spans₁ spans₂ keys₁ keys₂ r) where
+      abbrev lt : List Piece
+      lt = allTokens (listOf 0 ls)
+
+      abbrev rt : List Piece
+      rt = allTokens (listOf (l .text) rs)
+
+      text-is : text₂ ≡ textOf text ls rs
+      unfolding textOf
+      text-is = two-puts (texts ls) (texts rs) text text₁ text₂ (l .text) (L .text-is) (L .many-points) (M .text-is)
+
+      all-spans : spans₂ ≡ answered (flatSpans lt ++ flatSpans rt) spans
+      all-spans =
+          two-puts (flatSpans lt) (flatSpans rt) spans spans₁ spans₂ (l .tokens * 2) (L .spans-are) (omega (arith, L .many-tokens, spans-length lt)) (M .spans-are)
+
+      all-keys : keys₂ ≡ answered (flatKeys lt ++ flatKeys rt) keys
+      all-keys = two-puts (flatKeys lt) (flatKeys rt) keys keys₁ keys₂ (l .tokens) (L .keys-are) (omega (arith, L .many-tokens, keys-length lt)) (M .keys-are)
+
+      many-spans : (l .tokens + r .tokens) * 2 ≡ length (flatSpans lt ++ flatSpans rt)
+      many-spans = omega (arith, L .many-tokens, M .many-tokens, spans-length lt, spans-length rt, length-append (flatSpans lt) (flatSpans rt))
+
+      many-keys : l .tokens + r .tokens ≡ length (flatKeys lt ++ flatKeys rt)
+      many-keys = omega (arith, L .many-tokens, M .many-tokens, keys-length lt, keys-length rt, length-append (flatKeys lt) (flatKeys rt))
+
+      pub spans-in : (l .tokens + r .tokens) * 2 ≤ length spans₂
+      spans-in =
+          let e : length spans₂ ≡ length spans = rw all-spans (same-room (flatSpans lt ++ flatSpans rt) spans (omega (arith, many-spans, L .tokens-most, M .tokens-most, R .spans-fit))) in
+          omega (arith, L .tokens-most, M .tokens-most, R .spans-fit)
+
+      pub keys-in : l .tokens + r .tokens ≤ length keys₂
+      keys-in =
+          let e : length keys₂ ≡ length keys = rw all-keys (same-room (flatKeys lt ++ flatKeys rt) keys (omega (arith, many-keys, L .tokens-most, M .tokens-most, R .keys-fit))) in
+          omega (arith, L .tokens-most, M .tokens-most, R .keys-fit)
+
+      abbrev lo : List Operation
+      lo = cookedFrom (listOf 0 ls) 0 0
+
+      abbrev ro : List Operation
+      ro = cookedFrom (listOf (l .text) rs) 0 (l .tokens)
+
+      left-many : l .operations ≡ length lo
+      left-many = omega (arith, L .many-operations, cooked-length (listOf 0 ls) 0 0)
+
+      right-many : r .operations ≡ length ro
+      right-many = omega (arith, M .many-operations, cooked-length (listOf (l .text) rs) 0 (l .tokens))
+
+      pub left-in : l .operations * 6 ≤ length lefts₁
+      left-in =
+          let e : length lefts₁ ≡ length lefts = rw (L .operations-are) (length-answered lo lefts (omega (arith, left-many, L .operations-most, R .lefts-fit))) in
+          omega (arith, L .operations-most, R .lefts-fit)
+
+      pub right-in : r .operations * 6 ≤ length rights₁
+      right-in =
+          let e : length rights₁ ≡ length rights = rw (M .operations-are) (length-answered ro rights (omega (arith, right-many, M .operations-most, R .rights-fit))) in
+          omega (arith, M .operations-most, R .rights-fit)
+
+      left-is : operationsOf (take (l .operations * 6) lefts₁) ≡ lo
+      left-is = rw (L .operations-are) (of-answered lo lefts (l .operations * 6) (ap (λ (k : ℕ). k * 6) left-many))
+
+      right-is : operationsOf (take (r .operations * 6) rights₁) ≡ ro
+      right-is = rw (M .operations-are) (of-answered ro rights (r .operations * 6) (ap (λ (k : ℕ). k * 6) right-many))
+
+      pub mergeable : Mergeable (take (l .operations * 6) lefts₁) (take (r .operations * 6) rights₁)
+      mergeable =
+          record {
+            left-few = rw left-is (omega (arith, left-many, L .operations-most));
+            right-few = rw right-is (omega (arith, right-many, M .operations-most));
+            left-tokens = rw left-is (omega (arith, claims-most (listOf 0 ls) 0 0, L .many-tokens, L .tokens-most));
+            right-tokens = rw right-is (omega (arith, claims-most (listOf (l .text) rs) 0 (l .tokens), M .many-tokens, M .tokens-most));
+          }
+
+      tokens-are : lt ++ rt ≡ tokensOf ls rs
+      unfolding tokensOf
+      tokens-are = ap (λ (k : ℕ). lt ++ allTokens (listOf k rs)) (L .many-points)
+
+      spans-are : take ((l .tokens + r .tokens) * 2) spans₂ ≡ flatSpans (tokensOf ls rs)
+      spans-are =
+          front (flatSpans lt ++ flatSpans rt) spans spans₂ ((l .tokens + r .tokens) * 2) many-spans all-spans ∙ (sym (spans-append lt rt) ∙ ap flatSpans tokens-are)
+
+      keys-are : take (l .tokens + r .tokens) keys₂ ≡ flatKeys (tokensOf ls rs)
+      keys-are = front (flatKeys lt ++ flatKeys rt) keys keys₂ (l .tokens + r .tokens) many-keys all-keys ∙ (sym (keys-append lt rt) ∙ ap flatKeys tokens-are)
+
+      right-list : ro ≡ rightOf ls rs
+      right-list = λ i. cookedFrom (listOf (L .many-points i) rs) 0 (L .many-tokens i)
+
+      pub result : (original out out′ : List ℕ) (z : Outcome)
+          → Written (mergeResult original text₂ (take ((l .tokens + r .tokens) * 2) spans₂) (take (l .tokens + r .tokens) keys₂) (take (l .operations * 6) lefts₁) (take (r .operations * 6) rights₁)) out out′ z
+          → Written (goodResult text original (readFile left) (readFile right)) out out′ z
+      result original out out′ z h = rw (text-is, spans-are, keys-are, left-is, right-is, right-list) at h

@@ -1,0 +1,164 @@
+-- Shown: the program over three files: the first refusal, or the merge of two accepted edit files over the original's code points.
+-- How: by the tests that the definition makes.
+use Prim.Native.Nat.{ℕ, zero, suc, _+_, _≤_}
+use mathlib.Core.Path.{_≡_, refl, sym, _∙_, ap, subst}
+use mathlib.Core.Bool.{Bool, true, false, _&&_}
+use mathlib.Core.List.{List, [], _∷_}
+use native.Mathlib.Omega.{arith}
+use lib.ListN.{length, take, replicate, length-replicate}
+use borrow.Author.Tests.{leb-true, le-ltb}
+use Rattle.refusal.specs.declared.Refusal.{Refusal}
+use Rattle.refusal.specs.declared.Counted.{Counted}
+use Rattle.refusal.specs.declared.Counted.the-variants as C
+use Rattle.room.specs.Choice.{pick}
+use Rattle.room.specs.Placed.{answered}
+use Rattle.room.proofs.Answers.{same-room}
+use Rattle.checks.specs.declared.Verdict.the-variants as W
+use Rattle.checks.specs.Points.{pointsFrom}
+use Rattle.checks.proofs.Bools.{and-left, and-right}
+use Rattle.utf8_read.specs.Grammar.{utf8-char}
+use Rattle.utf8_read.specs.Table.{decode}
+use Rattle.utf8_read.specs.Reading.{good-end, points, points-from}
+use Rattle.utf8.specs.Answers.{read-of, Answered, leaves}
+use Rattle.edit_format.specs.Reading.{Found, Accepted, Refused, readFile}
+use Rattle.outputs.proofs.Replaying.{front}
+use Rattle.edit_list.specs.Raws.{itemsIn}
+use Rattle.merge_files.specs.declared.Outcome.{Outcome}
+use Rattle.merge_files.specs.Program.{Result, refused, padding, ofFiles, sized, utf8, resultOf, Written}
+use Rattle.merge_files.specs.Steps.{isEdit, firstOf, Files, Rooms, goodResult}
+
+-- no more code points than bytes
+few-points : (s : List ℕ) (k : ℕ) → length (points-from k s) ≤ length s
+unfolding points-from
+few-points [] k = omega arith
+few-points (b ∷ s) (suc k) = omega (arith, few-points s k)
+few-points (b ∷ s) zero = go (utf8-char (b ∷ s)) (λ j. few-points s j)
+  where
+    go : (n : ℕ) → ((j : ℕ) → length (points-from j s) ≤ length s)
+        → length {A = ℕ} (elim n as (λ (x : ℕ). List ℕ) [ zero ↦ [] | suc j ↦ decode (take (suc j) (b ∷ s)) ∷ points-from j s ]) ≤ suc (length s)
+    go zero h = omega arith
+    go (suc j) h = omega (arith, h j)
+
+-- zeros are code points
+zeros-fine : (n i : ℕ) → pointsFrom (replicate n 0) i ≡ W.Accepted
+unfolding pointsFrom
+zeros-fine zero i = refl
+zeros-fine (suc n) i = zeros-fine n (i + 1)
+
+-- three tests, and what they leave
+first-most : (a b c : Bool) → pick a (pick b (pick c 0 8) 10) 3 ≤ 10
+first-most true true true = omega arith
+first-most true true false = omega arith
+first-most true false c = omega arith
+first-most false b c = omega arith
+
+refused-first : (a b : Bool) (f g : Found) (d o : List ℕ) (n : ℕ) → n ≡ pick a (pick b (pick (isEdit f && isEdit g) 0 8) 10) 3 → (n ≡ 0 → ⊥)
+    → refused n ≡ pick a (pick b (ofFiles d o f g) (refused 10)) (refused 3)
+unfolding isEdit ofFiles
+refused-first true true (Accepted is) (Accepted js) d o n e z = absurd (z e)
+refused-first true true (Accepted is) (Refused l) d o n e z = ap refused e
+refused-first true true (Refused k) g d o n e z = ap refused e
+refused-first true false f g d o n e z = ap refused e
+refused-first false b f g d o n e z = ap refused e
+
+-- no test failed
+pub record Fine (a b : Bool) (f g : Found) : Type 0 where
+  pub first : a ≡ true
+  pub second : b ≡ true
+  pub left : f ≡ Accepted (itemsIn f)
+  pub right : g ≡ Accepted (itemsIn g)
+
+fine : (a b : Bool) (f g : Found) → _≡_ {A = ℕ} (pick a (pick b (pick (isEdit f && isEdit g) 0 8) 10) 3) 0 → Fine a b f g
+unfolding isEdit itemsIn
+fine true true (Accepted is) (Accepted js) e = record { first = refl; second = refl; left = refl; right = refl }
+fine true true (Accepted is) (Refused l) e = absurd (omega arith)
+fine true true (Refused k) g e = absurd (omega arith)
+fine true false f g e = absurd (omega arith)
+fine false b f g e = absurd (omega arith)
+
+module _ (o l r : List ℕ) where
+  abbrev a : Bool
+  a = sized o && (sized l && sized r)
+
+  abbrev b : Bool
+  b = utf8 o && (utf8 l && utf8 r)
+
+  module _ (n : ℕ) (e : n ≡ firstOf o l r) where
+    pub number-small : n ≤ 10
+    unfolding firstOf
+    number-small = rw e (first-most a b (isEdit (readFile l) && isEdit (readFile r)))
+
+    pub refuses : (n ≡ 0 → ⊥) → (out out′ : List ℕ) (z : Outcome) → Written (refused n) out out′ z → Written (resultOf o l r) out out′ z
+    unfolding firstOf resultOf
+    refuses h out out′ z w =
+        subst (λ (x : Result). Written x out out′ z) (refused-first a b (readFile l) (readFile r) padding (points o) n e h) w
+
+    module _ (h : n ≡ 0) where
+      passed : Fine a b (readFile l) (readFile r)
+      unfolding firstOf
+      passed = fine a b (readFile l) (readFile r) (sym e ∙ h)
+
+      o-short : length o ≤ 2048
+      o-short = leb-true (length o) 2048 (and-left (sized o) (sized l && sized r) (passed .first))
+
+      o-good : length o ≤ good-end o
+      o-good = leb-true (length o) (good-end o) (and-left (utf8 o) (utf8 l && utf8 r) (passed .second))
+
+      pub files : Files l r
+      files =
+          let s : sized l && sized r ≡ true = and-right (sized o) (sized l && sized r) (passed .first) in
+          record {
+            left-short = leb-true (length l) 2048 (and-left (sized l) (sized r) s);
+            right-short = leb-true (length r) 2048 (and-right (sized l) (sized r) s);
+            left-accepted = passed .left;
+            right-accepted = passed .right;
+          }
+
+      module _ (d d′ : List ℕ) (nd : length d ≡ 2048) where
+        due : read-of o (length d) ≡ C.Count (length (points o))
+        unfolding read-of
+        due = rw (le-ltb (good-end o) (length o) o-good, le-ltb (length d) (length (points o)) (omega (arith, few-points o 0, o-short)))
+
+        pub not-refused : {A : Type 0} {x : Counted} {q : Refusal} → Answered (read-of o (length d)) x (points o) d d′ → x ≡ C.Refused q → A
+        not-refused {A} {x} {q} w t =
+            let p : C.Refused q ≡ C.Count (length (points o)) = sym t ∙ (w .answer ∙ due) in
+            let z : _≡_ {A = ℕ} 0 1 = cc in
+            absurd (omega arith)
+
+        module _ {x : Counted} {k : ℕ} (w : Answered (read-of o (length d)) x (points o) d d′) (t : x ≡ C.Count k) where
+          count : k ≡ length (points o)
+          count =
+              let p : C.Count k ≡ C.Count (length (points o)) = sym t ∙ (w .answer ∙ due) in
+              cc
+
+          room-is : d′ ≡ answered (points o) d
+          unfolding leaves
+          room-is = rw due at (w .room)
+
+          pub points-in : k ≤ length d′
+          points-in =
+              let s : length d′ ≡ length d = rw room-is (same-room (points o) d (omega (arith, few-points o 0, o-short))) in
+              omega (arith, count, few-points o 0, o-short)
+
+          pub result : (text : List ℕ) → text ≡ padding → (out out′ : List ℕ) (z : Outcome)
+              → Written (goodResult text (take k d′) (readFile l) (readFile r)) out out′ z → Written (resultOf o l r) out out′ z
+          unfolding resultOf ofFiles
+          result text et out out′ z v =
+              let p : take k d′ ≡ points o = front (points o) d d′ k count room-is in
+              rw (passed .first, passed .second, passed .left, passed .right) (rw (et, p) at v)
+
+-- zeros in rooms of these lengths
+pub rooms : (text lefts rights spans keys : List ℕ) → text ≡ padding → length lefts ≡ 3072 → length rights ≡ 3072 → length spans ≡ 4096
+    → length keys ≡ 2048 → Rooms text lefts rights spans keys
+unfolding padding
+rooms text lefts rights spans keys e nl nr ns nk =
+    let n : length text ≡ 67583 = ap length e ∙ length-replicate {A = ℕ} 67583 0 in
+    record {
+      good = rw e (zeros-fine 67583 0);
+      text-long = omega arith;
+      text-most = omega arith;
+      lefts-fit = omega arith;
+      rights-fit = omega arith;
+      spans-fit = omega arith;
+      keys-fit = omega arith;
+    }

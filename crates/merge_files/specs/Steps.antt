@@ -1,0 +1,76 @@
+-- What the program's steps say to one another. Assumes nothing.
+use Prim.Native.Nat.{ℕ, _+_, _*_, _≤_}
+use mathlib.Core.Path.{_≡_}
+use mathlib.Core.Bool.{Bool, true, false, _&&_}
+use mathlib.Core.List.{List, []}
+use lib.ListN.{length}
+use Rattle.room.specs.Choice.{pick}
+use Rattle.records.specs.declared.Operation.{Operation}
+use Rattle.records.specs.Operations.{operationsOf}
+use Rattle.checks.specs.declared.Verdict.the-variants as W
+use Rattle.checks.specs.Texts.{total, claimedBy}
+use Rattle.checks.specs.Points.{pointsFrom}
+use Rattle.edit_format.specs.Reading.{Found, Accepted, Refused, readFile}
+use Rattle.edit_format.specs.Written.{written}
+use Rattle.merging.specs.Lent.{Lent}
+use Rattle.to_diff.specs.Items.{diffOf}
+use Rattle.to_diff.specs.Answers.{verdictOn}
+use Rattle.edit_list.specs.Raws.{itemsIn}
+use Rattle.merge_files.specs.Program.{Result, merged, mergedOf, lentOf, leftOf, rightOf, sized, utf8}
+
+-- what was lent to a merge
+abbrev pub given : List ℕ → List ℕ → List ℕ → List ℕ → Lent
+given original text spans keys = record { original = original; inserted = text; spans = spans; keys = keys }
+
+-- the edit file of a list
+abbrev pub diffResult : List ℕ → List ℕ → List ℕ → List ℕ → List ℕ → Result
+diffResult original text spans keys ops = merged (written (diffOf (given original text spans keys) (operationsOf ops)))
+
+-- a list whose diff can be written
+pub record Diffable (original text spans keys ops : List ℕ) : Type 0 where
+  pub accepted : verdictOn (given original text spans keys) (operationsOf ops) ≡ W.Accepted
+  pub few : length (operationsOf ops) ≤ 1024
+
+-- two lists merged, or the refusal
+abbrev pub mergeResult : List ℕ → List ℕ → List ℕ → List ℕ → List ℕ → List ℕ → Result
+mergeResult original text spans keys left right = mergedOf (given original text spans keys) (operationsOf left) (operationsOf right)
+
+-- lists for which the program's rooms are long enough
+pub record Mergeable (left right : List ℕ) : Type 0 where
+  pub left-few : length (operationsOf left) ≤ 512
+  pub right-few : length (operationsOf right) ≤ 512
+  pub left-tokens : total claimedBy (operationsOf left) ≤ 1024
+  pub right-tokens : total claimedBy (operationsOf right) ≤ 1024
+
+-- the first refusal before the merge's own; 0 is none
+unfoldable pub isEdit : Found → Bool
+isEdit (Accepted is) = true
+isEdit (Refused l) = false
+
+unfoldable pub firstOf : List ℕ → List ℕ → List ℕ → ℕ
+firstOf original left right =
+    pick (sized original && (sized left && sized right))
+    (pick (utf8 original && (utf8 left && utf8 right)) (pick (isEdit (readFile left) && isEdit (readFile right)) 0 8) 10)
+    3
+
+-- two edit files that were accepted
+pub record Files (left right : List ℕ) : Type 0 where
+  pub left-short : length left ≤ 2048
+  pub right-short : length right ≤ 2048
+  pub left-accepted : readFile left ≡ Accepted (itemsIn (readFile left))
+  pub right-accepted : readFile right ≡ Accepted (itemsIn (readFile right))
+
+-- rooms for their lists
+pub record Rooms (text lefts rights spans keys : List ℕ) : Type 0 where
+  pub good : pointsFrom text 0 ≡ W.Accepted
+  pub text-long : 67583 ≤ length text
+  pub text-most : length text ≤ 131070
+  pub lefts-fit : 3072 ≤ length lefts
+  pub rights-fit : 3072 ≤ length rights
+  pub spans-fit : 4096 ≤ length spans
+  pub keys-fit : 2048 ≤ length keys
+
+-- their merge, their text in the text d
+abbrev pub goodResult : List ℕ → List ℕ → Found → Found → Result
+goodResult d original l r =
+    mergedOf (lentOf d original (itemsIn l) (itemsIn r)) (leftOf (itemsIn l)) (rightOf (itemsIn l) (itemsIn r))

@@ -1,0 +1,215 @@
+// The program's work, from the bytes of three files to the bytes that it writes: the merged edit file,
+// or a line `refused=` with the number.
+use refusal::Counted;
+use refusal::Refusal;
+ghost use mathlib.Core.Path.{_≡_};
+ghost use Prim.Native.Nat.{_≤_};
+ghost use Rattle.edit_format.specs.Reading.{readFile};
+ghost use Rattle.merge_files.specs.Program.{refused, utf8, resultOf, Written};
+ghost use Rattle.merge_files.specs.Steps.{isEdit, firstOf, Mergeable, Diffable, Files, Rooms, mergeResult, diffResult, goodResult};
+
+// How many bytes stand in the room: a merged edit file, or a refusal's line; or that it is too short.
+pub enum Outcome {
+    Merged(usize),
+    Refused(usize),
+    Room,
+}
+
+// The line of a refusal.
+fn put_refused(number: usize, out: &mut [u8]) -> Outcome
+    requires { ⌜ number ≤ 10 ⌝ }
+    ensures { λ r. ⌜ Written (refused number) (now (out .entry)) (now (out .exit)) r ⌝ }
+{
+    let n = number as u64;
+    if out.len() < edit_write::line_length(8, n) {
+        return Outcome::Room;
+    }
+    Outcome::Refused(edit_write::put_line(out, 0, b"refused=", n))
+}
+
+// Whether the bytes are UTF-8.
+fn is_utf8(bytes: &[u8]) -> bool
+    ensures { λ r. ⌜ r ≡ utf8 (now (bytes .entry)) ⌝ }
+{
+    match utf8::read_length(bytes) {
+        Counted::Count(_) => true,
+        Counted::Refused(_) => false,
+    }
+}
+
+// Whether the bytes are an edit file.
+fn is_edit(bytes: &[u8]) -> bool
+    ensures { λ r. ⌜ r ≡ isEdit (readFile (now (bytes .entry))) ⌝ }
+{
+    match edit_read::read_lengths(bytes) {
+        edit_read::FileRead::Counts { items: _, text: _ } => true,
+        edit_read::FileRead::Refused(_) => false,
+    }
+}
+
+// The number of the first refusal before the merge's own: 3, 10, 8, or 0 for none.
+fn check_files(original: &[u8], left: &[u8], right: &[u8]) -> usize
+    ensures { λ r. ⌜ r ≡ firstOf (now (original .entry)) (now (left .entry)) (now (right .entry)) ⌝ }
+{
+    if 2048 < original.len() {
+        return 3;
+    }
+    if 2048 < left.len() {
+        return 3;
+    }
+    if 2048 < right.len() {
+        return 3;
+    }
+    if !is_utf8(original) {
+        return 10;
+    }
+    if !is_utf8(left) {
+        return 10;
+    }
+    if !is_utf8(right) {
+        return 10;
+    }
+    if !is_edit(left) {
+        return 8;
+    }
+    if !is_edit(right) {
+        return 8;
+    }
+    0
+}
+
+// The edit file of a merged list.
+fn write_merged(
+    original: &[u32],
+    text: &[u32],
+    spans: &[u32],
+    keys: &[u32],
+    operations: &[usize],
+    out: &mut [u8],
+) -> Outcome
+    requires { ⌜ Diffable (now original) (now text) (now spans) (now keys) (now operations) ⌝ }
+    ensures { λ r. ⌜ Written (diffResult (now (original .entry)) (now (text .entry)) (now (spans .entry)) (now (keys .entry)) (now (operations .entry))) (now (out .entry)) (now (out .exit)) r ⌝ }
+{
+    let mut items = [0i64; 3072];
+    let mut added = [0u32; 131070];
+    match to_diff::to_diff(
+        original,
+        text,
+        spans,
+        keys,
+        operations,
+        &mut items,
+        &mut added,
+    ) {
+        to_diff::Diffed::Refused(_) => Outcome::Room,
+        to_diff::Diffed::Counts {
+            items: count,
+            text: length,
+        } => {
+            match edit_write::write(&items[..count * 3], &added[..length], out) {
+                Counted::Refused(_) => Outcome::Room,
+                Counted::Count(n) => Outcome::Merged(n),
+            }
+        }
+    }
+}
+
+// The merge of two lists, as an edit file or a refusal's line. A program has no cursors.
+fn merge_lists(
+    original: &[u32],
+    text: &[u32],
+    spans: &[u32],
+    keys: &[u32],
+    left: &[usize],
+    right: &[usize],
+    out: &mut [u8],
+) -> Outcome
+    requires { ⌜ Mergeable (now left) (now right) ⌝ }
+    ensures { λ r. ⌜ Written (mergeResult (now (original .entry)) (now (text .entry)) (now (spans .entry)) (now (keys .entry)) (now (left .entry)) (now (right .entry))) (now (out .entry)) (now (out .exit)) r ⌝ }
+{
+    let mut merged = [0usize; 6144];
+    let mut cursors = [0usize; 1];
+    let mut work = [0u32; 4096];
+    match edited_text::merge(
+        original,
+        text,
+        spans,
+        keys,
+        left,
+        right,
+        &left[..0],
+        &right[..0],
+        &mut merged,
+        &mut cursors,
+        &mut work,
+    ) {
+        edited_text::Answer::Refused(refusal) => put_refused(refusal::number_of(refusal), out),
+        edited_text::Answer::Counts(counts) => write_merged(
+            original,
+            text,
+            spans,
+            keys,
+            &merged[..counts.operations * 6],
+            out,
+        ),
+    }
+}
+
+// The merge of two accepted edit files, with rooms for their lists.
+fn merge_edits(
+    original: &[u32],
+    left: &[u8],
+    right: &[u8],
+    text: &mut [u32],
+    lefts: &mut [usize],
+    rights: &mut [usize],
+    spans: &mut [u32],
+    keys: &mut [u32],
+    out: &mut [u8],
+) -> Outcome
+    requires { ⌜ Files (now left) (now right) × Rooms (now text) (now lefts) (now rights) (now spans) (now keys) ⌝ }
+    ensures { λ r. ⌜ Written (goodResult (now (text .entry)) (now (original .entry)) (readFile (now (left .entry))) (readFile (now (right .entry)))) (now (out .entry)) (now (out .exit)) r ⌝ }
+{
+    let l = edit_list::list_of(left, 0, 0, text, lefts, spans, keys);
+    let r = edit_list::list_of(right, l.text, l.tokens, text, rights, spans, keys);
+    let tokens = l.tokens + r.tokens;
+    merge_lists(
+        original,
+        text,
+        &spans[..tokens * 2],
+        &keys[..tokens],
+        &lefts[..l.operations * 6],
+        &rights[..r.operations * 6],
+        out,
+    )
+}
+
+// What the program writes for three files that it could read.
+pub fn merge_files(original: &[u8], left: &[u8], right: &[u8], out: &mut [u8]) -> Outcome
+    ensures { λ r. ⌜ Written (resultOf (now (original .entry)) (now (left .entry)) (now (right .entry))) (now (out .entry)) (now (out .exit)) r ⌝ }
+{
+    let number = check_files(original, left, right);
+    if number != 0 {
+        return put_refused(number, out);
+    }
+    let mut points = [0u32; 2048];
+    let mut text = [0u32; 67583];
+    let mut lefts = [0usize; 3072];
+    let mut rights = [0usize; 3072];
+    let mut spans = [0u32; 4096];
+    let mut keys = [0u32; 2048];
+    match utf8::read(original, &mut points) {
+        Counted::Refused(_) => Outcome::Room,
+        Counted::Count(count) => merge_edits(
+            &points[..count],
+            left,
+            right,
+            &mut text,
+            &mut lefts,
+            &mut rights,
+            &mut spans,
+            &mut keys,
+            out,
+        ),
+    }
+}
