@@ -7,3 +7,4 @@ pub mod Answering
 pub mod ApplyWays
 pub mod HistoryWays
 pub mod AllWays
+pub mod Sheets

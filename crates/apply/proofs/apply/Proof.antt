@@ -26,9 +26,11 @@ returns c =
     let c3 = c .before .before .before in
     let c5 = c3 .before .before in
     let c14 = c5 .before .before .before .before .before .before .before .before .before in
-    let b = c14 in let L = lentOf (b .args .original .now) (b .args .text .now) (b .args .spans .now) (b .args .keys .now) in let os = operationsOf
-    (b .args .operations .now) in let cs = cursorsOf (b .args .cursors .now) in apply-no-room L os cs (b .args .out .now) (b .args .moved .now) _
-    (c5 .apply-lengths .ensures) _ _ (c3 .written .given .1) _ (c .before .text-fits .ensures) (not-true _ (c .if1 .taken))
+    let L = lentOf (c14 .args .original .now) (c14 .args .text .now) (c14 .args .spans .now) (c14 .args .keys .now) in
+    let os = operationsOf (c14 .args .operations .now) in
+    let cs = cursorsOf (c14 .args .cursors .now) in
+    apply-no-room L os cs (c14 .args .out .now) (c14 .args .moved .now) _ (c5 .apply-lengths .ensures) _ _ (c3 .written .given .1) _
+    (c .before .text-fits .ensures) (not-true _ (c .if1 .taken))
 
 write-text-requires : tie.Need-write-text-requires
 write-text-requires c κs =
@@ -36,9 +38,11 @@ write-text-requires c κs =
     let c4 = c2 .before .before in
     let c6 = c4 .before .before in
     let c15 = c6 .before .before .before .before .before .before .before .before .before in
-    let b = c15 in let L = lentOf (b .args .original .now) (b .args .text .now) (b .args .spans .now) (b .args .keys .now) in let os = operationsOf
-    (b .args .operations .now) in let cs = cursorsOf (b .args .cursors .now) in apply-asks L os cs (b .args .out .now) (b .args .moved .now) _
-    (c6 .apply-lengths .ensures) _ _ (c4 .written .given .1) _ (c2 .text-fits .ensures) (not-false _ (c .before .if1 .left))
+    let L = lentOf (c15 .args .original .now) (c15 .args .text .now) (c15 .args .spans .now) (c15 .args .keys .now) in
+    let os = operationsOf (c15 .args .operations .now) in
+    let cs = cursorsOf (c15 .args .cursors .now) in
+    apply-asks L os cs (c15 .args .out .now) (c15 .args .moved .now) _ (c6 .apply-lengths .ensures) _ _ (c4 .written .given .1) _
+    (c2 .text-fits .ensures) (not-false _ (c .before .if1 .left))
 
 sort-cursors-requires : tie.Need-sort-cursors-requires
 sort-cursors-requires c κs =
@@ -47,17 +51,20 @@ sort-cursors-requires c κs =
     let c8 = c6 .before .before in
     let c10 = c8 .before .before in
     let c19 = c10 .before .before .before .before .before .before .before .before .before in
-    let b = c19 in let L = lentOf (b .args .original .now) (b .args .text .now) (b .args .spans .now) (b .args .keys .now) in let os = operationsOf
-    (b .args .operations .now) in let cs = cursorsOf (b .args .cursors .now) in apply-sorts L os cs (b .args .out .now) (b .args .moved .now) _
-    (c10 .apply-lengths .ensures) _ _ (c8 .written .given .1) _ (c6 .text-fits .ensures) (not-false _ (c5 .if1 .left))
+    let L = lentOf (c19 .args .original .now) (c19 .args .text .now) (c19 .args .spans .now) (c19 .args .keys .now) in
+    let os = operationsOf (c19 .args .operations .now) in
+    let cs = cursorsOf (c19 .args .cursors .now) in
+    apply-sorts L os cs (c19 .args .out .now) (c19 .args .moved .now) _ (c10 .apply-lengths .ensures) _ _ (c8 .written .given .1) _
+    (c6 .text-fits .ensures) (not-false _ (c5 .if1 .left))
 
 returns-2 : tie.Need-returns-2
 returns-2 c =
     let c3 = c .before .before .before in
     let c12 = c3 .before .before .before .before .before .before .before .before .before in
-    let b = c12 in let L = lentOf (b .args .original .now) (b .args .text .now) (b .args .spans .now) (b .args .keys .now) in let os = operationsOf
-    (b .args .operations .now) in let cs = cursorsOf (b .args .cursors .now) in apply-stops L os cs (b .args .out .now) (b .args .moved .now) _
-    (c3 .apply-lengths .ensures) _ (c .before .refusal .given .1)
+    let L = lentOf (c12 .args .original .now) (c12 .args .text .now) (c12 .args .spans .now) (c12 .args .keys .now) in
+    let os = operationsOf (c12 .args .operations .now) in
+    let cs = cursorsOf (c12 .args .cursors .now) in
+    apply-stops L os cs (c12 .args .out .now) (c12 .args .moved .now) _ (c3 .apply-lengths .ensures) _ (c .before .refusal .given .1)
 
 same-length : tie.Need-same-length
 same-length c = search needs
@@ -74,10 +81,11 @@ returns-3 c =
     let c11 = c9 .before .before in
     let c13 = c11 .before .before in
     let c22 = c13 .before .before .before .before .before .before .before .before .before in
-    let b = c22 in let L = lentOf (b .args .original .now) (b .args .text .now) (b .args .spans .now) (b .args .keys .now) in let os = operationsOf
-    (b .args .operations .now) in let cs = cursorsOf (b .args .cursors .now) in apply-writes L os cs (b .args .out .now) (b .args .moved .now) _
-    (c13 .apply-lengths .ensures) _ _ (c11 .written .given .1) _ (c9 .text-fits .ensures) (not-false _ (c8 .if1 .left))
-    (c6 .write-text .ensures) (c2 .sort-cursors .ensures)
+    let L = lentOf (c22 .args .original .now) (c22 .args .text .now) (c22 .args .spans .now) (c22 .args .keys .now) in
+    let os = operationsOf (c22 .args .operations .now) in
+    let cs = cursorsOf (c22 .args .cursors .now) in
+    apply-writes L os cs (c22 .args .out .now) (c22 .args .moved .now) _ (c13 .apply-lengths .ensures) _ _ (c11 .written .given .1) _
+    (c9 .text-fits .ensures) (not-false _ (c8 .if1 .left)) (c6 .write-text .ensures) (c2 .sort-cursors .ensures)
 
 pub apply-spec : {M : Type 1} → statement M
 apply-spec =

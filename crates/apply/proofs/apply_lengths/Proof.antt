@@ -30,19 +30,21 @@ returns c =
     let c3 = c .before .before .before in
     let c4 = c3 .before in
     let c11 = c4 .before .before .before .before .before .before .before in
-    let b = c11 in let L = lentOf (b .args .original .now) (b .args .text .now) (b .args .spans .now) (b .args .keys .now) in let os = operationsOf
-    (b .args .operations .now) in let cs = cursorsOf (b .args .cursors .now) in lengths-refuse L os cs _
-    (judged L os cs _ _ _ (c4 .other-limits .ensures) (c3 .check-list .ensures) (c .before .refusal .given .1))
+    let L = lentOf (c11 .args .original .now) (c11 .args .text .now) (c11 .args .spans .now) (c11 .args .keys .now) in
+    let os = operationsOf (c11 .args .operations .now) in
+    let cs = cursorsOf (c11 .args .cursors .now) in
+    lengths-refuse L os cs _ (judged L os cs _ _ _ (c4 .other-limits .ensures) (c3 .check-list .ensures) (c .before .refusal .given .1))
 
 returns-2 : tie.Need-returns-2
 returns-2 c =
     let c3 = c .before .before .before in
     let c4 = c3 .before in
     let c11 = c4 .before .before .before .before .before .before .before in
-    let b = c11 in let L = lentOf (b .args .original .now) (b .args .text .now) (b .args .spans .now) (b .args .keys .now) in let os = operationsOf
-    (b .args .operations .now) in let cs = cursorsOf (b .args .cursors .now) in lengths-count L os cs _ _
-    (judged L os cs _ _ _ (c4 .other-limits .ensures) (c3 .check-list .ensures) (c .before .enum-told .given .1)) (c .text-length .ensures)
-    (sym (length-of (b .args .cursors .now)))
+    let L = lentOf (c11 .args .original .now) (c11 .args .text .now) (c11 .args .spans .now) (c11 .args .keys .now) in
+    let os = operationsOf (c11 .args .operations .now) in
+    let cs = cursorsOf (c11 .args .cursors .now) in
+    lengths-count L os cs _ _ (judged L os cs _ _ _ (c4 .other-limits .ensures) (c3 .check-list .ensures) (c .before .enum-told .given .1))
+    (c .text-length .ensures) (sym (length-of (c11 .args .cursors .now)))
 
 pub apply-lengths-spec : {M : Type 1} → statement M
 apply-lengths-spec =

@@ -37,9 +37,10 @@ returns c =
     let c3 = c .before .before .before in
     let c4 = c3 .before in
     let c11 = c4 .before .before .before .before .before .before .before in
-    let b = c11 in let L = lentOf (b .args .original .now) (b .args .text .now) (b .args .spans .now) (b .args .keys .now) in let os = operationsOf
-    (b .args .operations .now) in let cs = cursorsOf (b .args .cursors .now) in all-refuse L os cs _
-    (judged L os cs _ _ _ (c4 .other-limits .ensures) (c3 .check-list .ensures) (c .before .refusal .given .1))
+    let L = lentOf (c11 .args .original .now) (c11 .args .text .now) (c11 .args .spans .now) (c11 .args .keys .now) in
+    let os = operationsOf (c11 .args .operations .now) in
+    let cs = cursorsOf (c11 .args .cursors .now) in
+    all-refuse L os cs _ (judged L os cs _ _ _ (c4 .other-limits .ensures) (c3 .check-list .ensures) (c .before .refusal .given .1))
 
 returns-2 : tie.Need-returns-2
 returns-2 c =
@@ -47,10 +48,12 @@ returns-2 c =
     let c4 = c2 .before .before in
     let c5 = c4 .before in
     let c12 = c5 .before .before .before .before .before .before .before in
-    let b = c12 in let L = lentOf (b .args .original .now) (b .args .text .now) (b .args .spans .now) (b .args .keys .now) in let os = operationsOf
-    (b .args .operations .now) in let cs = cursorsOf (b .args .cursors .now) in all-count L os cs _ _ _ _
-    (judged L os cs _ _ _ (c5 .other-limits .ensures) (c4 .check-list .ensures) (c2 .enum-told .given .1)) (c .before .text-length .ensures)
-    (sym (cursors.length-of (b .args .cursors .now))) (sym (length-of (b .args .operations .now))) (c .removed .ensures)
+    let L = lentOf (c12 .args .original .now) (c12 .args .text .now) (c12 .args .spans .now) (c12 .args .keys .now) in
+    let os = operationsOf (c12 .args .operations .now) in
+    let cs = cursorsOf (c12 .args .cursors .now) in
+    all-count L os cs _ _ _ _ (judged L os cs _ _ _ (c5 .other-limits .ensures) (c4 .check-list .ensures) (c2 .enum-told .given .1))
+    (c .before .text-length .ensures) (sym (cursors.length-of (c12 .args .cursors .now))) (sym (length-of (c12 .args .operations .now)))
+    (c .removed .ensures)
 
 pub apply-with-all-lengths-spec : {M : Type 1} → statement M
 apply-with-all-lengths-spec =

@@ -38,9 +38,10 @@ returns c =
     let c3 = c .before .before .before in
     let c5 = c3 .before .before in
     let c11 = c5 .before .before .before .before .before .before in
-    let b = c11 in let L = lentOf (b .args .original .now) (b .args .text .now) (b .args .spans .now) (b .args .keys .now) in let os = operationsOf
-    (b .args .operations .now) in told-refuse L os _
-    (judged-none L os (b .args .operations .now) _ _ _ (c5 .other-limits .ensures) (c3 .check-list .ensures) (c .before .refusal .given .1))
+    let L = lentOf (c11 .args .original .now) (c11 .args .text .now) (c11 .args .spans .now) (c11 .args .keys .now) in
+    let os = operationsOf (c11 .args .operations .now) in
+    told-refuse L os _
+    (judged-none L os (c11 .args .operations .now) _ _ _ (c5 .other-limits .ensures) (c3 .check-list .ensures) (c .before .refusal .given .1))
 
 returns-2 : tie.Need-returns-2
 returns-2 c =
@@ -48,10 +49,11 @@ returns-2 c =
     let c4 = c2 .before .before in
     let c6 = c4 .before .before in
     let c12 = c6 .before .before .before .before .before .before in
-    let b = c12 in let L = lentOf (b .args .original .now) (b .args .text .now) (b .args .spans .now) (b .args .keys .now) in let os = operationsOf
-    (b .args .operations .now) in told-count L os _ _ _
-    (judged-none L os (b .args .operations .now) _ _ _ (c6 .other-limits .ensures) (c4 .check-list .ensures) (c2 .enum-told .given .1))
-    (sym (length-of (b .args .operations .now))) (c .before .text-length .ensures) (c .removed .ensures)
+    let L = lentOf (c12 .args .original .now) (c12 .args .text .now) (c12 .args .spans .now) (c12 .args .keys .now) in
+    let os = operationsOf (c12 .args .operations .now) in
+    told-count L os _ _ _
+    (judged-none L os (c12 .args .operations .now) _ _ _ (c6 .other-limits .ensures) (c4 .check-list .ensures) (c2 .enum-told .given .1))
+    (sym (length-of (c12 .args .operations .now))) (c .before .text-length .ensures) (c .removed .ensures)
 
 pub apply-with-history-lengths-spec : {M : Type 1} → statement M
 apply-with-history-lengths-spec =
