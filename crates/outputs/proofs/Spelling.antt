@@ -1,7 +1,7 @@
 -- Shown: whenever `apply` and `apply_with_history` accept the same list, the unchanged and added spans spell the text, the unchanged and
 -- removed ones the original; and what `to_diff` wrote replays to that text: from rooms to rooms.
 -- How: the spans that stand in the rooms are the history's, and history, diff and text agree.
-use Prim.Native.Nat.{ℕ, _+_, _*_}
+use Prim.Native.Nat.{ℕ, _+_, _*_, _≤_}
 use mathlib.Core.Path.{_≡_, refl, sym, _∙_, ap}
 use mathlib.Core.Bool.{_&&_}
 use mathlib.Core.List.{List, [], _∷_, _++_, append-assoc}
@@ -14,7 +14,9 @@ use Rattle.records.specs.declared.Operation.{Operation}
 use Rattle.records.specs.declared.Cursor.{Cursor}
 use Rattle.records.specs.Cursors.{flatCursors}
 use Rattle.cursors.specs.Sorted.{sorted}
-use Rattle.diff.specs.Answers.{diff, textOf}
+use Rattle.refusal.specs.declared.Counted.{Counted}
+use Rattle.refusal.specs.declared.Counted.the-variants.{Count}
+use Rattle.diff.specs.Answers.{diff, covering, Replayed}
 use Rattle.checks.specs.declared.Verdict.{Verdict}
 use Rattle.checks.specs.declared.Verdict.the-variants.{Accepted, Refused}
 use Rattle.checks.specs.Verdicts.{andThen}
@@ -30,7 +32,7 @@ use Rattle.apply.specs.Answers.{verdictOn, textOn, historyOn, fits, roomed, app
 use Rattle.to_diff.specs.declared.Diffed.the-variants.{Counts}
 use Rattle.to_diff.specs.Answers.{Diffs}
 use Rattle.outputs.specs.Spans.{spanAt, spansFrom}
-use Rattle.outputs.proofs.Replaying.{front, written-of, replay-text}
+use Rattle.outputs.proofs.Replaying.{front, written-of, replays-back}
 
 -- four numbers of a list, where a part of it begins
 span-part : (a b c d : ℕ) (pre post text : List ℕ) (i : ℕ) → length pre ≡ i * 4
@@ -73,6 +75,7 @@ spans-back ss h t = read-spans ss 0 0 [] (drop (length (flatSpans 0 ss)) h) (ans
 pub record TextWritten (lent : Lent) (os : List Operation) (k : ℕ) (out′ : List ℕ) : Type 0 where
   pub cursors : List Cursor
   pub list : AcceptedList otherwise (lent .original) (lent .inserted) (lent .spans) (lent .keys) os cursors
+  pub long : k ≡ length (textOn lent os)
   pub text : take k out′ ≡ textOn lent os
 
 applied-of : (v w : Verdict) (n m k c : ℕ) → A.Counts k c ≡ applied (andThen v w) n m → (v ≡ Accepted) × ((andThen v w ≡ Accepted) × (k ≡ n))
@@ -90,6 +93,7 @@ text-written lent os {cs} {out} {moved} {out′} {moved′} {k} {c} h =
     record {
       cursors = cs;
       list = accepted-list otherwise (lent .original) (lent .inserted) (lent .spans) (lent .keys) os cs (a .0);
+      long = a .1 .1;
       text = front (textOn lent os) out out′ k (a .1 .1) (rw (a .1 .0) at (h .text));
     }
 
@@ -118,8 +122,11 @@ module _ (lent : Lent) (os : List Operation) {k : ℕ} {out′ : List ℕ} (w : 
       let s = spans-written lent os h in
       (ap (spelledBy ofText) s ∙ (g .unchanged-added ∙ sym (w .text)), ap (spelledBy ofOriginal) s ∙ g .unchanged-removed)
 
-  -- replaying what `to_diff` wrote gives what `apply` wrote
-  pub diff-spells : {d d′ : List ℤ} {e e′ : List ℕ} {n m : ℕ} → Diffs lent os d e d′ e′ (Counts n m)
-      → textOf (diff (lent .original) (take (n * 3) d′) (take m e′)) ≡ take k out′
+  -- replaying what `to_diff` wrote, by `from_covering_diff`, is accepted and leaves in its room what `apply` wrote
+  pub diff-spells : {d d′ : List ℤ} {e e′ room room′ : List ℕ} {n m : ℕ} {r : Counted} → Diffs lent os d e d′ e′ (Counts n m)
+      → Replayed covering (diff (lent .original) (take (n * 3) d′) (take m e′)) room r room′ → k ≤ length room
+      → (r ≡ Count k) × (room′ ≡ answered (take k out′) room)
   unfolding textOn
-  diff-spells h = replay-text lent os (written-of lent os h) ∙ sym (w .text)
+  diff-spells {room = room} h f l =
+      let g = replays-back lent os (written-of lent os h) f (rw (w .long) at l) in
+      (g .0 ∙ ap Count (sym (w .long)), g .1 ∙ ap (λ (s : List ℕ). answered s room) (sym (w .text)))

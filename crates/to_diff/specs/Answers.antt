@@ -34,12 +34,12 @@ roomFor is a b = pick (leb (3 * length is) a && leb (length (texts is)) b) Accep
 unfoldable pub verdictIn : Lent → List Operation → List ℤ → List ℕ → Verdict
 verdictIn lent os d e = andThen (verdictOn lent os) (roomFor (diffOf lent os) (length d) (length e))
 
--- the counts of items and of code points, or the refusal
+-- "All others: the exact length of the answer": the counts of items and of code points, or the refusal
 abbrev pub answerOf : Verdict → List Item → Diffed
 answerOf Accepted is = Counts (length is) (length (texts is))
 answerOf (Refused r) is = No r
 
--- how much to lend
+-- "All others: the exact length of the answer": how much to lend, or the refusal
 unfoldable pub lengthsOf : Lent → List Operation → Diffed
 lengthsOf lent os = answerOf (verdictOn lent os) (diffOf lent os)
 
@@ -48,7 +48,8 @@ abbrev pub leaves : {A : Type 0} → Verdict → List A → List A → List A
 leaves Accepted s d = answered s d
 leaves (Refused r) s d = d
 
--- a list's diff with its checks, into two rooms: the answer, and the rooms afterwards
+-- "A public call's statement covers its result, numbers of a refusal included, and the lent buffers": a list's diff with its checks,
+-- into two rooms: the answer, and the rooms afterwards
 pub record Diffs (lent : Lent) (os : List Operation) (d : List ℤ) (e : List ℕ) (d′ : List ℤ) (e′ : List ℕ) (r : Diffed) : Type 0 where
   pub answer : r ≡ answerOf (verdictIn lent os d e) (diffOf lent os)
   pub items : d′ ≡ leaves (verdictIn lent os d e) (recordsOf (diffOf lent os)) d

@@ -23,6 +23,6 @@ itemsOf (e ∷ es) = itemOf e ∷ itemsOf es
 unfoldable pub diffOf : Lent → List Operation → List Item
 diffOf lent os = itemsOf (toDiff lent (opsFrom 0 os))
 
--- what is lent beside the list, by its parts
+-- "All lists of one call share one lent inserted text": what is lent beside the list, by its parts
 abbrev pub lentOf : List ℕ → List ℕ → List ℕ → List ℕ → Lent
 lentOf original text spans keys = record { original = original; inserted = text; spans = spans; keys = keys }

@@ -15,7 +15,7 @@ use Rattle.merging.specs.Tiling.{Tiled, Inserts}
 use Rattle.to_diff.specs.declared.Sizes.{Sizes}
 use Rattle.to_diff.specs.Items.{diffOf, lentOf}
 
--- a joined retain that is not written yet: 0 is none
+-- "retains positive with neighbours joined": a joined retain that is not written yet; 0 is none
 unfoldable pub keeps : ℕ → List Item
 keeps zero = []
 keeps (suc n) = Keep (suc n) ∷ []
