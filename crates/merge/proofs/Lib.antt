@@ -5,3 +5,4 @@ pub mod OneTurn
 pub mod Sides
 pub mod Running
 pub mod Ends
+pub mod Taking

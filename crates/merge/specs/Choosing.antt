@@ -2,6 +2,8 @@
 use mathlib.Core.Bool.{Bool, true, false}
 use mathlib.Core.List.{List}
 use Prim.Native.Nat.{ℕ}
+use Rattle.merging.specs.declared.Op.{Op}
+use Rattle.merging.specs.declared.Op.the-variants.{Delete}
 use Rattle.merging.specs.declared.Order.{Order}
 use Rattle.merging.specs.Lent.{Lent}
 use Rattle.merging.specs.OrderRule.{goesLeft}
@@ -21,3 +23,20 @@ choiceOf lent priority Done Done = Nothing
 choiceOf lent priority Done (Here b) = Right b
 choiceOf lent priority (Here a) Done = Left a
 choiceOf lent priority (Here a) (Here b) = elim (goesLeft lent priority a b) [ true ↦ Left a | false ↦ Right b ]
+
+-- whether a choice takes nothing, and what it takes
+unfoldable pub isNone : Choice → Bool
+isNone Nothing = true
+isNone (Left a) = false
+isNone (Right b) = false
+
+unfoldable pub takenBy : Choice → Op
+takenBy Nothing = Delete 0 0
+takenBy (Left a) = a
+takenBy (Right b) = b
+
+-- of what the left and the right have, that of the side that a choice takes
+unfoldable pub ofSide : {A : Type 0} → Choice → A → A → A
+ofSide Nothing x y = x
+ofSide (Left a) x y = x
+ofSide (Right b) x y = y

@@ -2,3 +2,4 @@ pub mod Meetings
 pub mod Turning
 pub mod Choosing
 pub mod Running
+pub mod Sides

@@ -15,7 +15,11 @@ ghost use Rattle.operation.specs.Views.{LastFits, Lies, Placeable, size};
 ghost use Rattle.merge.specs.Meetings.{Shifted, Facing, Meets};
 ghost use Rattle.order.specs.Readable.{ofText};
 ghost use Rattle.merge.specs.Turning.{Turnable, Turns};
-ghost use Rattle.merge.specs.Choosing.{NextReadable, choiceOf};
+ghost use Rattle.merge.specs.Choosing.{NextReadable, choiceOf, isNone, takenBy, ofSide};
+ghost use Rattle.merge.specs.Sides.{ofNumber};
+ghost use Rattle.merging.specs.Cursors.{movedBy, behindOf};
+ghost use Rattle.cursor_position.specs.Moves.{Fits, leftOf, Spacious, Went};
+ghost use Rattle.turns.specs.Looking.{listFrom, FirstFits, Looks};
 ghost use Rattle.merge.specs.Running.{Runnable, Ran};
 
 // What a turn does to the cursors of its side: a is taken, last is remembered of the other side,
@@ -106,12 +110,52 @@ pub struct Turned {
     pub totals: Totals,
 }
 
-// A turn of the side `own`, whose number is `number`: it takes a.
+// The cursors of the side of a number move with an operation.
+fn move_side(
+    number: usize,
+    a: Op,
+    left: &[usize],
+    right: &[usize],
+    p: Progress,
+    t: Shift,
+    out: &mut [usize],
+) -> Progress
+    requires { ⌜ Fits t × Spacious (ofNumber number (now left) (now right)) p (now out) ⌝ }
+    ensures { λ r. ⌜ Went (ofNumber number (now (left .entry)) (now (right .entry))) (movedBy a t (leftOf (ofNumber number (now (left .entry)) (now (right .entry))) p)) (behindOf a t (leftOf (ofNumber number (now (left .entry)) (now (right .entry))) p)) (now (out .entry)) (now (out .exit)) p r ⌝ }
+{
+    if number == 0 {
+        return cursor_position::move_with(a, left, p, t, out);
+    }
+    cursor_position::move_with(a, right, p, t, out)
+}
+
+// What is next on the side of a number.
+fn advance_side(
+    number: usize,
+    left: &[usize],
+    right: &[usize],
+    tail: Next,
+    behind: usize,
+    at: usize,
+) -> Ahead
+    requires { ⌜ FirstFits at (listFrom (ofNumber number (now left) (now right)) behind at) ⌝ }
+    ensures { λ r. ⌜ Looks (ofNumber number (now (left .entry)) (now (right .entry))) tail behind at r ⌝ }
+{
+    if number == 0 {
+        return turns::advance(left, tail, behind, at);
+    }
+    turns::advance(right, tail, behind, at)
+}
+
+// A turn of the side `own`, whose number is `number`: it takes a. Lists and cursors are those of both
+// sides.
 pub fn turn(
     spans: &[u32],
     keys: &[u32],
-    operations: &[usize],
-    cursors: &[usize],
+    left_operations: &[usize],
+    right_operations: &[usize],
+    left_cursors: &[usize],
+    right_cursors: &[usize],
     a: Op,
     own: Side,
     other: Side,
@@ -122,8 +166,8 @@ pub fn turn(
     out: &mut [usize],
     moved: &mut [usize],
 ) -> Turned
-    requires { ⌜ Turnable (now spans) (now keys) (now operations) (now cursors) (now work) half a own other totals number (now out) (now moved) ⌝ }
-    ensures { λ r. ⌜ Turns (now (spans .entry)) (now (keys .entry)) (now (operations .entry)) (now (cursors .entry)) (now (work .entry)) (now (work .exit)) half a own other totals number (now (out .entry)) (now (out .exit)) (now (moved .entry)) (now (moved .exit)) r ⌝ }
+    requires { ⌜ Turnable (now spans) (now keys) (ofNumber number (now «left_operations») (now «right_operations»)) (ofNumber number (now «left_cursors») (now «right_cursors»)) (now work) half a own other totals number (now out) (now moved) ⌝ }
+    ensures { λ r. ⌜ Turns (now (spans .entry)) (now (keys .entry)) (ofNumber number (now («left_operations» .entry)) (now («right_operations» .entry))) (ofNumber number (now («left_cursors» .entry)) (now («right_cursors» .entry))) (now (work .entry)) (now (work .exit)) half a own other totals number (now (out .entry)) (now (out .exit)) (now (moved .entry)) (now (moved .exit)) r ⌝ }
 {
     let ahead = own.ahead;
     let memory = own.memory;
@@ -148,9 +192,11 @@ pub fn turn(
     );
     let shift = meeting.shift;
     let left = meeting.last;
-    let progress = cursor_position::move_with(
+    let progress = move_side(
+        number,
         b,
-        cursors,
+        left_cursors,
+        right_cursors,
         Progress {
             next: own.cursor,
             count: totals.cursors,
@@ -169,7 +215,14 @@ pub fn turn(
         result,
         text,
     );
-    let coming = turns::advance(operations, tail, ahead.behind, ahead.at);
+    let coming = advance_side(
+        number,
+        left_operations,
+        right_operations,
+        tail,
+        ahead.behind,
+        ahead.at,
+    );
     Turned {
         own: Side {
             ahead: coming,
@@ -235,8 +288,118 @@ pub fn choose(
     }
 }
 
+// Whether a choice takes nothing.
+fn is_none(choice: Choice) -> bool
+    ensures { λ r. ⌜ r ≡ isNone choice ⌝ }
+{
+    match choice {
+        Choice::Nothing => true,
+        Choice::Left(a) => false,
+        Choice::Right(b) => false,
+    }
+}
+
+// The operation that a choice takes.
+fn taken_of(choice: Choice) -> Op
+    ensures { λ r. ⌜ r ≡ takenBy choice ⌝ }
+{
+    match choice {
+        Choice::Nothing => Op::Delete {
+            order: 0,
+            length: 0,
+        },
+        Choice::Left(a) => a,
+        Choice::Right(b) => b,
+    }
+}
+
+// The number of the side that a choice takes.
+fn number_of(choice: Choice) -> usize
+    ensures { λ r. ⌜ r ≡ ofSide choice 0 1 ⌝ }
+{
+    match choice {
+        Choice::Nothing => 0,
+        Choice::Left(a) => 0,
+        Choice::Right(b) => 1,
+    }
+}
+
+// Of two sides the one that a choice takes.
+fn side_of(choice: Choice, left: Side, right: Side) -> Side
+    ensures { λ r. ⌜ r ≡ ofSide choice left right ⌝ }
+{
+    match choice {
+        Choice::Nothing => fresh(left),
+        Choice::Left(a) => fresh(left),
+        Choice::Right(b) => fresh(right),
+    }
+}
+
+// The same side, taken apart and made again. A copy of an enum takes the unused bytes behind its tag
+// along, and one that goes round the loop keeps them, and so the side, out of the registers.
+fn fresh(side: Side) -> Side
+    ensures { λ r. ⌜ r ≡ side ⌝ }
+{
+    let ahead = side.ahead;
+    let next = ahead.next;
+    let memory = side.memory;
+    let last = memory.last;
+    Side {
+        ahead: Ahead {
+            next: fresh_next(next),
+            behind: ahead.behind,
+            at: ahead.at,
+        },
+        memory: Memory {
+            last: fresh_last(last),
+            fill: memory.fill,
+        },
+        seen: side.seen,
+        cursor: side.cursor,
+    }
+}
+
+fn fresh_next(next: Next) -> Next
+    ensures { λ r. ⌜ r ≡ next ⌝ }
+{
+    match next {
+        Next::Here(a) => Next::Here(fresh_op(a)),
+        Next::Done => Next::Done,
+    }
+}
+
+fn fresh_op(a: Op) -> Op
+    ensures { λ r. ⌜ r ≡ a ⌝ }
+{
+    match a {
+        Op::Delete { order, length } => Op::Delete { order, length },
+        Op::Insert {
+            order,
+            first,
+            count,
+        } => Op::Insert {
+            order,
+            first,
+            count,
+        },
+        Op::Retain { order, length } => Op::Retain { order, length },
+    }
+}
+
+fn fresh_last(last: Last) -> Last
+    ensures { λ r. ⌜ r ≡ last ⌝ }
+{
+    match last {
+        Last::Nothing => Last::Nothing,
+        Last::Deleted { order, length } => Last::Deleted { order, length },
+        Last::Retained { order, length } => Last::Retained { order, length },
+        Last::Inserted { order, from } => Last::Inserted { order, from },
+    }
+}
+
 // Turns until both sides are done; what is left of the cursors goes to the end, left before right.
-// The left side's part of the work room ends at mid.
+// The left side's part of the work room ends at mid. Both sides go through one call of `turn`, which
+// halves the time: it is made part of the loop then, and the sides stay in registers.
 pub fn run(
     original: &[u32],
     text: &[u32],
@@ -286,79 +449,58 @@ pub fn run(
         let next = facing.next;
         let other = faced.next;
         let choice = choose(text, spans, keys, next, other, priority);
-        match choice {
-            Choice::Nothing => {
-                let first = cursor_position::end_cursors(
-                    left_cursors,
-                    Progress {
-                        next: left.cursor,
-                        count: totals.cursors,
-                    },
-                    totals.merged,
-                    moved,
-                );
-                let second = cursor_position::end_cursors(
-                    right_cursors,
-                    Progress {
-                        next: right.cursor,
-                        count: first.count,
-                    },
-                    totals.merged,
-                    moved,
-                );
-                return Totals {
-                    merged: totals.merged,
-                    consumed: totals.consumed,
-                    operations: totals.operations,
-                    cursors: second.count,
-                };
-            }
-            Choice::Left(a) => {
-                let t = turn(
-                    spans,
-                    keys,
-                    left_operations,
-                    left_cursors,
-                    a,
-                    left,
-                    right,
-                    totals,
-                    0,
-                    work,
-                    half,
-                    out,
-                    moved,
-                );
-                let own = t.own;
-                let waiting = t.other;
-                let sums = t.totals;
-                left = own;
-                right = waiting;
-                totals = sums;
-            }
-            Choice::Right(b) => {
-                let t = turn(
-                    spans,
-                    keys,
-                    right_operations,
-                    right_cursors,
-                    b,
-                    right,
-                    left,
-                    totals,
-                    1,
-                    work,
-                    half,
-                    out,
-                    moved,
-                );
-                let own = t.own;
-                let waiting = t.other;
-                let sums = t.totals;
-                right = own;
-                left = waiting;
-                totals = sums;
-            }
+        if is_none(choice) {
+            let first = cursor_position::end_cursors(
+                left_cursors,
+                Progress {
+                    next: left.cursor,
+                    count: totals.cursors,
+                },
+                totals.merged,
+                moved,
+            );
+            let second = cursor_position::end_cursors(
+                right_cursors,
+                Progress {
+                    next: right.cursor,
+                    count: first.count,
+                },
+                totals.merged,
+                moved,
+            );
+            return Totals {
+                merged: totals.merged,
+                consumed: totals.consumed,
+                operations: totals.operations,
+                cursors: second.count,
+            };
         }
+        let a = taken_of(choice);
+        let taking = side_of(choice, left, right);
+        let heard = side_of(choice, right, left);
+        let number = number_of(choice);
+        let t = turn(
+            spans,
+            keys,
+            left_operations,
+            right_operations,
+            left_cursors,
+            right_cursors,
+            a,
+            taking,
+            heard,
+            totals,
+            number,
+            work,
+            half,
+            out,
+            moved,
+        );
+        let own = t.own;
+        let waiting = t.other;
+        let sums = t.totals;
+        left = side_of(choice, own, waiting);
+        right = side_of(choice, waiting, own);
+        totals = sums;
     }
 }

@@ -1,18 +1,15 @@
 -- `run` makes all turns of the merge: the rooms hold what the definition gives. The loop's invariant is Going, kept by each turn;
 -- its measure is the work that is left of both lists. Assumes nothing.
 use Prim.Native.Nat.{ℕ, _+_}
-use mathlib.Core.Path.{_≡_, sym, _∙_, subst}
+use mathlib.Core.Path.{_≡_, sym, _∙_}
 use native.Mathlib.Omega.{arith}
 use borrow.Author.Needs.{needs}
 use lib.ListN.{length}
 use Rattle.merging.specs.Merge.{work}
-use Rattle.merging.specs.Turn.{takenOf}
-use Rattle.operation.specs.Views.{heads}
 use Rattle.turns.specs.Looking.{listFrom, aheadOf}
-use Rattle.merge.specs.declared.Choice.{Choice}
-use Rattle.merge.specs.Running.{lentOf}
-use Rattle.merge.proofs.Running.{Going, left-turnable, left-less, left-step, right-turnable, right-less, right-step}
-use Rattle.merge.proofs.Ends.{first-fits, next-readable, Chosen, chosen, started, finished}
+use Rattle.merge.proofs.Running.{Going}
+use Rattle.merge.proofs.Ends.{first-fits, next-readable, started, finished}
+use Rattle.merge.proofs.Taking.{takes, none-taken, seat-turnable, seat-less, seat-step}
 use Rattle.merge.proofs.run.Statement.{statement}
 use Rattle.merge.proofs.run.Tie as tie
 
@@ -42,9 +39,8 @@ choose-requires c κs = (
   next-readable _ _ _ (c .before .before .turns .right .ahead .next) (listFrom (c .before .before .before .before .before .before .before .before .before .before .before .before .before .before .before .before .args .right-operations .now) (c .before .before .turns .right .ahead .behind) (c .before .before .turns .right .ahead .at)) (c .before .before .turns .inv .sound .inserts-right),
 )
 
-enum-told : tie.Need-enum-told Inv-turns μ-turns
-enum-told c =
-    search needs
+is-none-requires : tie.Need-is-none-requires Inv-turns μ-turns
+is-none-requires c κs = search needs
 
 end-cursors-requires : tie.Need-end-cursors-requires Inv-turns μ-turns
 end-cursors-requires c κs =
@@ -68,45 +64,86 @@ same-length-3 c =
 
 returns : tie.Need-returns Inv-turns μ-turns
 returns c =
-    finished (c .before .before .before .before .before .before .before .before .before .before .before .before .before .before .before .before .before .before .before .before .before .before .before .before .before .before .before .args .original .now) (c .before .before .before .before .before .before .before .before .before .before .before .before .before .before .before .before .before .before .before .before .before .before .before .before .before .before .before .args .text .now) (c .before .before .before .before .before .before .before .before .before .before .before .before .before .before .before .before .before .before .before .before .before .before .before .before .before .before .before .args .spans .now) (c .before .before .before .before .before .before .before .before .before .before .before .before .before .before .before .before .before .before .before .before .before .before .before .before .before .before .before .args .keys .now) (c .before .before .before .before .before .before .before .before .before .before .before .before .before .before .before .before .before .before .before .before .before .before .before .before .before .before .before .args .left-operations .now) (c .before .before .before .before .before .before .before .before .before .before .before .before .before .before .before .before .before .before .before .before .before .before .before .before .before .before .before .args .right-operations .now) (c .before .before .before .before .before .before .before .before .before .before .before .before .before .before .before .before .before .before .before .before .before .before .before .before .before .before .before .args .left-cursors .now) (c .before .before .before .before .before .before .before .before .before .before .before .before .before .before .before .before .before .before .before .before .before .before .before .before .before .before .before .args .right-cursors .now) (c .before .before .before .before .before .before .before .before .before .before .before .before .before .before .before .before .before .before .before .before .before .before .before .before .before .before .before .args .priority) (c .before .before .before .before .before .before .before .before .before .before .before .before .before .before .before .before .before .before .before .before .before .before .before .before .before .before .before .args .mid) (c .before .before .before .before .before .before .before .before .before .before .before .before .before .before .before .before .before .before .before .before .before .before .before .before .before .before .before .args .half) (c .before .before .before .before .before .before .before .before .before .before .before .before .before .before .before .before .before .before .before .before .before .before .before .before .before .before .before .args .work .now) (c .before .before .before .before .before .before .before .before .before .before .before .before .before .before .before .before .before .before .before .before .before .before .before .before .before .before .before .args .out .now) (c .before .before .before .before .before .before .before .before .before .before .before .before .before .before .before .before .before .before .before .before .before .before .before .before .before .before .before .args .moved .now) (c .before .before .before .before .before .before .before .before .before .before .before .before .before .turns .work) (c .before .before .before .before .before .before .before .before .before .before .before .before .before .turns .out) (c .before .before .before .before .before .before .before .before .before .before .before .before .before .turns .moved) _ _ (c .before .before .before .before .before .before .before .before .before .before .before .before .before .turns .left) (c .before .before .before .before .before .before .before .before .before .before .before .before .before .turns .right) (c .before .before .before .before .before .before .before .before .before .before .before .before .before .turns .totals) _ _ (c .before .before .before .before .before .before .before .before .before .before .before .before .before .turns .inv) (subst (λ (x : Choice). Chosen x (takenOf (lentOf (c .before .before .before .before .before .before .before .before .before .before .before .before .before .before .before .before .before .before .before .before .before .before .before .before .before .before .before .args .original .now) (c .before .before .before .before .before .before .before .before .before .before .before .before .before .before .before .before .before .before .before .before .before .before .before .before .before .before .before .args .text .now) (c .before .before .before .before .before .before .before .before .before .before .before .before .before .before .before .before .before .before .before .before .before .before .before .before .before .before .before .args .spans .now) (c .before .before .before .before .before .before .before .before .before .before .before .before .before .before .before .before .before .before .before .before .before .before .before .before .before .before .before .args .keys .now)) (c .before .before .before .before .before .before .before .before .before .before .before .before .before .before .before .before .before .before .before .before .before .before .before .before .before .before .before .args .priority) (heads (c .before .before .before .before .before .before .before .before .before .before .before .before .before .turns .left .ahead .next) (listFrom (c .before .before .before .before .before .before .before .before .before .before .before .before .before .before .before .before .before .before .before .before .before .before .before .before .before .before .before .args .left-operations .now) (c .before .before .before .before .before .before .before .before .before .before .before .before .before .turns .left .ahead .behind) (c .before .before .before .before .before .before .before .before .before .before .before .before .before .turns .left .ahead .at))) (heads (c .before .before .before .before .before .before .before .before .before .before .before .before .before .turns .right .ahead .next) (listFrom (c .before .before .before .before .before .before .before .before .before .before .before .before .before .before .before .before .before .before .before .before .before .before .before .before .before .before .before .args .right-operations .now) (c .before .before .before .before .before .before .before .before .before .before .before .before .before .turns .right .ahead .behind) (c .before .before .before .before .before .before .before .before .before .before .before .before .before .turns .right .ahead .at)))) (c .before .before .before .before .before .before .before .before .before .before .before .before .before .turns .left .ahead .next) (c .before .before .before .before .before .before .before .before .before .before .before .before .before .turns .right .ahead .next) (listFrom (c .before .before .before .before .before .before .before .before .before .before .before .before .before .before .before .before .before .before .before .before .before .before .before .before .before .before .before .args .left-operations .now) (c .before .before .before .before .before .before .before .before .before .before .before .before .before .turns .left .ahead .behind) (c .before .before .before .before .before .before .before .before .before .before .before .before .before .turns .left .ahead .at)) (listFrom (c .before .before .before .before .before .before .before .before .before .before .before .before .before .before .before .before .before .before .before .before .before .before .before .before .before .before .before .args .right-operations .now) (c .before .before .before .before .before .before .before .before .before .before .before .before .before .turns .right .ahead .behind) (c .before .before .before .before .before .before .before .before .before .before .before .before .before .turns .right .ahead .at))) (sym (c .before .before .before .before .before .before .before .before .before .before .choose .ensures) ∙ c .before .before .before .before .before .before .before .before .enum-told .given .1) (chosen (lentOf (c .before .before .before .before .before .before .before .before .before .before .before .before .before .before .before .before .before .before .before .before .before .before .before .before .before .before .before .args .original .now) (c .before .before .before .before .before .before .before .before .before .before .before .before .before .before .before .before .before .before .before .before .before .before .before .before .before .before .before .args .text .now) (c .before .before .before .before .before .before .before .before .before .before .before .before .before .before .before .before .before .before .before .before .before .before .before .before .before .before .before .args .spans .now) (c .before .before .before .before .before .before .before .before .before .before .before .before .before .before .before .before .before .before .before .before .before .before .before .before .before .before .before .args .keys .now)) (c .before .before .before .before .before .before .before .before .before .before .before .before .before .before .before .before .before .before .before .before .before .before .before .before .before .before .before .args .priority) (c .before .before .before .before .before .before .before .before .before .before .before .before .before .turns .left .ahead .next) (c .before .before .before .before .before .before .before .before .before .before .before .before .before .turns .right .ahead .next) (listFrom (c .before .before .before .before .before .before .before .before .before .before .before .before .before .before .before .before .before .before .before .before .before .before .before .before .before .before .before .args .left-operations .now) (c .before .before .before .before .before .before .before .before .before .before .before .before .before .turns .left .ahead .behind) (c .before .before .before .before .before .before .before .before .before .before .before .before .before .turns .left .ahead .at)) (listFrom (c .before .before .before .before .before .before .before .before .before .before .before .before .before .before .before .before .before .before .before .before .before .before .before .before .before .before .before .args .right-operations .now) (c .before .before .before .before .before .before .before .before .before .before .before .before .before .turns .right .ahead .behind) (c .before .before .before .before .before .before .before .before .before .before .before .before .before .turns .right .ahead .at)) (c .before .before .before .before .before .before .before .before .before .before .before .before .before .turns .inv .lefts .ends) (c .before .before .before .before .before .before .before .before .before .before .before .before .before .turns .inv .rights .ends))) (c .before .before .before .before .before .before .end-cursors .ensures) (c .before .before .end-cursors2 .ensures)
+    let a = c .before .before .before .before .before .before .before .before .before .before .before .before .before .before .before .before .before .before .before .before .before .before .before .before .before .before .before .args in
+    let t = c .before .before .before .before .before .before .before .before .before .before .before .before .before .turns in
+    finished (a .original .now) (a .text .now) (a .spans .now) (a .keys .now) (a .left-operations .now) (a .right-operations .now) (a .left-cursors .now) (a .right-cursors .now) (a .priority) (a .mid) (a .half) (a .work .now) (a .out .now) (a .moved .now) (t .work) (t .out) (t .moved) _ _ (t .left) (t .right) (t .totals) _ _ (t .inv)
+    (none-taken (a .original .now) (a .text .now) (a .spans .now) (a .keys .now) (a .left-operations .now) (a .right-operations .now) (a .left-cursors .now) (a .right-cursors .now) (a .priority) (a .mid) (a .half) (a .work .now) (a .out .now) (a .moved .now) (t .work) (t .out) (t .moved) (t .left) (t .right) (t .totals) (c .before .before .before .before .before .before .before .before .before .before .before .before .before .before .before .before .before .before .before .before .before .before .before .before .before .before .before .pre) (t .inv) _ (sym (c .before .before .before .before .before .before .before .before .before .is-none .ensures) ∙ c .before .before .before .before .before .before .before .before .if1 .taken) (takes (a .original .now) (a .text .now) (a .spans .now) (a .keys .now) (a .left-operations .now) (a .right-operations .now) (a .left-cursors .now) (a .right-cursors .now) (a .priority) (a .mid) (a .half) (a .work .now) (a .out .now) (a .moved .now) (t .work) (t .out) (t .moved) (t .left) (t .right) (t .totals) (c .before .before .before .before .before .before .before .before .before .before .before .before .before .before .before .before .before .before .before .before .before .before .before .before .before .before .before .pre) (t .inv) _ (c .before .before .before .before .before .before .before .before .before .before .choose .ensures)))
+    (c .before .before .before .before .before .before .end-cursors .ensures)
+    (c .before .before .end-cursors2 .ensures)
 
-enum-known-choice : tie.Need-enum-known-choice Inv-turns μ-turns
-enum-known-choice c =
-    search needs
+taken-of-requires : tie.Need-taken-of-requires Inv-turns μ-turns
+taken-of-requires c κs = search needs
+
+side-of-requires : tie.Need-side-of-requires Inv-turns μ-turns
+side-of-requires c κs = search needs
+
+side-of-requires-2 : tie.Need-side-of-requires-2 Inv-turns μ-turns
+side-of-requires-2 c κs = search needs
+
+number-of-requires : tie.Need-number-of-requires Inv-turns μ-turns
+number-of-requires c κs = search needs
 
 turn-requires : tie.Need-turn-requires Inv-turns μ-turns
 turn-requires c κs =
-    let k = subst (λ (x : Choice). Chosen x (takenOf (lentOf (c .before .before .before .before .before .before .before .before .before .before .before .before .before .before .before .before .before .before .before .before .before .before .before .args .original .now) (c .before .before .before .before .before .before .before .before .before .before .before .before .before .before .before .before .before .before .before .before .before .before .before .args .text .now) (c .before .before .before .before .before .before .before .before .before .before .before .before .before .before .before .before .before .before .before .before .before .before .before .args .spans .now) (c .before .before .before .before .before .before .before .before .before .before .before .before .before .before .before .before .before .before .before .before .before .before .before .args .keys .now)) (c .before .before .before .before .before .before .before .before .before .before .before .before .before .before .before .before .before .before .before .before .before .before .before .args .priority) (heads (c .before .before .before .before .before .before .before .before .before .turns .left .ahead .next) (listFrom (c .before .before .before .before .before .before .before .before .before .before .before .before .before .before .before .before .before .before .before .before .before .before .before .args .left-operations .now) (c .before .before .before .before .before .before .before .before .before .turns .left .ahead .behind) (c .before .before .before .before .before .before .before .before .before .turns .left .ahead .at))) (heads (c .before .before .before .before .before .before .before .before .before .turns .right .ahead .next) (listFrom (c .before .before .before .before .before .before .before .before .before .before .before .before .before .before .before .before .before .before .before .before .before .before .before .args .right-operations .now) (c .before .before .before .before .before .before .before .before .before .turns .right .ahead .behind) (c .before .before .before .before .before .before .before .before .before .turns .right .ahead .at)))) (c .before .before .before .before .before .before .before .before .before .turns .left .ahead .next) (c .before .before .before .before .before .before .before .before .before .turns .right .ahead .next) (listFrom (c .before .before .before .before .before .before .before .before .before .before .before .before .before .before .before .before .before .before .before .before .before .before .before .args .left-operations .now) (c .before .before .before .before .before .before .before .before .before .turns .left .ahead .behind) (c .before .before .before .before .before .before .before .before .before .turns .left .ahead .at)) (listFrom (c .before .before .before .before .before .before .before .before .before .before .before .before .before .before .before .before .before .before .before .before .before .before .before .args .right-operations .now) (c .before .before .before .before .before .before .before .before .before .turns .right .ahead .behind) (c .before .before .before .before .before .before .before .before .before .turns .right .ahead .at))) (sym (c .before .before .before .before .before .before .choose .ensures) ∙ c .before .before .before .before .choice .given .1) (chosen (lentOf (c .before .before .before .before .before .before .before .before .before .before .before .before .before .before .before .before .before .before .before .before .before .before .before .args .original .now) (c .before .before .before .before .before .before .before .before .before .before .before .before .before .before .before .before .before .before .before .before .before .before .before .args .text .now) (c .before .before .before .before .before .before .before .before .before .before .before .before .before .before .before .before .before .before .before .before .before .before .before .args .spans .now) (c .before .before .before .before .before .before .before .before .before .before .before .before .before .before .before .before .before .before .before .before .before .before .before .args .keys .now)) (c .before .before .before .before .before .before .before .before .before .before .before .before .before .before .before .before .before .before .before .before .before .before .before .args .priority) (c .before .before .before .before .before .before .before .before .before .turns .left .ahead .next) (c .before .before .before .before .before .before .before .before .before .turns .right .ahead .next) (listFrom (c .before .before .before .before .before .before .before .before .before .before .before .before .before .before .before .before .before .before .before .before .before .before .before .args .left-operations .now) (c .before .before .before .before .before .before .before .before .before .turns .left .ahead .behind) (c .before .before .before .before .before .before .before .before .before .turns .left .ahead .at)) (listFrom (c .before .before .before .before .before .before .before .before .before .before .before .before .before .before .before .before .before .before .before .before .before .before .before .args .right-operations .now) (c .before .before .before .before .before .before .before .before .before .turns .right .ahead .behind) (c .before .before .before .before .before .before .before .before .before .turns .right .ahead .at)) (c .before .before .before .before .before .before .before .before .before .turns .inv .lefts .ends) (c .before .before .before .before .before .before .before .before .before .turns .inv .rights .ends)) in
-    left-turnable (c .before .before .before .before .before .before .before .before .before .before .before .before .before .before .before .before .before .before .before .before .before .before .before .args .original .now) (c .before .before .before .before .before .before .before .before .before .before .before .before .before .before .before .before .before .before .before .before .before .before .before .args .text .now) (c .before .before .before .before .before .before .before .before .before .before .before .before .before .before .before .before .before .before .before .before .before .before .before .args .spans .now) (c .before .before .before .before .before .before .before .before .before .before .before .before .before .before .before .before .before .before .before .before .before .before .before .args .keys .now) (c .before .before .before .before .before .before .before .before .before .before .before .before .before .before .before .before .before .before .before .before .before .before .before .args .left-operations .now) (c .before .before .before .before .before .before .before .before .before .before .before .before .before .before .before .before .before .before .before .before .before .before .before .args .right-operations .now) (c .before .before .before .before .before .before .before .before .before .before .before .before .before .before .before .before .before .before .before .before .before .before .before .args .left-cursors .now) (c .before .before .before .before .before .before .before .before .before .before .before .before .before .before .before .before .before .before .before .before .before .before .before .args .right-cursors .now) (c .before .before .before .before .before .before .before .before .before .before .before .before .before .before .before .before .before .before .before .before .before .before .before .args .priority) (c .before .before .before .before .before .before .before .before .before .before .before .before .before .before .before .before .before .before .before .before .before .before .before .args .mid) (c .before .before .before .before .before .before .before .before .before .before .before .before .before .before .before .before .before .before .before .before .before .before .before .args .half) (c .before .before .before .before .before .before .before .before .before .before .before .before .before .before .before .before .before .before .before .before .before .before .before .args .work .now) (c .before .before .before .before .before .before .before .before .before .before .before .before .before .before .before .before .before .before .before .before .before .before .before .args .out .now) (c .before .before .before .before .before .before .before .before .before .before .before .before .before .before .before .before .before .before .before .before .before .before .before .args .moved .now) (c .before .before .before .before .before .before .before .before .before .turns .work) (c .before .before .before .before .before .before .before .before .before .turns .out) (c .before .before .before .before .before .before .before .before .before .turns .moved) (c .before .before .before .before .before .before .before .before .before .turns .left) (c .before .before .before .before .before .before .before .before .before .turns .right) (c .before .before .before .before .before .before .before .before .before .turns .totals) (c .before .before .before .before .before .before .before .before .before .before .before .before .before .before .before .before .before .before .before .before .before .before .before .pre) (c .before .before .before .before .before .before .before .before .before .turns .inv) _ (k .0) (k .1)
+    let a = c .before .before .before .before .before .before .before .before .before .before .before .before .before .before .before .before .before .before .before .before .before .before .before .before .before .before .args in
+    let k = c .before .before .before .before .before .before .before .before .before .before .before .before .before .before .before .before .before .before .before .before .before .before .before .before .before .before .pre in
+    let t = c .before .before .before .before .before .before .before .before .before .before .before .before .turns in
+    let x = c .before .before .before .before .before .before .before .before .before .choose .result in
+    seat-turnable (a .original .now) (a .text .now) (a .spans .now) (a .keys .now) (a .left-operations .now) (a .right-operations .now) (a .left-cursors .now) (a .right-cursors .now) (a .priority) (a .mid) (a .half) (a .work .now) (a .out .now) (a .moved .now) (t .work) (t .out) (t .moved) (t .left) (t .right) (t .totals) k (t .inv) x
+    (record {
+      some = sym (c .before .before .before .before .before .before .before .before .is-none .ensures) ∙ c .before .before .before .before .before .before .before .if1 .left;
+      a-is = c .before .before .before .before .before .before .taken-of .ensures;
+      own-is = c .before .before .before .before .before .side-of .ensures;
+      other-is = c .before .before .before .before .side-of2 .ensures;
+      number-is = c .before .before .before .number-of .ensures;
+    })
+    (takes (a .original .now) (a .text .now) (a .spans .now) (a .keys .now) (a .left-operations .now) (a .right-operations .now) (a .left-cursors .now) (a .right-cursors .now) (a .priority) (a .mid) (a .half) (a .work .now) (a .out .now) (a .moved .now) (t .work) (t .out) (t .moved) (t .left) (t .right) (t .totals) k (t .inv) x (c .before .before .before .before .before .before .before .before .before .choose .ensures))
+
+side-of-requires-3 : tie.Need-side-of-requires-3 Inv-turns μ-turns
+side-of-requires-3 c κs = search needs
+
+side-of-requires-4 : tie.Need-side-of-requires-4 Inv-turns μ-turns
+side-of-requires-4 c κs = search needs
 
 turns-less : tie.Need-turns-less Inv-turns μ-turns
 turns-less c =
-    let k = subst (λ (x : Choice). Chosen x (takenOf (lentOf (c .before .before .before .before .before .before .before .before .before .before .before .before .before .before .before .before .before .before .before .before .before .before .before .before .before .before .before .before .before .before .before .before .before .args .original .now) (c .before .before .before .before .before .before .before .before .before .before .before .before .before .before .before .before .before .before .before .before .before .before .before .before .before .before .before .before .before .before .before .before .before .args .text .now) (c .before .before .before .before .before .before .before .before .before .before .before .before .before .before .before .before .before .before .before .before .before .before .before .before .before .before .before .before .before .before .before .before .before .args .spans .now) (c .before .before .before .before .before .before .before .before .before .before .before .before .before .before .before .before .before .before .before .before .before .before .before .before .before .before .before .before .before .before .before .before .before .args .keys .now)) (c .before .before .before .before .before .before .before .before .before .before .before .before .before .before .before .before .before .before .before .before .before .before .before .before .before .before .before .before .before .before .before .before .before .args .priority) (heads (c .before .before .before .before .before .before .before .before .before .before .before .before .before .before .before .before .before .before .before .turns .left .ahead .next) (listFrom (c .before .before .before .before .before .before .before .before .before .before .before .before .before .before .before .before .before .before .before .before .before .before .before .before .before .before .before .before .before .before .before .before .before .args .left-operations .now) (c .before .before .before .before .before .before .before .before .before .before .before .before .before .before .before .before .before .before .before .turns .left .ahead .behind) (c .before .before .before .before .before .before .before .before .before .before .before .before .before .before .before .before .before .before .before .turns .left .ahead .at))) (heads (c .before .before .before .before .before .before .before .before .before .before .before .before .before .before .before .before .before .before .before .turns .right .ahead .next) (listFrom (c .before .before .before .before .before .before .before .before .before .before .before .before .before .before .before .before .before .before .before .before .before .before .before .before .before .before .before .before .before .before .before .before .before .args .right-operations .now) (c .before .before .before .before .before .before .before .before .before .before .before .before .before .before .before .before .before .before .before .turns .right .ahead .behind) (c .before .before .before .before .before .before .before .before .before .before .before .before .before .before .before .before .before .before .before .turns .right .ahead .at)))) (c .before .before .before .before .before .before .before .before .before .before .before .before .before .before .before .before .before .before .before .turns .left .ahead .next) (c .before .before .before .before .before .before .before .before .before .before .before .before .before .before .before .before .before .before .before .turns .right .ahead .next) (listFrom (c .before .before .before .before .before .before .before .before .before .before .before .before .before .before .before .before .before .before .before .before .before .before .before .before .before .before .before .before .before .before .before .before .before .args .left-operations .now) (c .before .before .before .before .before .before .before .before .before .before .before .before .before .before .before .before .before .before .before .turns .left .ahead .behind) (c .before .before .before .before .before .before .before .before .before .before .before .before .before .before .before .before .before .before .before .turns .left .ahead .at)) (listFrom (c .before .before .before .before .before .before .before .before .before .before .before .before .before .before .before .before .before .before .before .before .before .before .before .before .before .before .before .before .before .before .before .before .before .args .right-operations .now) (c .before .before .before .before .before .before .before .before .before .before .before .before .before .before .before .before .before .before .before .turns .right .ahead .behind) (c .before .before .before .before .before .before .before .before .before .before .before .before .before .before .before .before .before .before .before .turns .right .ahead .at))) (sym (c .before .before .before .before .before .before .before .before .before .before .before .before .before .before .before .before .choose .ensures) ∙ c .before .before .before .before .before .before .before .before .before .before .before .before .before .before .choice .given .1) (chosen (lentOf (c .before .before .before .before .before .before .before .before .before .before .before .before .before .before .before .before .before .before .before .before .before .before .before .before .before .before .before .before .before .before .before .before .before .args .original .now) (c .before .before .before .before .before .before .before .before .before .before .before .before .before .before .before .before .before .before .before .before .before .before .before .before .before .before .before .before .before .before .before .before .before .args .text .now) (c .before .before .before .before .before .before .before .before .before .before .before .before .before .before .before .before .before .before .before .before .before .before .before .before .before .before .before .before .before .before .before .before .before .args .spans .now) (c .before .before .before .before .before .before .before .before .before .before .before .before .before .before .before .before .before .before .before .before .before .before .before .before .before .before .before .before .before .before .before .before .before .args .keys .now)) (c .before .before .before .before .before .before .before .before .before .before .before .before .before .before .before .before .before .before .before .before .before .before .before .before .before .before .before .before .before .before .before .before .before .args .priority) (c .before .before .before .before .before .before .before .before .before .before .before .before .before .before .before .before .before .before .before .turns .left .ahead .next) (c .before .before .before .before .before .before .before .before .before .before .before .before .before .before .before .before .before .before .before .turns .right .ahead .next) (listFrom (c .before .before .before .before .before .before .before .before .before .before .before .before .before .before .before .before .before .before .before .before .before .before .before .before .before .before .before .before .before .before .before .before .before .args .left-operations .now) (c .before .before .before .before .before .before .before .before .before .before .before .before .before .before .before .before .before .before .before .turns .left .ahead .behind) (c .before .before .before .before .before .before .before .before .before .before .before .before .before .before .before .before .before .before .before .turns .left .ahead .at)) (listFrom (c .before .before .before .before .before .before .before .before .before .before .before .before .before .before .before .before .before .before .before .before .before .before .before .before .before .before .before .before .before .before .before .before .before .args .right-operations .now) (c .before .before .before .before .before .before .before .before .before .before .before .before .before .before .before .before .before .before .before .turns .right .ahead .behind) (c .before .before .before .before .before .before .before .before .before .before .before .before .before .before .before .before .before .before .before .turns .right .ahead .at)) (c .before .before .before .before .before .before .before .before .before .before .before .before .before .before .before .before .before .before .before .turns .inv .lefts .ends) (c .before .before .before .before .before .before .before .before .before .before .before .before .before .before .before .before .before .before .before .turns .inv .rights .ends)) in
-    left-less (c .before .before .before .before .before .before .before .before .before .before .before .before .before .before .before .before .before .before .before .before .before .before .before .before .before .before .before .before .before .before .before .before .before .args .original .now) (c .before .before .before .before .before .before .before .before .before .before .before .before .before .before .before .before .before .before .before .before .before .before .before .before .before .before .before .before .before .before .before .before .before .args .text .now) (c .before .before .before .before .before .before .before .before .before .before .before .before .before .before .before .before .before .before .before .before .before .before .before .before .before .before .before .before .before .before .before .before .before .args .spans .now) (c .before .before .before .before .before .before .before .before .before .before .before .before .before .before .before .before .before .before .before .before .before .before .before .before .before .before .before .before .before .before .before .before .before .args .keys .now) (c .before .before .before .before .before .before .before .before .before .before .before .before .before .before .before .before .before .before .before .before .before .before .before .before .before .before .before .before .before .before .before .before .before .args .left-operations .now) (c .before .before .before .before .before .before .before .before .before .before .before .before .before .before .before .before .before .before .before .before .before .before .before .before .before .before .before .before .before .before .before .before .before .args .right-operations .now) (c .before .before .before .before .before .before .before .before .before .before .before .before .before .before .before .before .before .before .before .before .before .before .before .before .before .before .before .before .before .before .before .before .before .args .left-cursors .now) (c .before .before .before .before .before .before .before .before .before .before .before .before .before .before .before .before .before .before .before .before .before .before .before .before .before .before .before .before .before .before .before .before .before .args .right-cursors .now) (c .before .before .before .before .before .before .before .before .before .before .before .before .before .before .before .before .before .before .before .before .before .before .before .before .before .before .before .before .before .before .before .before .before .args .priority) (c .before .before .before .before .before .before .before .before .before .before .before .before .before .before .before .before .before .before .before .before .before .before .before .before .before .before .before .before .before .before .before .before .before .args .mid) (c .before .before .before .before .before .before .before .before .before .before .before .before .before .before .before .before .before .before .before .before .before .before .before .before .before .before .before .before .before .before .before .before .before .args .half) (c .before .before .before .before .before .before .before .before .before .before .before .before .before .before .before .before .before .before .before .before .before .before .before .before .before .before .before .before .before .before .before .before .before .args .work .now) (c .before .before .before .before .before .before .before .before .before .before .before .before .before .before .before .before .before .before .before .before .before .before .before .before .before .before .before .before .before .before .before .before .before .args .out .now) (c .before .before .before .before .before .before .before .before .before .before .before .before .before .before .before .before .before .before .before .before .before .before .before .before .before .before .before .before .before .before .before .before .before .args .moved .now) (c .before .before .before .before .before .before .before .before .before .before .before .before .before .before .before .before .before .before .before .turns .work) (c .before .before .before .before .before .before .before .before .before .before .before .before .before .before .before .before .before .before .before .turns .out) (c .before .before .before .before .before .before .before .before .before .before .before .before .before .before .before .before .before .before .before .turns .moved) (c .before .before .before .before .before .before .before .before .before .before .before .before .before .before .before .before .before .before .before .turns .left) (c .before .before .before .before .before .before .before .before .before .before .before .before .before .before .before .before .before .before .before .turns .right) (c .before .before .before .before .before .before .before .before .before .before .before .before .before .before .before .before .before .before .before .turns .totals) (c .before .before .before .before .before .before .before .before .before .before .before .before .before .before .before .before .before .before .before .before .before .before .before .before .before .before .before .before .before .before .before .before .before .pre) (c .before .before .before .before .before .before .before .before .before .before .before .before .before .before .before .before .before .before .before .turns .inv) _ (k .0) (k .1) (c .before .before .before .before .before .before .before .before .before .turn .ensures)
+    let a = c .before .before .before .before .before .before .before .before .before .before .before .before .before .before .before .before .before .before .before .before .before .before .before .before .before .before .before .before .before .before .before .before .before .before .before .before .before .before .args in
+    let k = c .before .before .before .before .before .before .before .before .before .before .before .before .before .before .before .before .before .before .before .before .before .before .before .before .before .before .before .before .before .before .before .before .before .before .before .before .before .before .pre in
+    let t = c .before .before .before .before .before .before .before .before .before .before .before .before .before .before .before .before .before .before .before .before .before .before .before .before .turns in
+    let x = c .before .before .before .before .before .before .before .before .before .before .before .before .before .before .before .before .before .before .before .before .before .choose .result in
+    seat-less (a .original .now) (a .text .now) (a .spans .now) (a .keys .now) (a .left-operations .now) (a .right-operations .now) (a .left-cursors .now) (a .right-cursors .now) (a .priority) (a .mid) (a .half) (a .work .now) (a .out .now) (a .moved .now) (t .work) (t .out) (t .moved) (t .left) (t .right) (t .totals) k (t .inv) x
+    (record {
+      some = sym (c .before .before .before .before .before .before .before .before .before .before .before .before .before .before .before .before .before .before .before .before .is-none .ensures) ∙ c .before .before .before .before .before .before .before .before .before .before .before .before .before .before .before .before .before .before .before .if1 .left;
+      a-is = c .before .before .before .before .before .before .before .before .before .before .before .before .before .before .before .before .before .before .taken-of .ensures;
+      own-is = c .before .before .before .before .before .before .before .before .before .before .before .before .before .before .before .before .before .side-of .ensures;
+      other-is = c .before .before .before .before .before .before .before .before .before .before .before .before .before .before .before .before .side-of2 .ensures;
+      number-is = c .before .before .before .before .before .before .before .before .before .before .before .before .before .before .before .number-of .ensures;
+    })
+    (takes (a .original .now) (a .text .now) (a .spans .now) (a .keys .now) (a .left-operations .now) (a .right-operations .now) (a .left-cursors .now) (a .right-cursors .now) (a .priority) (a .mid) (a .half) (a .work .now) (a .out .now) (a .moved .now) (t .work) (t .out) (t .moved) (t .left) (t .right) (t .totals) k (t .inv) x (c .before .before .before .before .before .before .before .before .before .before .before .before .before .before .before .before .before .before .before .before .before .choose .ensures))
+    (c .before .before .before .before .before .before .before .before .before .before .before .turn .ensures)
+    (c .before .side-of3 .ensures)
+    (c .side-of4 .ensures)
 
 turns-again : tie.Need-turns-again Inv-turns μ-turns
 turns-again c =
-    let k = subst (λ (x : Choice). Chosen x (takenOf (lentOf (c .before .before .before .before .before .before .before .before .before .before .before .before .before .before .before .before .before .before .before .before .before .before .before .before .before .before .before .before .before .before .before .before .before .args .original .now) (c .before .before .before .before .before .before .before .before .before .before .before .before .before .before .before .before .before .before .before .before .before .before .before .before .before .before .before .before .before .before .before .before .before .args .text .now) (c .before .before .before .before .before .before .before .before .before .before .before .before .before .before .before .before .before .before .before .before .before .before .before .before .before .before .before .before .before .before .before .before .before .args .spans .now) (c .before .before .before .before .before .before .before .before .before .before .before .before .before .before .before .before .before .before .before .before .before .before .before .before .before .before .before .before .before .before .before .before .before .args .keys .now)) (c .before .before .before .before .before .before .before .before .before .before .before .before .before .before .before .before .before .before .before .before .before .before .before .before .before .before .before .before .before .before .before .before .before .args .priority) (heads (c .before .before .before .before .before .before .before .before .before .before .before .before .before .before .before .before .before .before .before .turns .left .ahead .next) (listFrom (c .before .before .before .before .before .before .before .before .before .before .before .before .before .before .before .before .before .before .before .before .before .before .before .before .before .before .before .before .before .before .before .before .before .args .left-operations .now) (c .before .before .before .before .before .before .before .before .before .before .before .before .before .before .before .before .before .before .before .turns .left .ahead .behind) (c .before .before .before .before .before .before .before .before .before .before .before .before .before .before .before .before .before .before .before .turns .left .ahead .at))) (heads (c .before .before .before .before .before .before .before .before .before .before .before .before .before .before .before .before .before .before .before .turns .right .ahead .next) (listFrom (c .before .before .before .before .before .before .before .before .before .before .before .before .before .before .before .before .before .before .before .before .before .before .before .before .before .before .before .before .before .before .before .before .before .args .right-operations .now) (c .before .before .before .before .before .before .before .before .before .before .before .before .before .before .before .before .before .before .before .turns .right .ahead .behind) (c .before .before .before .before .before .before .before .before .before .before .before .before .before .before .before .before .before .before .before .turns .right .ahead .at)))) (c .before .before .before .before .before .before .before .before .before .before .before .before .before .before .before .before .before .before .before .turns .left .ahead .next) (c .before .before .before .before .before .before .before .before .before .before .before .before .before .before .before .before .before .before .before .turns .right .ahead .next) (listFrom (c .before .before .before .before .before .before .before .before .before .before .before .before .before .before .before .before .before .before .before .before .before .before .before .before .before .before .before .before .before .before .before .before .before .args .left-operations .now) (c .before .before .before .before .before .before .before .before .before .before .before .before .before .before .before .before .before .before .before .turns .left .ahead .behind) (c .before .before .before .before .before .before .before .before .before .before .before .before .before .before .before .before .before .before .before .turns .left .ahead .at)) (listFrom (c .before .before .before .before .before .before .before .before .before .before .before .before .before .before .before .before .before .before .before .before .before .before .before .before .before .before .before .before .before .before .before .before .before .args .right-operations .now) (c .before .before .before .before .before .before .before .before .before .before .before .before .before .before .before .before .before .before .before .turns .right .ahead .behind) (c .before .before .before .before .before .before .before .before .before .before .before .before .before .before .before .before .before .before .before .turns .right .ahead .at))) (sym (c .before .before .before .before .before .before .before .before .before .before .before .before .before .before .before .before .choose .ensures) ∙ c .before .before .before .before .before .before .before .before .before .before .before .before .before .before .choice .given .1) (chosen (lentOf (c .before .before .before .before .before .before .before .before .before .before .before .before .before .before .before .before .before .before .before .before .before .before .before .before .before .before .before .before .before .before .before .before .before .args .original .now) (c .before .before .before .before .before .before .before .before .before .before .before .before .before .before .before .before .before .before .before .before .before .before .before .before .before .before .before .before .before .before .before .before .before .args .text .now) (c .before .before .before .before .before .before .before .before .before .before .before .before .before .before .before .before .before .before .before .before .before .before .before .before .before .before .before .before .before .before .before .before .before .args .spans .now) (c .before .before .before .before .before .before .before .before .before .before .before .before .before .before .before .before .before .before .before .before .before .before .before .before .before .before .before .before .before .before .before .before .before .args .keys .now)) (c .before .before .before .before .before .before .before .before .before .before .before .before .before .before .before .before .before .before .before .before .before .before .before .before .before .before .before .before .before .before .before .before .before .args .priority) (c .before .before .before .before .before .before .before .before .before .before .before .before .before .before .before .before .before .before .before .turns .left .ahead .next) (c .before .before .before .before .before .before .before .before .before .before .before .before .before .before .before .before .before .before .before .turns .right .ahead .next) (listFrom (c .before .before .before .before .before .before .before .before .before .before .before .before .before .before .before .before .before .before .before .before .before .before .before .before .before .before .before .before .before .before .before .before .before .args .left-operations .now) (c .before .before .before .before .before .before .before .before .before .before .before .before .before .before .before .before .before .before .before .turns .left .ahead .behind) (c .before .before .before .before .before .before .before .before .before .before .before .before .before .before .before .before .before .before .before .turns .left .ahead .at)) (listFrom (c .before .before .before .before .before .before .before .before .before .before .before .before .before .before .before .before .before .before .before .before .before .before .before .before .before .before .before .before .before .before .before .before .before .args .right-operations .now) (c .before .before .before .before .before .before .before .before .before .before .before .before .before .before .before .before .before .before .before .turns .right .ahead .behind) (c .before .before .before .before .before .before .before .before .before .before .before .before .before .before .before .before .before .before .before .turns .right .ahead .at)) (c .before .before .before .before .before .before .before .before .before .before .before .before .before .before .before .before .before .before .before .turns .inv .lefts .ends) (c .before .before .before .before .before .before .before .before .before .before .before .before .before .before .before .before .before .before .before .turns .inv .rights .ends)) in
-    left-step (c .before .before .before .before .before .before .before .before .before .before .before .before .before .before .before .before .before .before .before .before .before .before .before .before .before .before .before .before .before .before .before .before .before .args .original .now) (c .before .before .before .before .before .before .before .before .before .before .before .before .before .before .before .before .before .before .before .before .before .before .before .before .before .before .before .before .before .before .before .before .before .args .text .now) (c .before .before .before .before .before .before .before .before .before .before .before .before .before .before .before .before .before .before .before .before .before .before .before .before .before .before .before .before .before .before .before .before .before .args .spans .now) (c .before .before .before .before .before .before .before .before .before .before .before .before .before .before .before .before .before .before .before .before .before .before .before .before .before .before .before .before .before .before .before .before .before .args .keys .now) (c .before .before .before .before .before .before .before .before .before .before .before .before .before .before .before .before .before .before .before .before .before .before .before .before .before .before .before .before .before .before .before .before .before .args .left-operations .now) (c .before .before .before .before .before .before .before .before .before .before .before .before .before .before .before .before .before .before .before .before .before .before .before .before .before .before .before .before .before .before .before .before .before .args .right-operations .now) (c .before .before .before .before .before .before .before .before .before .before .before .before .before .before .before .before .before .before .before .before .before .before .before .before .before .before .before .before .before .before .before .before .before .args .left-cursors .now) (c .before .before .before .before .before .before .before .before .before .before .before .before .before .before .before .before .before .before .before .before .before .before .before .before .before .before .before .before .before .before .before .before .before .args .right-cursors .now) (c .before .before .before .before .before .before .before .before .before .before .before .before .before .before .before .before .before .before .before .before .before .before .before .before .before .before .before .before .before .before .before .before .before .args .priority) (c .before .before .before .before .before .before .before .before .before .before .before .before .before .before .before .before .before .before .before .before .before .before .before .before .before .before .before .before .before .before .before .before .before .args .mid) (c .before .before .before .before .before .before .before .before .before .before .before .before .before .before .before .before .before .before .before .before .before .before .before .before .before .before .before .before .before .before .before .before .before .args .half) (c .before .before .before .before .before .before .before .before .before .before .before .before .before .before .before .before .before .before .before .before .before .before .before .before .before .before .before .before .before .before .before .before .before .args .work .now) (c .before .before .before .before .before .before .before .before .before .before .before .before .before .before .before .before .before .before .before .before .before .before .before .before .before .before .before .before .before .before .before .before .before .args .out .now) (c .before .before .before .before .before .before .before .before .before .before .before .before .before .before .before .before .before .before .before .before .before .before .before .before .before .before .before .before .before .before .before .before .before .args .moved .now) (c .before .before .before .before .before .before .before .before .before .before .before .before .before .before .before .before .before .before .before .turns .work) (c .before .before .before .before .before .before .before .before .before .before .before .before .before .before .before .before .before .before .before .turns .out) (c .before .before .before .before .before .before .before .before .before .before .before .before .before .before .before .before .before .before .before .turns .moved) (c .before .before .before .before .before .before .before .before .before .before .before .before .before .before .before .before .before .before .before .turns .left) (c .before .before .before .before .before .before .before .before .before .before .before .before .before .before .before .before .before .before .before .turns .right) (c .before .before .before .before .before .before .before .before .before .before .before .before .before .before .before .before .before .before .before .turns .totals) (c .before .before .before .before .before .before .before .before .before .before .before .before .before .before .before .before .before .before .before .before .before .before .before .before .before .before .before .before .before .before .before .before .before .pre) (c .before .before .before .before .before .before .before .before .before .before .before .before .before .before .before .before .before .before .before .turns .inv) _ (k .0) (k .1) (c .before .before .before .before .before .before .before .before .before .turn .ensures) (c .before .before .before .before .before .before .before .before .before .turn .kept .1 .1 .1 .1 .1 .1 .1 .1 .1 .1 .1 .0) (c .before .before .before .before .before .before .before .before .before .turn .kept .1 .1 .1 .1 .1 .1 .1 .1 .1 .1 .1 .1 .0)
-
-enum-known-choice-2 : tie.Need-enum-known-choice-2 Inv-turns μ-turns
-enum-known-choice-2 c =
-    search needs
-
-turn-requires-2 : tie.Need-turn-requires-2 Inv-turns μ-turns
-turn-requires-2 c κs =
-    let k = subst (λ (x : Choice). Chosen x (takenOf (lentOf (c .before .before .before .before .before .before .before .before .before .before .before .before .before .before .before .before .before .before .before .before .before .before .before .args .original .now) (c .before .before .before .before .before .before .before .before .before .before .before .before .before .before .before .before .before .before .before .before .before .before .before .args .text .now) (c .before .before .before .before .before .before .before .before .before .before .before .before .before .before .before .before .before .before .before .before .before .before .before .args .spans .now) (c .before .before .before .before .before .before .before .before .before .before .before .before .before .before .before .before .before .before .before .before .before .before .before .args .keys .now)) (c .before .before .before .before .before .before .before .before .before .before .before .before .before .before .before .before .before .before .before .before .before .before .before .args .priority) (heads (c .before .before .before .before .before .before .before .before .before .turns .left .ahead .next) (listFrom (c .before .before .before .before .before .before .before .before .before .before .before .before .before .before .before .before .before .before .before .before .before .before .before .args .left-operations .now) (c .before .before .before .before .before .before .before .before .before .turns .left .ahead .behind) (c .before .before .before .before .before .before .before .before .before .turns .left .ahead .at))) (heads (c .before .before .before .before .before .before .before .before .before .turns .right .ahead .next) (listFrom (c .before .before .before .before .before .before .before .before .before .before .before .before .before .before .before .before .before .before .before .before .before .before .before .args .right-operations .now) (c .before .before .before .before .before .before .before .before .before .turns .right .ahead .behind) (c .before .before .before .before .before .before .before .before .before .turns .right .ahead .at)))) (c .before .before .before .before .before .before .before .before .before .turns .left .ahead .next) (c .before .before .before .before .before .before .before .before .before .turns .right .ahead .next) (listFrom (c .before .before .before .before .before .before .before .before .before .before .before .before .before .before .before .before .before .before .before .before .before .before .before .args .left-operations .now) (c .before .before .before .before .before .before .before .before .before .turns .left .ahead .behind) (c .before .before .before .before .before .before .before .before .before .turns .left .ahead .at)) (listFrom (c .before .before .before .before .before .before .before .before .before .before .before .before .before .before .before .before .before .before .before .before .before .before .before .args .right-operations .now) (c .before .before .before .before .before .before .before .before .before .turns .right .ahead .behind) (c .before .before .before .before .before .before .before .before .before .turns .right .ahead .at))) (sym (c .before .before .before .before .before .before .choose .ensures) ∙ c .before .before .before .before .choice2 .given .1) (chosen (lentOf (c .before .before .before .before .before .before .before .before .before .before .before .before .before .before .before .before .before .before .before .before .before .before .before .args .original .now) (c .before .before .before .before .before .before .before .before .before .before .before .before .before .before .before .before .before .before .before .before .before .before .before .args .text .now) (c .before .before .before .before .before .before .before .before .before .before .before .before .before .before .before .before .before .before .before .before .before .before .before .args .spans .now) (c .before .before .before .before .before .before .before .before .before .before .before .before .before .before .before .before .before .before .before .before .before .before .before .args .keys .now)) (c .before .before .before .before .before .before .before .before .before .before .before .before .before .before .before .before .before .before .before .before .before .before .before .args .priority) (c .before .before .before .before .before .before .before .before .before .turns .left .ahead .next) (c .before .before .before .before .before .before .before .before .before .turns .right .ahead .next) (listFrom (c .before .before .before .before .before .before .before .before .before .before .before .before .before .before .before .before .before .before .before .before .before .before .before .args .left-operations .now) (c .before .before .before .before .before .before .before .before .before .turns .left .ahead .behind) (c .before .before .before .before .before .before .before .before .before .turns .left .ahead .at)) (listFrom (c .before .before .before .before .before .before .before .before .before .before .before .before .before .before .before .before .before .before .before .before .before .before .before .args .right-operations .now) (c .before .before .before .before .before .before .before .before .before .turns .right .ahead .behind) (c .before .before .before .before .before .before .before .before .before .turns .right .ahead .at)) (c .before .before .before .before .before .before .before .before .before .turns .inv .lefts .ends) (c .before .before .before .before .before .before .before .before .before .turns .inv .rights .ends)) in
-    right-turnable (c .before .before .before .before .before .before .before .before .before .before .before .before .before .before .before .before .before .before .before .before .before .before .before .args .original .now) (c .before .before .before .before .before .before .before .before .before .before .before .before .before .before .before .before .before .before .before .before .before .before .before .args .text .now) (c .before .before .before .before .before .before .before .before .before .before .before .before .before .before .before .before .before .before .before .before .before .before .before .args .spans .now) (c .before .before .before .before .before .before .before .before .before .before .before .before .before .before .before .before .before .before .before .before .before .before .before .args .keys .now) (c .before .before .before .before .before .before .before .before .before .before .before .before .before .before .before .before .before .before .before .before .before .before .before .args .left-operations .now) (c .before .before .before .before .before .before .before .before .before .before .before .before .before .before .before .before .before .before .before .before .before .before .before .args .right-operations .now) (c .before .before .before .before .before .before .before .before .before .before .before .before .before .before .before .before .before .before .before .before .before .before .before .args .left-cursors .now) (c .before .before .before .before .before .before .before .before .before .before .before .before .before .before .before .before .before .before .before .before .before .before .before .args .right-cursors .now) (c .before .before .before .before .before .before .before .before .before .before .before .before .before .before .before .before .before .before .before .before .before .before .before .args .priority) (c .before .before .before .before .before .before .before .before .before .before .before .before .before .before .before .before .before .before .before .before .before .before .before .args .mid) (c .before .before .before .before .before .before .before .before .before .before .before .before .before .before .before .before .before .before .before .before .before .before .before .args .half) (c .before .before .before .before .before .before .before .before .before .before .before .before .before .before .before .before .before .before .before .before .before .before .before .args .work .now) (c .before .before .before .before .before .before .before .before .before .before .before .before .before .before .before .before .before .before .before .before .before .before .before .args .out .now) (c .before .before .before .before .before .before .before .before .before .before .before .before .before .before .before .before .before .before .before .before .before .before .before .args .moved .now) (c .before .before .before .before .before .before .before .before .before .turns .work) (c .before .before .before .before .before .before .before .before .before .turns .out) (c .before .before .before .before .before .before .before .before .before .turns .moved) (c .before .before .before .before .before .before .before .before .before .turns .left) (c .before .before .before .before .before .before .before .before .before .turns .right) (c .before .before .before .before .before .before .before .before .before .turns .totals) (c .before .before .before .before .before .before .before .before .before .before .before .before .before .before .before .before .before .before .before .before .before .before .before .pre) (c .before .before .before .before .before .before .before .before .before .turns .inv) _ (k .0) (k .1)
-
-turns-less-2 : tie.Need-turns-less-2 Inv-turns μ-turns
-turns-less-2 c =
-    let k = subst (λ (x : Choice). Chosen x (takenOf (lentOf (c .before .before .before .before .before .before .before .before .before .before .before .before .before .before .before .before .before .before .before .before .before .before .before .before .before .before .before .before .before .before .before .before .before .args .original .now) (c .before .before .before .before .before .before .before .before .before .before .before .before .before .before .before .before .before .before .before .before .before .before .before .before .before .before .before .before .before .before .before .before .before .args .text .now) (c .before .before .before .before .before .before .before .before .before .before .before .before .before .before .before .before .before .before .before .before .before .before .before .before .before .before .before .before .before .before .before .before .before .args .spans .now) (c .before .before .before .before .before .before .before .before .before .before .before .before .before .before .before .before .before .before .before .before .before .before .before .before .before .before .before .before .before .before .before .before .before .args .keys .now)) (c .before .before .before .before .before .before .before .before .before .before .before .before .before .before .before .before .before .before .before .before .before .before .before .before .before .before .before .before .before .before .before .before .before .args .priority) (heads (c .before .before .before .before .before .before .before .before .before .before .before .before .before .before .before .before .before .before .before .turns .left .ahead .next) (listFrom (c .before .before .before .before .before .before .before .before .before .before .before .before .before .before .before .before .before .before .before .before .before .before .before .before .before .before .before .before .before .before .before .before .before .args .left-operations .now) (c .before .before .before .before .before .before .before .before .before .before .before .before .before .before .before .before .before .before .before .turns .left .ahead .behind) (c .before .before .before .before .before .before .before .before .before .before .before .before .before .before .before .before .before .before .before .turns .left .ahead .at))) (heads (c .before .before .before .before .before .before .before .before .before .before .before .before .before .before .before .before .before .before .before .turns .right .ahead .next) (listFrom (c .before .before .before .before .before .before .before .before .before .before .before .before .before .before .before .before .before .before .before .before .before .before .before .before .before .before .before .before .before .before .before .before .before .args .right-operations .now) (c .before .before .before .before .before .before .before .before .before .before .before .before .before .before .before .before .before .before .before .turns .right .ahead .behind) (c .before .before .before .before .before .before .before .before .before .before .before .before .before .before .before .before .before .before .before .turns .right .ahead .at)))) (c .before .before .before .before .before .before .before .before .before .before .before .before .before .before .before .before .before .before .before .turns .left .ahead .next) (c .before .before .before .before .before .before .before .before .before .before .before .before .before .before .before .before .before .before .before .turns .right .ahead .next) (listFrom (c .before .before .before .before .before .before .before .before .before .before .before .before .before .before .before .before .before .before .before .before .before .before .before .before .before .before .before .before .before .before .before .before .before .args .left-operations .now) (c .before .before .before .before .before .before .before .before .before .before .before .before .before .before .before .before .before .before .before .turns .left .ahead .behind) (c .before .before .before .before .before .before .before .before .before .before .before .before .before .before .before .before .before .before .before .turns .left .ahead .at)) (listFrom (c .before .before .before .before .before .before .before .before .before .before .before .before .before .before .before .before .before .before .before .before .before .before .before .before .before .before .before .before .before .before .before .before .before .args .right-operations .now) (c .before .before .before .before .before .before .before .before .before .before .before .before .before .before .before .before .before .before .before .turns .right .ahead .behind) (c .before .before .before .before .before .before .before .before .before .before .before .before .before .before .before .before .before .before .before .turns .right .ahead .at))) (sym (c .before .before .before .before .before .before .before .before .before .before .before .before .before .before .before .before .choose .ensures) ∙ c .before .before .before .before .before .before .before .before .before .before .before .before .before .before .choice2 .given .1) (chosen (lentOf (c .before .before .before .before .before .before .before .before .before .before .before .before .before .before .before .before .before .before .before .before .before .before .before .before .before .before .before .before .before .before .before .before .before .args .original .now) (c .before .before .before .before .before .before .before .before .before .before .before .before .before .before .before .before .before .before .before .before .before .before .before .before .before .before .before .before .before .before .before .before .before .args .text .now) (c .before .before .before .before .before .before .before .before .before .before .before .before .before .before .before .before .before .before .before .before .before .before .before .before .before .before .before .before .before .before .before .before .before .args .spans .now) (c .before .before .before .before .before .before .before .before .before .before .before .before .before .before .before .before .before .before .before .before .before .before .before .before .before .before .before .before .before .before .before .before .before .args .keys .now)) (c .before .before .before .before .before .before .before .before .before .before .before .before .before .before .before .before .before .before .before .before .before .before .before .before .before .before .before .before .before .before .before .before .before .args .priority) (c .before .before .before .before .before .before .before .before .before .before .before .before .before .before .before .before .before .before .before .turns .left .ahead .next) (c .before .before .before .before .before .before .before .before .before .before .before .before .before .before .before .before .before .before .before .turns .right .ahead .next) (listFrom (c .before .before .before .before .before .before .before .before .before .before .before .before .before .before .before .before .before .before .before .before .before .before .before .before .before .before .before .before .before .before .before .before .before .args .left-operations .now) (c .before .before .before .before .before .before .before .before .before .before .before .before .before .before .before .before .before .before .before .turns .left .ahead .behind) (c .before .before .before .before .before .before .before .before .before .before .before .before .before .before .before .before .before .before .before .turns .left .ahead .at)) (listFrom (c .before .before .before .before .before .before .before .before .before .before .before .before .before .before .before .before .before .before .before .before .before .before .before .before .before .before .before .before .before .before .before .before .before .args .right-operations .now) (c .before .before .before .before .before .before .before .before .before .before .before .before .before .before .before .before .before .before .before .turns .right .ahead .behind) (c .before .before .before .before .before .before .before .before .before .before .before .before .before .before .before .before .before .before .before .turns .right .ahead .at)) (c .before .before .before .before .before .before .before .before .before .before .before .before .before .before .before .before .before .before .before .turns .inv .lefts .ends) (c .before .before .before .before .before .before .before .before .before .before .before .before .before .before .before .before .before .before .before .turns .inv .rights .ends)) in
-    right-less (c .before .before .before .before .before .before .before .before .before .before .before .before .before .before .before .before .before .before .before .before .before .before .before .before .before .before .before .before .before .before .before .before .before .args .original .now) (c .before .before .before .before .before .before .before .before .before .before .before .before .before .before .before .before .before .before .before .before .before .before .before .before .before .before .before .before .before .before .before .before .before .args .text .now) (c .before .before .before .before .before .before .before .before .before .before .before .before .before .before .before .before .before .before .before .before .before .before .before .before .before .before .before .before .before .before .before .before .before .args .spans .now) (c .before .before .before .before .before .before .before .before .before .before .before .before .before .before .before .before .before .before .before .before .before .before .before .before .before .before .before .before .before .before .before .before .before .args .keys .now) (c .before .before .before .before .before .before .before .before .before .before .before .before .before .before .before .before .before .before .before .before .before .before .before .before .before .before .before .before .before .before .before .before .before .args .left-operations .now) (c .before .before .before .before .before .before .before .before .before .before .before .before .before .before .before .before .before .before .before .before .before .before .before .before .before .before .before .before .before .before .before .before .before .args .right-operations .now) (c .before .before .before .before .before .before .before .before .before .before .before .before .before .before .before .before .before .before .before .before .before .before .before .before .before .before .before .before .before .before .before .before .before .args .left-cursors .now) (c .before .before .before .before .before .before .before .before .before .before .before .before .before .before .before .before .before .before .before .before .before .before .before .before .before .before .before .before .before .before .before .before .before .args .right-cursors .now) (c .before .before .before .before .before .before .before .before .before .before .before .before .before .before .before .before .before .before .before .before .before .before .before .before .before .before .before .before .before .before .before .before .before .args .priority) (c .before .before .before .before .before .before .before .before .before .before .before .before .before .before .before .before .before .before .before .before .before .before .before .before .before .before .before .before .before .before .before .before .before .args .mid) (c .before .before .before .before .before .before .before .before .before .before .before .before .before .before .before .before .before .before .before .before .before .before .before .before .before .before .before .before .before .before .before .before .before .args .half) (c .before .before .before .before .before .before .before .before .before .before .before .before .before .before .before .before .before .before .before .before .before .before .before .before .before .before .before .before .before .before .before .before .before .args .work .now) (c .before .before .before .before .before .before .before .before .before .before .before .before .before .before .before .before .before .before .before .before .before .before .before .before .before .before .before .before .before .before .before .before .before .args .out .now) (c .before .before .before .before .before .before .before .before .before .before .before .before .before .before .before .before .before .before .before .before .before .before .before .before .before .before .before .before .before .before .before .before .before .args .moved .now) (c .before .before .before .before .before .before .before .before .before .before .before .before .before .before .before .before .before .before .before .turns .work) (c .before .before .before .before .before .before .before .before .before .before .before .before .before .before .before .before .before .before .before .turns .out) (c .before .before .before .before .before .before .before .before .before .before .before .before .before .before .before .before .before .before .before .turns .moved) (c .before .before .before .before .before .before .before .before .before .before .before .before .before .before .before .before .before .before .before .turns .left) (c .before .before .before .before .before .before .before .before .before .before .before .before .before .before .before .before .before .before .before .turns .right) (c .before .before .before .before .before .before .before .before .before .before .before .before .before .before .before .before .before .before .before .turns .totals) (c .before .before .before .before .before .before .before .before .before .before .before .before .before .before .before .before .before .before .before .before .before .before .before .before .before .before .before .before .before .before .before .before .before .pre) (c .before .before .before .before .before .before .before .before .before .before .before .before .before .before .before .before .before .before .before .turns .inv) _ (k .0) (k .1) (c .before .before .before .before .before .before .before .before .before .turn2 .ensures)
-
-turns-again-2 : tie.Need-turns-again-2 Inv-turns μ-turns
-turns-again-2 c =
-    let k = subst (λ (x : Choice). Chosen x (takenOf (lentOf (c .before .before .before .before .before .before .before .before .before .before .before .before .before .before .before .before .before .before .before .before .before .before .before .before .before .before .before .before .before .before .before .before .before .args .original .now) (c .before .before .before .before .before .before .before .before .before .before .before .before .before .before .before .before .before .before .before .before .before .before .before .before .before .before .before .before .before .before .before .before .before .args .text .now) (c .before .before .before .before .before .before .before .before .before .before .before .before .before .before .before .before .before .before .before .before .before .before .before .before .before .before .before .before .before .before .before .before .before .args .spans .now) (c .before .before .before .before .before .before .before .before .before .before .before .before .before .before .before .before .before .before .before .before .before .before .before .before .before .before .before .before .before .before .before .before .before .args .keys .now)) (c .before .before .before .before .before .before .before .before .before .before .before .before .before .before .before .before .before .before .before .before .before .before .before .before .before .before .before .before .before .before .before .before .before .args .priority) (heads (c .before .before .before .before .before .before .before .before .before .before .before .before .before .before .before .before .before .before .before .turns .left .ahead .next) (listFrom (c .before .before .before .before .before .before .before .before .before .before .before .before .before .before .before .before .before .before .before .before .before .before .before .before .before .before .before .before .before .before .before .before .before .args .left-operations .now) (c .before .before .before .before .before .before .before .before .before .before .before .before .before .before .before .before .before .before .before .turns .left .ahead .behind) (c .before .before .before .before .before .before .before .before .before .before .before .before .before .before .before .before .before .before .before .turns .left .ahead .at))) (heads (c .before .before .before .before .before .before .before .before .before .before .before .before .before .before .before .before .before .before .before .turns .right .ahead .next) (listFrom (c .before .before .before .before .before .before .before .before .before .before .before .before .before .before .before .before .before .before .before .before .before .before .before .before .before .before .before .before .before .before .before .before .before .args .right-operations .now) (c .before .before .before .before .before .before .before .before .before .before .before .before .before .before .before .before .before .before .before .turns .right .ahead .behind) (c .before .before .before .before .before .before .before .before .before .before .before .before .before .before .before .before .before .before .before .turns .right .ahead .at)))) (c .before .before .before .before .before .before .before .before .before .before .before .before .before .before .before .before .before .before .before .turns .left .ahead .next) (c .before .before .before .before .before .before .before .before .before .before .before .before .before .before .before .before .before .before .before .turns .right .ahead .next) (listFrom (c .before .before .before .before .before .before .before .before .before .before .before .before .before .before .before .before .before .before .before .before .before .before .before .before .before .before .before .before .before .before .before .before .before .args .left-operations .now) (c .before .before .before .before .before .before .before .before .before .before .before .before .before .before .before .before .before .before .before .turns .left .ahead .behind) (c .before .before .before .before .before .before .before .before .before .before .before .before .before .before .before .before .before .before .before .turns .left .ahead .at)) (listFrom (c .before .before .before .before .before .before .before .before .before .before .before .before .before .before .before .before .before .before .before .before .before .before .before .before .before .before .before .before .before .before .before .before .before .args .right-operations .now) (c .before .before .before .before .before .before .before .before .before .before .before .before .before .before .before .before .before .before .before .turns .right .ahead .behind) (c .before .before .before .before .before .before .before .before .before .before .before .before .before .before .before .before .before .before .before .turns .right .ahead .at))) (sym (c .before .before .before .before .before .before .before .before .before .before .before .before .before .before .before .before .choose .ensures) ∙ c .before .before .before .before .before .before .before .before .before .before .before .before .before .before .choice2 .given .1) (chosen (lentOf (c .before .before .before .before .before .before .before .before .before .before .before .before .before .before .before .before .before .before .before .before .before .before .before .before .before .before .before .before .before .before .before .before .before .args .original .now) (c .before .before .before .before .before .before .before .before .before .before .before .before .before .before .before .before .before .before .before .before .before .before .before .before .before .before .before .before .before .before .before .before .before .args .text .now) (c .before .before .before .before .before .before .before .before .before .before .before .before .before .before .before .before .before .before .before .before .before .before .before .before .before .before .before .before .before .before .before .before .before .args .spans .now) (c .before .before .before .before .before .before .before .before .before .before .before .before .before .before .before .before .before .before .before .before .before .before .before .before .before .before .before .before .before .before .before .before .before .args .keys .now)) (c .before .before .before .before .before .before .before .before .before .before .before .before .before .before .before .before .before .before .before .before .before .before .before .before .before .before .before .before .before .before .before .before .before .args .priority) (c .before .before .before .before .before .before .before .before .before .before .before .before .before .before .before .before .before .before .before .turns .left .ahead .next) (c .before .before .before .before .before .before .before .before .before .before .before .before .before .before .before .before .before .before .before .turns .right .ahead .next) (listFrom (c .before .before .before .before .before .before .before .before .before .before .before .before .before .before .before .before .before .before .before .before .before .before .before .before .before .before .before .before .before .before .before .before .before .args .left-operations .now) (c .before .before .before .before .before .before .before .before .before .before .before .before .before .before .before .before .before .before .before .turns .left .ahead .behind) (c .before .before .before .before .before .before .before .before .before .before .before .before .before .before .before .before .before .before .before .turns .left .ahead .at)) (listFrom (c .before .before .before .before .before .before .before .before .before .before .before .before .before .before .before .before .before .before .before .before .before .before .before .before .before .before .before .before .before .before .before .before .before .args .right-operations .now) (c .before .before .before .before .before .before .before .before .before .before .before .before .before .before .before .before .before .before .before .turns .right .ahead .behind) (c .before .before .before .before .before .before .before .before .before .before .before .before .before .before .before .before .before .before .before .turns .right .ahead .at)) (c .before .before .before .before .before .before .before .before .before .before .before .before .before .before .before .before .before .before .before .turns .inv .lefts .ends) (c .before .before .before .before .before .before .before .before .before .before .before .before .before .before .before .before .before .before .before .turns .inv .rights .ends)) in
-    right-step (c .before .before .before .before .before .before .before .before .before .before .before .before .before .before .before .before .before .before .before .before .before .before .before .before .before .before .before .before .before .before .before .before .before .args .original .now) (c .before .before .before .before .before .before .before .before .before .before .before .before .before .before .before .before .before .before .before .before .before .before .before .before .before .before .before .before .before .before .before .before .before .args .text .now) (c .before .before .before .before .before .before .before .before .before .before .before .before .before .before .before .before .before .before .before .before .before .before .before .before .before .before .before .before .before .before .before .before .before .args .spans .now) (c .before .before .before .before .before .before .before .before .before .before .before .before .before .before .before .before .before .before .before .before .before .before .before .before .before .before .before .before .before .before .before .before .before .args .keys .now) (c .before .before .before .before .before .before .before .before .before .before .before .before .before .before .before .before .before .before .before .before .before .before .before .before .before .before .before .before .before .before .before .before .before .args .left-operations .now) (c .before .before .before .before .before .before .before .before .before .before .before .before .before .before .before .before .before .before .before .before .before .before .before .before .before .before .before .before .before .before .before .before .before .args .right-operations .now) (c .before .before .before .before .before .before .before .before .before .before .before .before .before .before .before .before .before .before .before .before .before .before .before .before .before .before .before .before .before .before .before .before .before .args .left-cursors .now) (c .before .before .before .before .before .before .before .before .before .before .before .before .before .before .before .before .before .before .before .before .before .before .before .before .before .before .before .before .before .before .before .before .before .args .right-cursors .now) (c .before .before .before .before .before .before .before .before .before .before .before .before .before .before .before .before .before .before .before .before .before .before .before .before .before .before .before .before .before .before .before .before .before .args .priority) (c .before .before .before .before .before .before .before .before .before .before .before .before .before .before .before .before .before .before .before .before .before .before .before .before .before .before .before .before .before .before .before .before .before .args .mid) (c .before .before .before .before .before .before .before .before .before .before .before .before .before .before .before .before .before .before .before .before .before .before .before .before .before .before .before .before .before .before .before .before .before .args .half) (c .before .before .before .before .before .before .before .before .before .before .before .before .before .before .before .before .before .before .before .before .before .before .before .before .before .before .before .before .before .before .before .before .before .args .work .now) (c .before .before .before .before .before .before .before .before .before .before .before .before .before .before .before .before .before .before .before .before .before .before .before .before .before .before .before .before .before .before .before .before .before .args .out .now) (c .before .before .before .before .before .before .before .before .before .before .before .before .before .before .before .before .before .before .before .before .before .before .before .before .before .before .before .before .before .before .before .before .before .args .moved .now) (c .before .before .before .before .before .before .before .before .before .before .before .before .before .before .before .before .before .before .before .turns .work) (c .before .before .before .before .before .before .before .before .before .before .before .before .before .before .before .before .before .before .before .turns .out) (c .before .before .before .before .before .before .before .before .before .before .before .before .before .before .before .before .before .before .before .turns .moved) (c .before .before .before .before .before .before .before .before .before .before .before .before .before .before .before .before .before .before .before .turns .left) (c .before .before .before .before .before .before .before .before .before .before .before .before .before .before .before .before .before .before .before .turns .right) (c .before .before .before .before .before .before .before .before .before .before .before .before .before .before .before .before .before .before .before .turns .totals) (c .before .before .before .before .before .before .before .before .before .before .before .before .before .before .before .before .before .before .before .before .before .before .before .before .before .before .before .before .before .before .before .before .before .pre) (c .before .before .before .before .before .before .before .before .before .before .before .before .before .before .before .before .before .before .before .turns .inv) _ (k .0) (k .1) (c .before .before .before .before .before .before .before .before .before .turn2 .ensures) (c .before .before .before .before .before .before .before .before .before .turn2 .kept .1 .1 .1 .1 .1 .1 .1 .1 .1 .1 .1 .0) (c .before .before .before .before .before .before .before .before .before .turn2 .kept .1 .1 .1 .1 .1 .1 .1 .1 .1 .1 .1 .1 .0)
+    let a = c .before .before .before .before .before .before .before .before .before .before .before .before .before .before .before .before .before .before .before .before .before .before .before .before .before .before .before .before .before .before .before .before .before .before .before .before .before .before .args in
+    let k = c .before .before .before .before .before .before .before .before .before .before .before .before .before .before .before .before .before .before .before .before .before .before .before .before .before .before .before .before .before .before .before .before .before .before .before .before .before .before .pre in
+    let t = c .before .before .before .before .before .before .before .before .before .before .before .before .before .before .before .before .before .before .before .before .before .before .before .before .turns in
+    let x = c .before .before .before .before .before .before .before .before .before .before .before .before .before .before .before .before .before .before .before .before .before .choose .result in
+    seat-step (a .original .now) (a .text .now) (a .spans .now) (a .keys .now) (a .left-operations .now) (a .right-operations .now) (a .left-cursors .now) (a .right-cursors .now) (a .priority) (a .mid) (a .half) (a .work .now) (a .out .now) (a .moved .now) (t .work) (t .out) (t .moved) (t .left) (t .right) (t .totals) k (t .inv) x
+    (record {
+      some = sym (c .before .before .before .before .before .before .before .before .before .before .before .before .before .before .before .before .before .before .before .before .is-none .ensures) ∙ c .before .before .before .before .before .before .before .before .before .before .before .before .before .before .before .before .before .before .before .if1 .left;
+      a-is = c .before .before .before .before .before .before .before .before .before .before .before .before .before .before .before .before .before .before .taken-of .ensures;
+      own-is = c .before .before .before .before .before .before .before .before .before .before .before .before .before .before .before .before .before .side-of .ensures;
+      other-is = c .before .before .before .before .before .before .before .before .before .before .before .before .before .before .before .before .side-of2 .ensures;
+      number-is = c .before .before .before .before .before .before .before .before .before .before .before .before .before .before .before .number-of .ensures;
+    })
+    (takes (a .original .now) (a .text .now) (a .spans .now) (a .keys .now) (a .left-operations .now) (a .right-operations .now) (a .left-cursors .now) (a .right-cursors .now) (a .priority) (a .mid) (a .half) (a .work .now) (a .out .now) (a .moved .now) (t .work) (t .out) (t .moved) (t .left) (t .right) (t .totals) k (t .inv) x (c .before .before .before .before .before .before .before .before .before .before .before .before .before .before .before .before .before .before .before .before .before .choose .ensures))
+    (c .before .before .before .before .before .before .before .before .before .before .before .turn .ensures)
+    (c .before .side-of3 .ensures)
+    (c .side-of4 .ensures)
+    (c .before .before .before .before .before .before .before .before .before .before .before .turn .kept .1 .1 .1 .1 .1 .1 .1 .1 .1 .1 .1 .1 .1 .0)
+    (c .before .before .before .before .before .before .before .before .before .before .before .turn .kept .1 .1 .1 .1 .1 .1 .1 .1 .1 .1 .1 .1 .1 .1 .0)
 
 pub run-spec : {M : Type 1} → statement M
 run-spec =
@@ -118,18 +155,19 @@ run-spec =
     ahead-of-requires-2
     turns-holds
     choose-requires
-    enum-told
+    is-none-requires
     end-cursors-requires
     end-cursors-requires-2
     same-length
     same-length-2
     same-length-3
     returns
-    enum-known-choice
+    taken-of-requires
+    side-of-requires
+    side-of-requires-2
+    number-of-requires
     turn-requires
+    side-of-requires-3
+    side-of-requires-4
     turns-less
-    turns-again
-    enum-known-choice-2
-    turn-requires-2
-    turns-less-2
-    turns-again-2)
+    turns-again)

@@ -44,40 +44,40 @@ at-taken {spans} {keys} {ops} {cs} {w} {w₁} {w₂} {half} {own} {other} {total
     subst (λ (z : Op). Parts spans keys ops cs w w₁ w₂ half own other totals number out out′ moved moved′ z tail r p m kept place span coming) e q
 
 split-retain-before-requires : tie.Need-split-retain-before-requires
-split-retain-before-requires c κs = (c .before .before .before .before .before .before .before .before .before .before .before .pre .sound .reaches, c .before .before .before .before .before .before .before .before .before .before .before .pre .next)
+split-retain-before-requires c κs = (c .before .before .before .before .before .before .before .before .before .before .before .before .before .pre .sound .reaches, c .before .before .before .before .before .before .before .before .before .before .before .before .before .pre .next)
 
 meet-requires : tie.Need-meet-requires
-meet-requires c κs = subst (λ (x : Op). Facing (c .before .before .before .before .before .before .before .before .before .before .before .before .before .args .spans .now) (c .before .before .before .before .before .before .before .before .before .before .before .before .before .args .keys .now) (c .before .before .before .before .before .before .before .before .before .before .before .before .before .args .work .now) (c .before .before .before .before .before .before .before .before .before .before .before .before .before .args .half) (c .before .before .before .before .before .before .before .before .before .before .before .before .before .args .other .memory .fill) (c .before .before .before .before .before .before .before .before .before .before .before .before .before .args .own .memory .fill) x (c .before .before .before .before .before .before .before .before .before .before .before .before .before .args .other .memory .last)) (sym (c .before .split-retain-before .ensures .0)) (facing (c .before .before .before .before .before .before .before .before .before .before .before .before .before .pre))
+meet-requires c κs = subst (λ (x : Op). Facing (c .before .before .before .before .before .before .before .before .before .before .before .before .before .before .before .args .spans .now) (c .before .before .before .before .before .before .before .before .before .before .before .before .before .before .before .args .keys .now) (c .before .before .before .before .before .before .before .before .before .before .before .before .before .before .before .args .work .now) (c .before .before .before .before .before .before .before .before .before .before .before .before .before .before .before .args .half) (c .before .before .before .before .before .before .before .before .before .before .before .before .before .before .before .args .other .memory .fill) (c .before .before .before .before .before .before .before .before .before .before .before .before .before .before .before .args .own .memory .fill) x (c .before .before .before .before .before .before .before .before .before .before .before .before .before .before .before .args .other .memory .last)) (sym (c .before .split-retain-before .ensures .0)) (facing (c .before .before .before .before .before .before .before .before .before .before .before .before .before .before .before .pre))
 
-move-with-requires : tie.Need-move-with-requires
-move-with-requires c κs = (shift-fits (c .before .before .before .before .before .before .before .before .before .before .before .before .before .before .before .before .before .before .pre) (of-taken (c .before .before .before .before .before .before .split-retain-before .ensures .0) (c .before .before .before .before .meet .ensures)), c .before .before .before .before .before .before .before .before .before .before .before .before .before .before .before .before .before .before .pre .space)
+move-side-requires : tie.Need-move-side-requires
+move-side-requires c κs = (shift-fits (c .before .before .before .before .before .before .before .before .before .before .before .before .before .before .before .before .before .before .before .before .pre) (of-taken (c .before .before .before .before .before .before .split-retain-before .ensures .0) (c .before .before .before .before .meet .ensures)), c .before .before .before .before .before .before .before .before .before .before .before .before .before .before .before .before .before .before .before .before .pre .space)
 
 shortened-requires : tie.Need-shortened-requires
-shortened-requires c κs = (subst (λ (x : Op). reach x ≤ most) (sym (c .before .before .before .before .before .before .before .before .before .split-retain-before .ensures .0)) (taken-sound (c .before .before .before .before .before .before .before .before .before .before .before .before .before .before .before .before .before .before .before .before .before .pre) .reaches), c .before .before .before .before .before .before .before .meet .ensures .most)
+shortened-requires c κs = (subst (λ (x : Op). reach x ≤ most) (sym (c .before .before .before .before .before .before .before .before .before .split-retain-before .ensures .0)) (taken-sound (c .before .before .before .before .before .before .before .before .before .before .before .before .before .before .before .before .before .before .before .before .before .before .before .pre) .reaches), c .before .before .before .before .before .before .before .meet .ensures .most)
 
 remember-operation-requires : tie.Need-remember-operation-requires
-remember-operation-requires c κs = subst (λ (x : Op). Rememberable (c .before .before .before .before .before .before .before .before .before .before .before .before .before .before .before .before .before .before .before .before .before .before .before .args .spans .now) (c .before .before .before .before .before .before .before .before .before .before .before .before .before .before .before .before .before .before .before .before .before .before .before .args .keys .now) (c .before .before .before .before .before .before .before .before .before .meet .last .1 .1 .1 .1 .1 .1 .1 .0) (c .before .before .before .before .before .before .before .before .before .before .before .before .before .before .before .before .before .before .before .before .before .before .before .args .half) (c .before .before .before .before .before .before .before .before .before .before .before .before .before .before .before .before .before .before .before .before .before .before .before .args .own .memory) x) (sym (rest-of (c .before .before .before .before .before .before .before .before .before .meet .result .lost) (c .before .before .before .before .before .before .before .before .before .before .before .split-retain-before .ensures .0) (c .before .shortened .ensures))) (rememberable (c .before .before .before .before .before .before .before .before .before .before .before .before .before .before .before .before .before .before .before .before .before .before .before .pre) (of-taken (c .before .before .before .before .before .before .before .before .before .before .before .split-retain-before .ensures .0) (c .before .before .before .before .before .before .before .before .before .meet .ensures)))
+remember-operation-requires c κs = subst (λ (x : Op). Rememberable (c .before .before .before .before .before .before .before .before .before .before .before .before .before .before .before .before .before .before .before .before .before .before .before .before .before .args .spans .now) (c .before .before .before .before .before .before .before .before .before .before .before .before .before .before .before .before .before .before .before .before .before .before .before .before .before .args .keys .now) (c .before .before .before .before .before .before .before .before .before .meet .last .1 .1 .1 .1 .1 .1 .1 .0) (c .before .before .before .before .before .before .before .before .before .before .before .before .before .before .before .before .before .before .before .before .before .before .before .before .before .args .half) (c .before .before .before .before .before .before .before .before .before .before .before .before .before .before .before .before .before .before .before .before .before .before .before .before .before .args .own .memory) x) (sym (rest-of (c .before .before .before .before .before .before .before .before .before .meet .result .lost) (c .before .before .before .before .before .before .before .before .before .before .before .split-retain-before .ensures .0) (c .before .shortened .ensures))) (rememberable (c .before .before .before .before .before .before .before .before .before .before .before .before .before .before .before .before .before .before .before .before .before .before .before .before .before .pre) (of-taken (c .before .before .before .before .before .before .before .before .before .before .before .split-retain-before .ensures .0) (c .before .before .before .before .before .before .before .before .before .meet .ensures)))
 
 sub-text : tie.Need-sub-text
-sub-text c = removed-most (c .before .before .before .before .before .before .before .before .before .before .before .before .before .before .before .before .before .before .before .before .before .before .before .before .before .before .before .pre) (of-taken (c .before .before .before .before .before .before .before .before .before .before .before .before .before .before .before .split-retain-before .ensures .0) (c .before .before .before .before .before .before .before .before .before .before .before .before .before .meet .ensures))
+sub-text c = removed-most (c .before .before .before .before .before .before .before .before .before .before .before .before .before .before .before .before .before .before .before .before .before .before .before .before .before .before .before .before .before .pre) (of-taken (c .before .before .before .before .before .before .before .before .before .before .before .before .before .before .before .split-retain-before .ensures .0) (c .before .before .before .before .before .before .before .before .before .before .before .before .before .meet .ensures))
 
 emit-requires : tie.Need-emit-requires
-emit-requires c κs = subst (λ (x : Op). (c .before .before .before .before .before .before .before .before .before .before .before .before .before .before .before .before .before .before .before .before .before .before .before .before .before .before .before .before .args .totals .operations + length (emitted (c .before .before .before .before .before .before .before .before .before .before .before .before .before .before .before .before .before .before .before .before .before .before .before .before .before .before .before .before .args .number) (c .before .before .before .before .before .before .before .before .before .before .before .before .before .before .before .before .before .before .before .before .before .before .before .before .before .before .before .before .args .totals .consumed) x)) * 6 ≤ length (c .before .before .before .before .before .before .before .before .before .before .before .before .before .before .before .before .before .before .before .before .before .before .before .before .before .before .before .before .args .out .now)) (sym (rest-of (c .before .before .before .before .before .before .before .before .before .before .before .before .before .before .meet .result .lost) (c .before .before .before .before .before .before .before .before .before .before .before .before .before .before .before .before .split-retain-before .ensures .0) (c .before .before .before .before .before .before .shortened .ensures))) (emittable (c .before .before .before .before .before .before .before .before .before .before .before .before .before .before .before .before .before .before .before .before .before .before .before .before .before .before .before .before .pre) (of-taken (c .before .before .before .before .before .before .before .before .before .before .before .before .before .before .before .before .split-retain-before .ensures .0) (c .before .before .before .before .before .before .before .before .before .before .before .before .before .before .meet .ensures)))
+emit-requires c κs = subst (λ (x : Op). (c .before .before .before .before .before .before .before .before .before .before .before .before .before .before .before .before .before .before .before .before .before .before .before .before .before .before .before .before .before .before .args .totals .operations + length (emitted (c .before .before .before .before .before .before .before .before .before .before .before .before .before .before .before .before .before .before .before .before .before .before .before .before .before .before .before .before .before .before .args .number) (c .before .before .before .before .before .before .before .before .before .before .before .before .before .before .before .before .before .before .before .before .before .before .before .before .before .before .before .before .before .before .args .totals .consumed) x)) * 6 ≤ length (c .before .before .before .before .before .before .before .before .before .before .before .before .before .before .before .before .before .before .before .before .before .before .before .before .before .before .before .before .before .before .args .out .now)) (sym (rest-of (c .before .before .before .before .before .before .before .before .before .before .before .before .before .before .meet .result .lost) (c .before .before .before .before .before .before .before .before .before .before .before .before .before .before .before .before .split-retain-before .ensures .0) (c .before .before .before .before .before .before .shortened .ensures))) (emittable (c .before .before .before .before .before .before .before .before .before .before .before .before .before .before .before .before .before .before .before .before .before .before .before .before .before .before .before .before .before .before .pre) (of-taken (c .before .before .before .before .before .before .before .before .before .before .before .before .before .before .before .before .split-retain-before .ensures .0) (c .before .before .before .before .before .before .before .before .before .before .before .before .before .before .meet .ensures)))
 
-advance-requires : tie.Need-advance-requires
-advance-requires c κs = c .before .before .before .before .before .before .before .before .before .before .before .before .before .before .before .before .before .before .before .before .before .before .before .before .before .before .before .before .before .before .before .pre .first
+advance-side-requires : tie.Need-advance-side-requires
+advance-side-requires c κs = c .before .before .before .before .before .before .before .before .before .before .before .before .before .before .before .before .before .before .before .before .before .before .before .before .before .before .before .before .before .before .before .before .before .pre .first
 
-add-t41 : tie.Need-add-t41
-add-t41 c = omega (arith, length-most (c .before .before .before .before .before .before .before .before .before .before .before .before .before .before .before .before .before .before .before .before .before .before .before .before .before .before .before .before .before .before .before .before .before .before .pre) (of-taken (c .before .before .before .before .before .before .before .before .before .before .before .before .before .before .before .before .before .before .before .before .before .before .split-retain-before .ensures .0) (c .before .before .before .before .before .before .before .before .before .before .before .before .before .before .before .before .before .before .before .before .meet .ensures)), c .before .before .before .before .before .before .before .before .before .before .before .before .before .before .before .before .before .before .before .before .before .before .before .before .before .before .before .before .before .before .before .before .before .before .pre .seen)
+add-t43 : tie.Need-add-t43
+add-t43 c = omega (arith, length-most (c .before .before .before .before .before .before .before .before .before .before .before .before .before .before .before .before .before .before .before .before .before .before .before .before .before .before .before .before .before .before .before .before .before .before .before .before .pre) (of-taken (c .before .before .before .before .before .before .before .before .before .before .before .before .before .before .before .before .before .before .before .before .before .before .split-retain-before .ensures .0) (c .before .before .before .before .before .before .before .before .before .before .before .before .before .before .before .before .before .before .before .before .meet .ensures)), c .before .before .before .before .before .before .before .before .before .before .before .before .before .before .before .before .before .before .before .before .before .before .before .before .before .before .before .before .before .before .before .before .before .before .before .before .pre .seen)
 
-add-t45 : tie.Need-add-t45
-add-t45 c = omega (arith, length-most (c .before .before .before .before .before .before .before .before .before .before .before .before .before .before .before .before .before .before .before .before .before .before .before .before .before .before .before .before .before .before .before .before .before .before .before .pre) (of-taken (c .before .before .before .before .before .before .before .before .before .before .before .before .before .before .before .before .before .before .before .before .before .before .before .split-retain-before .ensures .0) (c .before .before .before .before .before .before .before .before .before .before .before .before .before .before .before .before .before .before .before .before .before .meet .ensures)), c .before .before .before .before .before .before .before .before .before .before .before .before .before .before .before .before .before .before .before .before .before .before .before .before .before .before .before .before .before .before .before .before .before .before .before .pre .merged)
+add-t47 : tie.Need-add-t47
+add-t47 c = omega (arith, length-most (c .before .before .before .before .before .before .before .before .before .before .before .before .before .before .before .before .before .before .before .before .before .before .before .before .before .before .before .before .before .before .before .before .before .before .before .before .before .pre) (of-taken (c .before .before .before .before .before .before .before .before .before .before .before .before .before .before .before .before .before .before .before .before .before .before .before .split-retain-before .ensures .0) (c .before .before .before .before .before .before .before .before .before .before .before .before .before .before .before .before .before .before .before .before .before .meet .ensures)), c .before .before .before .before .before .before .before .before .before .before .before .before .before .before .before .before .before .before .before .before .before .before .before .before .before .before .before .before .before .before .before .before .before .before .before .before .before .pre .merged)
 
 span-of-requires : tie.Need-span-of-requires
 span-of-requires c κs = search needs
 
-add-t47 : tie.Need-add-t47
-add-t47 c = omega (arith, c .before .span-of .ensures, ap spanOf (rest-of (c .before .before .before .before .before .before .before .before .before .before .before .before .before .before .before .before .before .before .before .before .before .before .before .meet .result .lost) (c .before .before .before .before .before .before .before .before .before .before .before .before .before .before .before .before .before .before .before .before .before .before .before .before .before .split-retain-before .ensures .0) (c .before .before .before .before .before .before .before .before .before .before .before .before .before .before .before .shortened .ensures)), span-most (c .before .before .before .before .before .before .before .before .before .before .before .before .before .before .before .before .before .before .before .before .before .before .before .before .before .before .before .before .before .before .before .before .before .before .before .before .before .pre) (of-taken (c .before .before .before .before .before .before .before .before .before .before .before .before .before .before .before .before .before .before .before .before .before .before .before .before .before .split-retain-before .ensures .0) (c .before .before .before .before .before .before .before .before .before .before .before .before .before .before .before .before .before .before .before .before .before .before .before .meet .ensures)), c .before .before .before .before .before .before .before .before .before .before .before .before .before .before .before .before .before .before .before .before .before .before .before .before .before .before .before .before .before .before .before .before .before .before .before .before .before .pre .consumed)
+add-t49 : tie.Need-add-t49
+add-t49 c = omega (arith, c .before .span-of .ensures, ap spanOf (rest-of (c .before .before .before .before .before .before .before .before .before .before .before .before .before .before .before .before .before .before .before .before .before .before .before .meet .result .lost) (c .before .before .before .before .before .before .before .before .before .before .before .before .before .before .before .before .before .before .before .before .before .before .before .before .before .split-retain-before .ensures .0) (c .before .before .before .before .before .before .before .before .before .before .before .before .before .before .before .shortened .ensures)), span-most (c .before .before .before .before .before .before .before .before .before .before .before .before .before .before .before .before .before .before .before .before .before .before .before .before .before .before .before .before .before .before .before .before .before .before .before .before .before .before .before .pre) (of-taken (c .before .before .before .before .before .before .before .before .before .before .before .before .before .before .before .before .before .before .before .before .before .before .before .before .before .split-retain-before .ensures .0) (c .before .before .before .before .before .before .before .before .before .before .before .before .before .before .before .before .before .before .before .before .before .before .before .meet .ensures)), c .before .before .before .before .before .before .before .before .before .before .before .before .before .before .before .before .before .before .before .before .before .before .before .before .before .before .before .before .before .before .before .before .before .before .before .before .before .before .before .pre .consumed)
 
 same-length : tie.Need-same-length
 same-length c = c .before .before .before .before .before .before .before .before .before .before .before .before .before .remember-operation .ensures .kept .same ∙ c .before .before .before .before .before .before .before .before .before .before .before .before .before .before .before .before .before .before .before .before .before .before .before .meet .ensures .scratched .same
@@ -86,10 +86,10 @@ same-length-2 : tie.Need-same-length-2
 same-length-2 c = search needs
 
 same-length-3 : tie.Need-same-length-3
-same-length-3 c = c .before .before .before .before .before .before .before .before .before .before .before .before .before .before .before .before .before .before .move-with .kept .1 .1 .1 .1 .0
+same-length-3 c = c .before .before .before .before .before .before .before .before .before .before .before .before .before .before .before .before .before .before .move-side .kept .1 .1 .1 .1 .1 .1 .0
 
 returns : tie.Need-returns
-returns c = assembled (c .before .before .before .before .before .before .before .before .before .before .before .before .before .before .before .before .before .before .before .before .before .before .before .before .before .before .before .before .before .before .before .before .before .before .before .before .before .pre) (at-taken (c .before .before .before .before .before .before .before .before .before .before .before .before .before .before .before .before .before .before .before .before .before .before .before .before .before .split-retain-before .ensures .0) (record { meets = c .before .before .before .before .before .before .before .before .before .before .before .before .before .before .before .before .before .before .before .before .before .before .before .meet .ensures; went = c .before .before .before .before .before .before .before .before .before .before .before .before .before .before .before .before .before .before .move-with .ensures; rest = c .before .before .before .before .before .before .before .before .before .before .before .before .before .before .before .shortened .ensures; remembers = c .before .before .before .before .before .before .before .before .before .before .before .before .before .remember-operation .ensures; emits = c .before .before .before .before .before .before .before .before .emit .ensures; looks = c .before .before .before .before .before .advance .ensures; spans-is = c .before .span-of .ensures })) (c .before .before .before .before .before .before .before .before .before .before .before .before .before .before .before .before .before .before .before .before .before .before .before .before .before .split-retain-before .ensures .1)
+returns c = assembled (c .before .before .before .before .before .before .before .before .before .before .before .before .before .before .before .before .before .before .before .before .before .before .before .before .before .before .before .before .before .before .before .before .before .before .before .before .before .before .before .pre) (at-taken (c .before .before .before .before .before .before .before .before .before .before .before .before .before .before .before .before .before .before .before .before .before .before .before .before .before .split-retain-before .ensures .0) (record { meets = c .before .before .before .before .before .before .before .before .before .before .before .before .before .before .before .before .before .before .before .before .before .before .before .meet .ensures; went = c .before .before .before .before .before .before .before .before .before .before .before .before .before .before .before .before .before .before .move-side .ensures; rest = c .before .before .before .before .before .before .before .before .before .before .before .before .before .before .before .shortened .ensures; remembers = c .before .before .before .before .before .before .before .before .before .before .before .before .before .remember-operation .ensures; emits = c .before .before .before .before .before .before .before .before .emit .ensures; looks = c .before .before .before .before .before .advance-side .ensures; spans-is = c .before .span-of .ensures })) (c .before .before .before .before .before .before .before .before .before .before .before .before .before .before .before .before .before .before .before .before .before .before .before .before .before .split-retain-before .ensures .1)
 
 pub turn-spec : {M : Type 1} → statement M
 turn-spec =
@@ -97,16 +97,16 @@ turn-spec =
     (tie.spec
     split-retain-before-requires
     meet-requires
-    move-with-requires
+    move-side-requires
     shortened-requires
     remember-operation-requires
     sub-text
     emit-requires
-    advance-requires
-    add-t41
-    add-t45
-    span-of-requires
+    advance-side-requires
+    add-t43
     add-t47
+    span-of-requires
+    add-t49
     same-length
     same-length-2
     same-length-3
