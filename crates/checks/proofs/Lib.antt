@@ -6,3 +6,4 @@ pub mod Chains
 pub mod Shapely
 pub mod Tiled
 pub mod Accepted
+pub mod Passing

@@ -6,3 +6,4 @@ pub mod Shapes
 pub mod Tiling
 pub mod Lists
 pub mod Accepted
+pub mod Passing

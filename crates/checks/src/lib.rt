@@ -7,7 +7,7 @@ ghost use lib.ListN.{length};
 ghost use Rattle.records.specs.Operations.{operationsOf};
 ghost use Rattle.records.specs.Tokens.{tokensLent, tokensFrom};
 ghost use Rattle.records.specs.Cursors.{cursorsOf};
-ghost use mathlib.Core.Bool.{true, _&&_};
+ghost use mathlib.Core.Bool.{true, false, _&&_};
 ghost use Rattle.checks.specs.Verdicts.{andThen};
 ghost use Rattle.checks.specs.Points.{isPoint, pointsFrom, pointsVerdict, Reading, Searched};
 ghost use Rattle.checks.specs.Texts.{total, inText, runText, runLent, claimedBy, insertedBy, retainedBy, textLength};
@@ -15,6 +15,7 @@ ghost use Rattle.checks.specs.Sizes.{Small, merging, otherwise, lentFits
 ghost use Rattle.checks.specs.Shapes.{runGood, isRun, isRecord, recordsFrom};
 ghost use Rattle.checks.specs.Tiling.{tilingOf, withinFrom};
 ghost use Rattle.checks.specs.Lists.{listVerdict, listsVerdict};
+ghost use Rattle.checks.specs.Passing.{Summed, Good};
 
 pub enum Verdict {
     Accepted,
@@ -512,8 +513,8 @@ fn check_both_tilings(n: usize, left: &[usize], right: &[usize]) -> Verdict
     }
 }
 
-// Refusals 3, 4, 1, 2 and 5 of the two lists of a merge, each on both before the next.
-pub fn check_lists(
+// Refusals 3, 4, 1, 2 and 5 of the two lists of a merge, each on both before the next: check by check.
+fn judge_lists(
     limits: Limits,
     original: &[u32],
     text: &[u32],
@@ -557,4 +558,179 @@ pub fn check_lists(
             },
         },
     }
+}
+
+// What one pass over a list's operations sums up, capped: the tokens that it claims, the text that it
+// inserts, and the original that it retains; or that it may have found something to refuse.
+struct Pass {
+    good: bool,
+    tokens: usize,
+    inserted: usize,
+    retained: usize,
+}
+
+fn no_pass() -> Pass
+    ensures { λ r. ⌜ r .good ≡ false ⌝ }
+{
+    Pass {
+        good: false,
+        tokens: 0,
+        inserted: 0,
+        retained: 0,
+    }
+}
+
+// Tokens are read only while they keep their size.
+fn pass_list(
+    limits: Limits,
+    n: usize,
+    m: usize,
+    spans: &[u32],
+    keys: &[u32],
+    operations: &[usize],
+) -> Pass
+    ensures { λ r. ⌜ (r .good ≡ true → Summed n m (now (spans .entry)) (now (keys .entry)) (operationsOf (now (operations .entry))) r) ⌝ }
+{
+    let count = operations.len() / 6;
+    let mut i = 0;
+    let mut at = 0;
+    let mut tokens = 0;
+    let mut inserted = 0;
+    let mut retained = 0;
+    'pass: while i < count {
+        let o = records::operation_at(operations, i);
+        let next = i + 1;
+        let claims = claimed_by(o);
+        let claimed = capped(tokens, claims);
+        if limits.tokens < claimed {
+            return no_pass();
+        }
+        if !is_record(spans, keys, m, o) {
+            return no_pass();
+        }
+        let adds = inserted_by(spans, keys, m, o);
+        let added = capped(inserted, adds);
+        let keeps = retained_by(o);
+        let kept = capped(retained, keeps);
+        if o.kind == 1 {
+            i = next;
+            tokens = claimed;
+            inserted = added;
+            retained = kept;
+            continue 'pass;
+        }
+        if o.order != at {
+            return no_pass();
+        }
+        if n - at < o.length {
+            return no_pass();
+        }
+        at += o.length;
+        i = next;
+        tokens = claimed;
+        inserted = added;
+        retained = kept;
+    }
+    if at == n {
+        return Pass {
+            good: true,
+            tokens,
+            inserted,
+            retained,
+        };
+    }
+    no_pass()
+}
+
+// Whether one pass shows that there is nothing to refuse in a list.
+fn is_good(
+    limits: Limits,
+    n: usize,
+    m: usize,
+    spans: &[u32],
+    keys: &[u32],
+    operations: &[usize],
+    cursors: &[usize],
+) -> bool
+    requires { ⌜ Small limits ⌝ }
+    ensures { λ r. ⌜ (r ≡ true → Good limits n m (now (spans .entry)) (now (keys .entry)) (operationsOf (now (operations .entry))) (cursorsOf (now (cursors .entry)))) ⌝ }
+{
+    if limits.operations < operations.len() / 6 {
+        return false;
+    }
+    if limits.cursors < cursors.len() / 2 {
+        return false;
+    }
+    let sums = pass_list(limits, n, m, spans, keys, operations);
+    if !sums.good {
+        return false;
+    }
+    if limits.tokens < sums.tokens {
+        return false;
+    }
+    if limits.text < sums.inserted {
+        return false;
+    }
+    if 900000 < sums.retained {
+        return false;
+    }
+    let end = sums.retained + sums.inserted;
+    if 1000000 <= end {
+        return false;
+    }
+    let verdict = check_cursors(cursors, end);
+    match verdict {
+        Verdict::Accepted => true,
+        Verdict::Refused(refusal) => false,
+    }
+}
+
+// Refusals 3, 4, 1, 2 and 5 of the two lists of a merge, each on both before the next. One
+// pass over each list mostly shows that there is none.
+pub fn check_lists(
+    limits: Limits,
+    original: &[u32],
+    text: &[u32],
+    spans: &[u32],
+    keys: &[u32],
+    left: &[usize],
+    right: &[usize],
+    left_cursors: &[usize],
+    right_cursors: &[usize],
+) -> Verdict
+    requires { ⌜ Small limits ⌝ }
+    ensures { λ r. ⌜ r ≡ listsVerdict limits (now (original .entry)) (now (text .entry)) (now (spans .entry)) (now (keys .entry)) (operationsOf (now (left .entry))) (operationsOf (now (right .entry))) (cursorsOf (now («left_cursors» .entry))) (cursorsOf (now («right_cursors» .entry))) ⌝ }
+{
+    let n = original.len();
+    let m = text.len();
+    if !lent_fits(original, text) {
+        return Verdict::Refused(refusal::Refusal::Size);
+    }
+    if !is_good(limits, n, m, spans, keys, left, left_cursors) {
+        return judge_lists(
+            limits,
+            original,
+            text,
+            spans,
+            keys,
+            left,
+            right,
+            left_cursors,
+            right_cursors,
+        );
+    }
+    if !is_good(limits, n, m, spans, keys, right, right_cursors) {
+        return judge_lists(
+            limits,
+            original,
+            text,
+            spans,
+            keys,
+            left,
+            right,
+            left_cursors,
+            right_cursors,
+        );
+    }
+    check_texts(original, text)
 }
