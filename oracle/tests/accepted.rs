@@ -12,23 +12,14 @@ use oracle::{
     random::Random,
 };
 
-fn left(case: &Merge) -> List<'_> {
-    List {
-        operations: &case.left,
-        cursors: &case.left_cursors,
-    }
-}
-
-fn right(case: &Merge) -> List<'_> {
-    List {
-        operations: &case.right,
-        cursors: &case.right_cursors,
-    }
-}
-
 fn assert_merge_accepted(case: &Merge) {
     let lent = case.lent();
-    let verdict = check_merge(&lent, left(case), right(case), MergeRooms::AMPLE);
+    let verdict = check_merge(
+        &lent,
+        List::left(case),
+        List::right(case),
+        MergeRooms::AMPLE,
+    );
     assert!(verdict.is_ok(), "{verdict:?}: {case:?}");
 
     let merged = case.merged::<Completed>();
@@ -87,6 +78,6 @@ fn limits() {
         assert_merge_accepted(&case);
     }
     let single = limits::single(&mut random);
-    assert!(check_list(&single.lent(), left(&single)).is_ok());
+    assert!(check_list(&single.lent(), List::left(&single)).is_ok());
     assert_raw_accepted(&limits::raw(&mut random));
 }

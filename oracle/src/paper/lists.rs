@@ -4,6 +4,7 @@ use super::refusal::{AMPLE, Refusal, code_points, inside, room, size, within};
 use crate::flat::{
     CURSOR_STRIDE, DELETE, INSERT, Lent, OPERATION_STRIDE, RAW_STRIDE, RETAIN, RIGHT, SPAN_STRIDE,
 };
+use crate::generate::Merge;
 
 /// The sizes of a list, which differ by what it is lent for.
 struct Sizes {
@@ -35,6 +36,22 @@ const OTHERWISE: Sizes = Sizes {
 pub struct List<'a> {
     pub operations: &'a [usize],
     pub cursors: &'a [usize],
+}
+
+impl<'a> List<'a> {
+    pub fn left(merge: &'a Merge) -> Self {
+        Self {
+            operations: &merge.left,
+            cursors: &merge.left_cursors,
+        }
+    }
+
+    pub fn right(merge: &'a Merge) -> Self {
+        Self {
+            operations: &merge.right,
+            cursors: &merge.right_cursors,
+        }
+    }
 }
 
 /// The tokens that one operation claims.

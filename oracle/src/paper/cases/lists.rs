@@ -146,8 +146,8 @@ pub fn merge_refused() -> Vectors {
     for merge in merges() {
         let outcome = calls::merge(
             &merge.lent(),
-            left(&merge),
-            right(&merge),
+            List::left(&merge),
+            List::right(&merge),
             MergeRooms::AMPLE,
         );
         let Err(refusal) = outcome else {
@@ -158,20 +158,6 @@ pub fn merge_refused() -> Vectors {
         blank(&mut vectors, 2);
     }
     vectors
-}
-
-fn left(merge: &Merge) -> List<'_> {
-    List {
-        operations: &merge.left,
-        cursors: &merge.left_cursors,
-    }
-}
-
-fn right(merge: &Merge) -> List<'_> {
-    List {
-        operations: &merge.right,
-        cursors: &merge.right_cursors,
-    }
 }
 
 /// Merges of which most are refused.
@@ -290,7 +276,7 @@ pub fn outputs_refused() -> Vectors {
     let mut vectors = Vectors::new();
     for merge in outputs() {
         let lent = merge.lent();
-        let applied = calls::apply(&lent, left(&merge), AMPLE, AMPLE);
+        let applied = calls::apply(&lent, List::left(&merge), AMPLE, AMPLE);
         if applied.is_ok() {
             continue;
         }
@@ -396,8 +382,8 @@ pub fn checks() -> Vectors {
         merge_lines(&mut vectors, &merge);
         let verdict = check_merge(
             &merge.lent(),
-            left(&merge),
-            right(&merge),
+            List::left(&merge),
+            List::right(&merge),
             MergeRooms::AMPLE,
         );
         answer(&mut vectors, verdict.map(|()| vec![]));
@@ -411,7 +397,7 @@ pub fn checks() -> Vectors {
         merge.right_cursors.clear();
         vectors.line(&[1]);
         merge_lines(&mut vectors, &merge);
-        let verdict = check_list(&merge.lent(), left(&merge));
+        let verdict = check_list(&merge.lent(), List::left(&merge));
         answer(&mut vectors, verdict.map(|()| vec![]));
     }
     vectors
