@@ -14,9 +14,10 @@ use Rattle.records.specs.declared.Cursor.{Cursor}
 use Rattle.records.specs.Cursors.{flatCursors}
 use Rattle.records.proofs.Cursors as cursors
 use Rattle.cursors.specs.Sorted.{sorted}
-use Rattle.checks.specs.declared.Verdict.{Verdict}
-use Rattle.checks.specs.declared.Verdict.the-variants.{Accepted, Refused}
-use Rattle.checks.proofs.Chains.{first-no, second-no, both-yes}
+use Rattle.verdict.specs.declared.Verdict.{Verdict}
+use Rattle.verdict.specs.declared.Verdict.the-variants.{Accepted, Refused}
+use Rattle.verdict.proofs.Bools.{first-no, second-no, both-yes}
+use Rattle.verdict.proofs.Chains.{stops, has-room, lacks-room}
 use Rattle.merging.specs.Lent.{Lent}
 use Rattle.merging.specs.Outputs.{historyText, flatSpans}
 use Rattle.apply.specs.declared.Applied.the-variants as A
@@ -26,7 +27,7 @@ use Rattle.apply.specs.declared.WithAll.the-variants as B
 use Rattle.apply.specs.Parts.{textBy, historyBy, AllLie, Wrote}
 use Rattle.apply.specs.Answers.{verdictOn, textOn, historyOn, fits, allVerdict, toldAll, AppliesAll}
 use Rattle.apply.proofs.Lists.{history-is}
-use Rattle.apply.proofs.Answering.{stopped, roomy, no-room, all-lies, same-text, text-rooms, history-rooms, text-fits, history-fits}
+use Rattle.apply.proofs.Answering.{all-lies, same-text, text-rooms, history-rooms, text-fits, history-fits}
 
 abbrev heard : WithAll → Verdict
 heard (B.Counts t c k l) = Accepted
@@ -50,7 +51,7 @@ module _ (lent : Lent) (os : List Operation) (cs : List Cursor) (out moved histo
 
   pub all-stops : (r : Refusal) → q ≡ B.Refused r → AppliesAll lent os cs out moved history texts out moved history texts (B.Refused r)
   unfolding allVerdict
-  all-stops r e = refuses r (stopped (verdictOn lent os cs) _ r (sym heard-verdict ∙ ap heard e))
+  all-stops r e = refuses r (sym (stops (verdictOn lent os cs) _ r (sym heard-verdict ∙ ap heard e)))
 
   module _ (t c k l : ℕ) (e : q ≡ B.Counts t c k l) where
     v : verdictOn lent os cs ≡ Accepted
@@ -83,7 +84,7 @@ module _ (lent : Lent) (os : List Operation) (cs : List Cursor) (out moved histo
 
       pub all-no-room : b ≡ false → AppliesAll lent os cs out moved history texts out moved history texts (B.Refused Room)
       unfolding allVerdict
-      all-no-room h = refuses Room (no-room (verdictOn lent os cs) _ v (first-no textual historical (sym text-fit ∙ h)))
+      all-no-room h = refuses Room (lacks-room (verdictOn lent os cs) _ v (first-no textual historical (sym text-fit ∙ h)))
 
       module _ (h : b ≡ true) (d : Bool) (g : d ≡ leb (k * 4) (length history) && leb l (length texts)) where
         history-fit : d ≡ historical
@@ -91,7 +92,7 @@ module _ (lent : Lent) (os : List Operation) (cs : List Cursor) (out moved histo
 
         pub all-no-history : d ≡ false → AppliesAll lent os cs out moved history texts out moved history texts (B.Refused Room)
         unfolding allVerdict
-        all-no-history i = refuses Room (no-room (verdictOn lent os cs) _ v (second-no textual historical (sym text-fit ∙ h) (sym history-fit ∙ i)))
+        all-no-history i = refuses Room (lacks-room (verdictOn lent os cs) _ v (second-no textual historical (sym text-fit ∙ h) (sym history-fit ∙ i)))
 
         module _ (i : d ≡ true) where
           pub all-asks : AllLie lent os
@@ -106,7 +107,7 @@ module _ (lent : Lent) (os : List Operation) (cs : List Cursor) (out moved histo
 
           accepts : allVerdict lent os cs out moved history texts ≡ Accepted
           unfolding allVerdict
-          accepts = roomy (verdictOn lent os cs) _ v (both-yes textual historical (sym text-fit ∙ h) (sym history-fit ∙ i))
+          accepts = has-room (verdictOn lent os cs) _ v (both-yes textual historical (sym text-fit ∙ h) (sym history-fit ∙ i))
 
           pub all-writes : {out′ moved′ history′ texts′ : List ℕ} → (out′ ≡ answered (textBy lent os) out) × Wrote (historyBy lent os) history texts history′ texts′
               → moved′ ≡ answered (flatCursors (sorted cs)) moved

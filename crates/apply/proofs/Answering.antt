@@ -2,61 +2,45 @@
 -- How: by the verdict, and by the lengths of what the records give.
 use Prim.Native.Nat.{ℕ, _+_, _*_, _≤_, min}
 use mathlib.Core.Path.{_≡_, refl, sym, _∙_, ap}
-use mathlib.Core.Bool.{Bool, true, false, _&&_}
+use mathlib.Core.Bool.{Bool, true, _&&_}
 use mathlib.Core.List.{List, []}
 use native.Mathlib.Omega.{arith}
 use lib.ListN.{length, take}
 use lib.Dec.{leb}
 use borrow.Author.Tests.{leb-true}
 use Rattle.refusal.specs.declared.Refusal.{Refusal}
-use Rattle.refusal.specs.declared.Refusal.the-variants.{Room}
 use Rattle.records.specs.declared.Operation.{Operation}
 use Rattle.records.specs.declared.Cursor.{Cursor}
 use Rattle.records.specs.Cursors.{cursorsFrom, cursorsOf, flatCursors}
 use Rattle.records.proofs.Cursors as cursors
 use Rattle.cursors.specs.Sorted.{sorted}
 use Rattle.cursors.proofs.Sinks.{length-sorted}
-use Rattle.checks.specs.declared.Limits.{Limits}
-use Rattle.checks.specs.declared.Verdict.{Verdict}
-use Rattle.checks.specs.declared.Verdict.the-variants.{Accepted, Refused}
-use Rattle.checks.specs.Verdicts.{andThen}
-use Rattle.checks.specs.Texts.{total, textLength}
-use Rattle.checks.specs.Sizes.{Small, otherwise}
+use Rattle.sizes.specs.declared.Limits.{Limits}
+use Rattle.verdict.specs.declared.Verdict.{Verdict}
+use Rattle.verdict.specs.declared.Verdict.the-variants.{Accepted, Refused}
+use Rattle.sizes.specs.Texts.{total, textLength}
+use Rattle.sizes.specs.Sizes.{otherwise}
 use Rattle.checks.specs.Lists.{listVerdict}
-use Rattle.checks.specs.Accepted.{AcceptedList}
-use Rattle.checks.proofs.Accepted.{accepted-list, text-most}
-use Rattle.checks.proofs.Bools.{and-left, and-right}
+use Rattle.shapes.specs.Accepted.{AcceptedList}
+use Rattle.shapes.proofs.Accepted.{text-most}
+use Rattle.checks.proofs.Accepted.{accepted-list}
+use Rattle.verdict.proofs.Bools.{and-left, and-right}
 use Rattle.merging.specs.Lent.{Lent}
 use Rattle.merging.specs.Outputs.{historyText, flatSpans}
 use Rattle.apply.specs.declared.Applied.the-variants as A
 use Rattle.apply.specs.declared.WithHistory.the-variants as H
 use Rattle.apply.specs.declared.WithAll.the-variants as B
 use Rattle.apply.specs.Parts.{textBy, historyBy, removedBy, AllLie}
-use Rattle.apply.specs.Answers.{verdictOn, textOn, historyOn, fits, roomed, applied, told, toldAll}
+use Rattle.apply.specs.Answers.{verdictOn, textOn, historyOn, fits, applied, told, toldAll}
 use Rattle.apply.proofs.Lists.{history-is, length-history, length-spans, lists-lie, text-is, text-count, removed-most, told-count as told-length}
 
 -- verdicts
-
-pub small : (l : Limits) → l ≡ otherwise → Small l
-small l e = rw e (record { tokens = omega arith; text = omega arith })
 
 -- the verdict that the check gave
 pub judged : (lent : Lent) (os : List Operation) (cs : List Cursor) (l : Limits) (v w : Verdict) → l ≡ otherwise
     → v ≡ listVerdict l (lent .original) (lent .inserted) (lent .spans) (lent .keys) os cs → v ≡ w → verdictOn lent os cs ≡ w
 unfolding verdictOn
 judged lent os cs l v w e f g = rw e at (sym f) ∙ g
-
-pub stopped : (v : Verdict) (b : Bool) (r : Refusal) → v ≡ Refused r → andThen v (roomed b) ≡ Refused r
-unfolding andThen
-stopped v b r e = rw e
-
-pub roomy : (v : Verdict) (b : Bool) → v ≡ Accepted → b ≡ true → andThen v (roomed b) ≡ Accepted
-unfolding andThen roomed
-roomy v b e f = rw (e, f)
-
-pub no-room : (v : Verdict) (b : Bool) → v ≡ Accepted → b ≡ false → andThen v (roomed b) ≡ Refused Room
-unfolding andThen roomed
-no-room v b e f = rw (e, f)
 
 -- where no cursors are lent
 none-lent : (xs : List ℕ) → cursorsOf (take 0 xs) ≡ []

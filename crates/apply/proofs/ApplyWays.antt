@@ -14,8 +14,9 @@ use Rattle.records.specs.declared.Cursor.{Cursor}
 use Rattle.records.specs.Cursors.{flatCursors}
 use Rattle.records.proofs.Cursors as cursors
 use Rattle.cursors.specs.Sorted.{sorted}
-use Rattle.checks.specs.declared.Verdict.{Verdict}
-use Rattle.checks.specs.declared.Verdict.the-variants.{Accepted, Refused}
+use Rattle.verdict.specs.declared.Verdict.{Verdict}
+use Rattle.verdict.specs.declared.Verdict.the-variants.{Accepted, Refused}
+use Rattle.verdict.proofs.Chains.{stops, has-room, lacks-room}
 use Rattle.merging.specs.Lent.{Lent}
 use Rattle.apply.specs.declared.Applied.{Applied}
 use Rattle.apply.specs.declared.Applied.the-variants as A
@@ -23,7 +24,7 @@ use Rattle.apply.specs.declared.WithHistory.the-variants as H
 use Rattle.apply.specs.declared.WithAll.the-variants as B
 use Rattle.apply.specs.Parts.{textBy, AllLie}
 use Rattle.apply.specs.Answers.{verdictOn, textOn, fits, applyVerdict, applied, Applies}
-use Rattle.apply.proofs.Answering.{stopped, roomy, no-room, all-lies, same-text, text-rooms, text-fits}
+use Rattle.apply.proofs.Answering.{all-lies, same-text, text-rooms, text-fits}
 
 abbrev heard : Applied → Verdict
 heard (A.Counts t c) = Accepted
@@ -43,7 +44,7 @@ module _ (lent : Lent) (os : List Operation) (cs : List Cursor) (out moved : Lis
 
   pub apply-stops : (r : Refusal) → q ≡ A.Refused r → Applies lent os cs out moved out moved (A.Refused r)
   unfolding applyVerdict
-  apply-stops r e = refuses r (stopped (verdictOn lent os cs) _ r (sym heard-verdict ∙ ap heard e))
+  apply-stops r e = refuses r (sym (stops (verdictOn lent os cs) _ r (sym heard-verdict ∙ ap heard e)))
 
   module _ (t k : ℕ) (e : q ≡ A.Counts t k) where
     v : verdictOn lent os cs ≡ Accepted
@@ -64,7 +65,7 @@ module _ (lent : Lent) (os : List Operation) (cs : List Cursor) (out moved : Lis
 
       pub apply-no-room : b ≡ false → Applies lent os cs out moved out moved (A.Refused Room)
       unfolding applyVerdict
-      apply-no-room h = refuses Room (no-room (verdictOn lent os cs) _ v (sym fit ∙ h))
+      apply-no-room h = refuses Room (lacks-room (verdictOn lent os cs) _ v (sym fit ∙ h))
 
       module _ (h : b ≡ true) where
         pub apply-asks : AllLie lent os × (length (textBy lent os) ≤ length out)
@@ -75,7 +76,7 @@ module _ (lent : Lent) (os : List Operation) (cs : List Cursor) (out moved : Lis
 
         accepts : applyVerdict lent os cs out moved ≡ Accepted
         unfolding applyVerdict
-        accepts = roomy (verdictOn lent os cs) _ v (sym fit ∙ h)
+        accepts = has-room (verdictOn lent os cs) _ v (sym fit ∙ h)
 
         pub apply-writes : {out′ moved′ : List ℕ} → out′ ≡ answered (textBy lent os) out → moved′ ≡ answered (flatCursors (sorted cs)) moved
             → Applies lent os cs out moved out′ moved′ (A.Counts t k)

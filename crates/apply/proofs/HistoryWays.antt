@@ -11,8 +11,9 @@ use Rattle.refusal.specs.declared.Refusal.the-variants.{Room}
 use Rattle.room.specs.Placed.{answered}
 use Rattle.records.specs.declared.Operation.{Operation}
 use Rattle.records.proofs.Cursors as cursors
-use Rattle.checks.specs.declared.Verdict.{Verdict}
-use Rattle.checks.specs.declared.Verdict.the-variants.{Accepted, Refused}
+use Rattle.verdict.specs.declared.Verdict.{Verdict}
+use Rattle.verdict.specs.declared.Verdict.the-variants.{Accepted, Refused}
+use Rattle.verdict.proofs.Chains.{stops, has-room, lacks-room}
 use Rattle.merging.specs.Lent.{Lent}
 use Rattle.merging.specs.Outputs.{historyText, flatSpans}
 use Rattle.apply.specs.declared.Applied.the-variants as A
@@ -22,7 +23,7 @@ use Rattle.apply.specs.declared.WithAll.the-variants as B
 use Rattle.apply.specs.Parts.{historyBy, AllLie, Wrote}
 use Rattle.apply.specs.Answers.{verdictOn, historyOn, fits, historyVerdict, told, Tells}
 use Rattle.apply.proofs.Lists.{history-is}
-use Rattle.apply.proofs.Answering.{stopped, roomy, no-room, all-lies, history-rooms, history-fits}
+use Rattle.apply.proofs.Answering.{all-lies, history-rooms, history-fits}
 
 abbrev heard : WithHistory → Verdict
 heard (H.Counts k t) = Accepted
@@ -42,7 +43,7 @@ module _ (lent : Lent) (os : List Operation) (history out : List ℕ) (q : WithH
 
   pub history-stops : (r : Refusal) → q ≡ H.Refused r → Tells lent os history out history out (H.Refused r)
   unfolding historyVerdict
-  history-stops r e = refuses r (stopped (verdictOn lent os []) _ r (sym heard-verdict ∙ ap heard e))
+  history-stops r e = refuses r (sym (stops (verdictOn lent os []) _ r (sym heard-verdict ∙ ap heard e)))
 
   module _ (k t : ℕ) (e : q ≡ H.Counts k t) where
     v : verdictOn lent os [] ≡ Accepted
@@ -63,7 +64,7 @@ module _ (lent : Lent) (os : List Operation) (history out : List ℕ) (q : WithH
 
       pub history-no-room : b ≡ false → Tells lent os history out history out (H.Refused Room)
       unfolding historyVerdict
-      history-no-room h = refuses Room (no-room (verdictOn lent os []) _ v (sym fit ∙ h))
+      history-no-room h = refuses Room (lacks-room (verdictOn lent os []) _ v (sym fit ∙ h))
 
       module _ (h : b ≡ true) where
         pub history-asks : AllLie lent os × ((length os * 4 ≤ length history) × (length (historyText (historyBy lent os)) ≤ length out))
@@ -71,7 +72,7 @@ module _ (lent : Lent) (os : List Operation) (history out : List ℕ) (q : WithH
 
         accepts : historyVerdict lent os history out ≡ Accepted
         unfolding historyVerdict
-        accepts = roomy (verdictOn lent os []) _ v (sym fit ∙ h)
+        accepts = has-room (verdictOn lent os []) _ v (sym fit ∙ h)
 
         pub history-writes : {history′ out′ : List ℕ} → Wrote (historyBy lent os) history out history′ out′ → Tells lent os history out history′ out′ (H.Counts k t)
         history-writes w =

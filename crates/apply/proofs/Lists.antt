@@ -11,10 +11,10 @@ use lib.ListN.{length, length-append}
 use borrow.Author.Tests.{eq-eqb, ne-eqb}
 use Rattle.records.specs.declared.Operation.{Operation}
 use Rattle.records.specs.declared.Cursor.{Cursor}
-use Rattle.checks.specs.declared.Limits.{Limits}
-use Rattle.checks.specs.Texts.{total, textLength}
-use Rattle.checks.specs.Accepted.{Tiles, Insert as Adds, Part, Shapes, AcceptedList}
-use Rattle.checks.proofs.Accepted.{text-length}
+use Rattle.sizes.specs.declared.Limits.{Limits}
+use Rattle.sizes.specs.Texts.{total, textLength}
+use Rattle.shapes.specs.Accepted.{Tiles, Insert as Adds, Part, Shapes, AcceptedList}
+use Rattle.shapes.proofs.Accepted.{text-length}
 use Rattle.merging.specs.declared.Op.{Op}
 use Rattle.merging.specs.declared.Op.the-variants.{Delete, Insert, Retain}
 use Rattle.merging.specs.Lent.{Lent}

@@ -3,11 +3,11 @@
 use mathlib.Core.Path.{refl}
 use Rattle.records.specs.Tokens.{tokensFrom, spelled}
 use Rattle.cursors.specs.Sorted.{place, sorted}
-use Rattle.checks.specs.Verdicts.{andThen, sized}
-use Rattle.checks.specs.Texts.{total, runText, textFrom}
-use Rattle.checks.specs.Points.{pointsFrom}
-use Rattle.checks.specs.Shapes.{runGood, recordsFrom}
-use Rattle.checks.specs.Tiling.{tilingFrom, withinFrom}
+use Rattle.verdict.specs.Verdicts.{andThen, sized}
+use Rattle.sizes.specs.Texts.{total, runText, textFrom}
+use Rattle.verdict.specs.Points.{pointsFrom}
+use Rattle.shapes.specs.Shapes.{runGood, recordsFrom}
+use Rattle.shapes.specs.Tiling.{tilingFrom, withinFrom}
 use Rattle.checks.specs.Lists.{listVerdict}
 use Rattle.merging.specs.Operations.{outsFrom}
 use Rattle.merging.specs.Outputs.{historyOf}

@@ -1,21 +1,19 @@
 -- What the calls answer, and what they leave in their rooms. Assumes nothing.
 use Prim.Native.Nat.{ℕ}
 use mathlib.Core.Path.{_≡_}
-use mathlib.Core.Bool.{Bool, true, false, _&&_}
+use mathlib.Core.Bool.{Bool, _&&_}
 use mathlib.Core.List.{List, []}
 use lib.Dec.{leb}
 use lib.ListN.{length}
-use Rattle.refusal.specs.declared.Refusal.the-variants.{Room}
-use Rattle.room.specs.Placed.{answered}
 use Rattle.records.specs.declared.Operation.{Operation}
 use Rattle.records.specs.declared.Cursor.{Cursor}
 use Rattle.records.specs.Cursors.{flatCursors}
 use Rattle.cursors.specs.Sorted.{sorted}
-use Rattle.checks.specs.declared.Verdict.{Verdict}
-use Rattle.checks.specs.declared.Verdict.the-variants.{Accepted, Refused}
-use Rattle.checks.specs.Verdicts.{andThen}
-use Rattle.checks.specs.Texts.{listText}
-use Rattle.checks.specs.Sizes.{otherwise}
+use Rattle.verdict.specs.declared.Verdict.{Verdict}
+use Rattle.verdict.specs.declared.Verdict.the-variants.{Accepted, Refused}
+use Rattle.verdict.specs.Verdicts.{andThen, roomed, leaves}
+use Rattle.sizes.specs.Texts.{listText}
+use Rattle.sizes.specs.Sizes.{otherwise}
 use Rattle.checks.specs.Lists.{listVerdict}
 use Rattle.merging.specs.Lent.{Lent}
 use Rattle.merging.specs.Operations.{outsFrom}
@@ -42,11 +40,6 @@ historyOn lent os = historyOf lent (outsFrom 0 os)
 -- "All others: the exact length of the answer."
 abbrev pub fits : List ℕ → List ℕ → Bool
 fits answer room = leb (length answer) (length room)
-
--- "7: a lent room is shorter than asked"
-unfoldable pub roomed : Bool → Verdict
-roomed true = Accepted
-roomed false = Refused Room
 
 -- "Order for lists: 3, 4, 1, 2, 5, 7": of apply
 unfoldable pub applyVerdict : Lent → List Operation → List Cursor → List ℕ → List ℕ → Verdict
@@ -77,11 +70,6 @@ told (Refused r) spans text = H.Refused r
 abbrev pub toldAll : Verdict → ℕ → ℕ → ℕ → ℕ → WithAll
 toldAll Accepted text cursors spans texts = B.Counts text cursors spans texts
 toldAll (Refused r) text cursors spans texts = B.Refused r
-
--- "A refusal writes nothing. On success a room past its answer is unchanged"
-abbrev pub leaves : Verdict → List ℕ → List ℕ → List ℕ
-leaves Accepted answer room = answered answer room
-leaves (Refused r) answer room = room
 
 -- apply: "the list's text", "Cursors are sorted stably by index, going in and coming out"
 pub record Applies (lent : Lent) (os : List Operation) (cs : List Cursor) (out moved out′ moved′ : List ℕ) (r : Applied) : Type 0 where

@@ -9,16 +9,12 @@ use Rattle.room.specs.Choice.{pick}
 use Rattle.room.specs.Placed.{placed, answered}
 use Rattle.records.specs.declared.Operation.{Operation}
 use Rattle.records.specs.Tokens.{tokensLent, tokensFrom}
-use Rattle.checks.specs.Accepted.{AllIn}
+use Rattle.shapes.specs.Accepted.{AllIn}
 use Rattle.merging.specs.declared.Op.{Op}
 use Rattle.merging.specs.declared.Op.the-variants.{Delete, Insert, Retain}
 use Rattle.merging.specs.Lent.{Lent}
 use Rattle.merging.specs.Operations.{opOf}
 use Rattle.merging.specs.Outputs.{wordsOf, Span, spanned, historyText, flatSpans}
-
--- all that was lent
-abbrev pub lentOf : List ℕ → List ℕ → List ℕ → List ℕ → Lent
-lentOf original text spans keys = record { original = original; inserted = text; spans = spans; keys = keys }
 
 -- "retained original and insert tokens' spelling"; of a delete the original text that it drops
 unfoldable pub wordsBy : Lent → Operation → List ℕ

@@ -2,7 +2,7 @@
 use mathlib.Core.Path.{_≡_}
 use mathlib.Core.List.{List, [], _∷_}
 use Rattle.cursors.specs.Sorted.{sorted}
-use Rattle.checks.specs.declared.Verdict.the-variants.{Accepted}
+use Rattle.verdict.specs.declared.Verdict.the-variants.{Accepted}
 use Rattle.merging.specs.Sheets.{Sheet}
 use Rattle.apply.specs.Answers.{verdictOn, textOn, historyOn}
 

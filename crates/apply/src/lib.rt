@@ -10,10 +10,11 @@ ghost use lib.ListN.{length};
 ghost use Rattle.room.specs.Placed.{placed, answered, Put};
 ghost use Rattle.records.specs.Operations.{operationsOf};
 ghost use Rattle.records.specs.Cursors.{cursorsOf, flatCursors};
+ghost use Rattle.merging.specs.Lent.{lentOf};
 ghost use Rattle.cursors.specs.Sorted.{sorted};
-ghost use Rattle.checks.specs.Texts.{total};
+ghost use Rattle.sizes.specs.Texts.{total};
 ghost use Rattle.merging.specs.Outputs.{historyText, flatSpans};
-ghost use Rattle.apply.specs.Parts.{lentOf, wordsBy, givenBy, textBy, spanBy, historyBy, removedBy, sideOf, Lies, AllLie, Told, Wrote};
+ghost use Rattle.apply.specs.Parts.{wordsBy, givenBy, textBy, spanBy, historyBy, removedBy, sideOf, Lies, AllLie, Told, Wrote};
 ghost use Rattle.apply.specs.Answers.{verdictOn, textOn, historyOn, applied, told, toldAll, Applies, Tells, AppliesAll};
 
 // Code points of the text and cursors, or why nothing was written.
@@ -228,7 +229,7 @@ fn removed(operations: &[usize]) -> usize
     'sum: while i < count {
         let o = records::operation_at(operations, i);
         let more = removed_by(o);
-        sum = checks::capped(sum, more);
+        sum = sizes::capped(sum, more);
         i += 1;
     }
     sum
@@ -265,11 +266,11 @@ pub fn apply_lengths(
 ) -> Applied
     ensures { λ r. ⌜ r ≡ applied (verdictOn (lentOf (now (original .entry)) (now (text .entry)) (now (spans .entry)) (now (keys .entry))) (operationsOf (now (operations .entry))) (cursorsOf (now (cursors .entry)))) (length (textOn (lentOf (now (original .entry)) (now (text .entry)) (now (spans .entry)) (now (keys .entry))) (operationsOf (now (operations .entry))))) (length (sorted (cursorsOf (now (cursors .entry))))) ⌝ }
 {
-    let limits = checks::other_limits();
+    let limits = sizes::other_limits();
     match checks::check_list(limits, original, text, spans, keys, operations, cursors) {
-        checks::Verdict::Refused(refusal) => Applied::Refused(refusal),
-        checks::Verdict::Accepted => {
-            let written = checks::text_length(spans, keys, text.len(), operations);
+        verdict::Verdict::Refused(refusal) => Applied::Refused(refusal),
+        verdict::Verdict::Accepted => {
+            let written = sizes::text_length(spans, keys, text.len(), operations);
             Applied::Counts {
                 text: written,
                 cursors: cursors.len() / 2,
@@ -288,12 +289,12 @@ pub fn apply_with_history_lengths(
 ) -> WithHistory
     ensures { λ r. ⌜ r ≡ told (verdictOn (lentOf (now (original .entry)) (now (text .entry)) (now (spans .entry)) (now (keys .entry))) (operationsOf (now (operations .entry))) []) (length (historyOn (lentOf (now (original .entry)) (now (text .entry)) (now (spans .entry)) (now (keys .entry))) (operationsOf (now (operations .entry))))) (length (historyText (historyOn (lentOf (now (original .entry)) (now (text .entry)) (now (spans .entry)) (now (keys .entry))) (operationsOf (now (operations .entry)))))) ⌝ }
 {
-    let limits = checks::other_limits();
+    let limits = sizes::other_limits();
     let none = &operations[..0];
     match checks::check_list(limits, original, text, spans, keys, operations, none) {
-        checks::Verdict::Refused(refusal) => WithHistory::Refused(refusal),
-        checks::Verdict::Accepted => {
-            let written = checks::text_length(spans, keys, text.len(), operations);
+        verdict::Verdict::Refused(refusal) => WithHistory::Refused(refusal),
+        verdict::Verdict::Accepted => {
+            let written = sizes::text_length(spans, keys, text.len(), operations);
             let gone = removed(operations);
             WithHistory::Counts {
                 spans: operations.len() / 6,
@@ -314,11 +315,11 @@ pub fn apply_with_all_lengths(
 ) -> WithAll
     ensures { λ r. ⌜ r ≡ toldAll (verdictOn (lentOf (now (original .entry)) (now (text .entry)) (now (spans .entry)) (now (keys .entry))) (operationsOf (now (operations .entry))) (cursorsOf (now (cursors .entry)))) (length (textOn (lentOf (now (original .entry)) (now (text .entry)) (now (spans .entry)) (now (keys .entry))) (operationsOf (now (operations .entry))))) (length (sorted (cursorsOf (now (cursors .entry))))) (length (historyOn (lentOf (now (original .entry)) (now (text .entry)) (now (spans .entry)) (now (keys .entry))) (operationsOf (now (operations .entry))))) (length (historyText (historyOn (lentOf (now (original .entry)) (now (text .entry)) (now (spans .entry)) (now (keys .entry))) (operationsOf (now (operations .entry)))))) ⌝ }
 {
-    let limits = checks::other_limits();
+    let limits = sizes::other_limits();
     match checks::check_list(limits, original, text, spans, keys, operations, cursors) {
-        checks::Verdict::Refused(refusal) => WithAll::Refused(refusal),
-        checks::Verdict::Accepted => {
-            let written = checks::text_length(spans, keys, text.len(), operations);
+        verdict::Verdict::Refused(refusal) => WithAll::Refused(refusal),
+        verdict::Verdict::Accepted => {
+            let written = sizes::text_length(spans, keys, text.len(), operations);
             let gone = removed(operations);
             WithAll::Counts {
                 text: written,

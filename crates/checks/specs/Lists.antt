@@ -5,14 +5,14 @@ use mathlib.Core.List.{List}
 use lib.ListN.{length}
 use Rattle.records.specs.declared.Operation.{Operation}
 use Rattle.records.specs.declared.Cursor.{Cursor}
-use Rattle.checks.specs.declared.Verdict.{Verdict}
-use Rattle.checks.specs.declared.Limits.{Limits}
-use Rattle.checks.specs.Verdicts.{andThen, sized}
-use Rattle.checks.specs.Points.{pointsVerdict}
-use Rattle.checks.specs.Texts.{textLength}
-use Rattle.checks.specs.Sizes.{lentFits, listFits}
-use Rattle.checks.specs.Shapes.{recordsFrom}
-use Rattle.checks.specs.Tiling.{tilingOf, withinFrom}
+use Rattle.verdict.specs.declared.Verdict.{Verdict}
+use Rattle.sizes.specs.declared.Limits.{Limits}
+use Rattle.verdict.specs.Verdicts.{andThen, sized}
+use Rattle.verdict.specs.Points.{pointsVerdict}
+use Rattle.sizes.specs.Texts.{textLength}
+use Rattle.sizes.specs.Sizes.{lentFits, listFits}
+use Rattle.shapes.specs.Shapes.{recordsFrom}
+use Rattle.shapes.specs.Tiling.{tilingOf, withinFrom}
 
 -- "Order for lists: 3, 4, 1, 2, 5, 7": of one list, up to 5
 unfoldable pub listVerdict : Limits → List ℕ → List ℕ → List ℕ → List ℕ → List Operation → List Cursor → Verdict

@@ -2,7 +2,7 @@
 // every position of small lists. A case is ten lines: 2 for the two lists of a merge or 1 for one list
 // otherwise, original, inserted text, spans, keys, left operations, right operations, left cursors,
 // right cursors, and the verdict: 0, or a refusal's number and values.
-use checks::Verdict;
+use verdict::Verdict;
 
 fn main() {
     let mut space = [0u8; 131072];
@@ -122,7 +122,7 @@ fn verdict_on(
 ) -> Verdict {
     if merging {
         return checks::check_lists(
-            checks::merging_limits(),
+            sizes::merging_limits(),
             original,
             text,
             spans,
@@ -134,7 +134,7 @@ fn verdict_on(
         );
     }
     checks::check_list(
-        checks::other_limits(),
+        sizes::other_limits(),
         original,
         text,
         spans,

@@ -13,7 +13,7 @@ use Rattle.merging.specs.declared.Shift.{Shift}
 use Rattle.merging.specs.Cursors.{movedIndex, moved, behind, ended}
 use Rattle.cursor_position.specs.declared.Progress.{Progress}
 use Rattle.cursor_position.specs.Moves.{leftOf, Went}
-use Rattle.cursor_position.proofs.Cases.{moved-on, moved-out, behind-on, behind-out}
+use Rattle.merging.proofs.Moving.{moved-on, moved-out, behind-on, behind-out}
 
 -- of the cursors `all`, which go into the room d from j on, `rest` are still to go; n of a side's m cursors are passed
 pub record Going (m : ℕ) (all : List Cursor) (d : List ℕ) (i j : ℕ) (rest : List Cursor) (o : List ℕ) (n k : ℕ) : Type 0 where

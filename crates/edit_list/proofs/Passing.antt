@@ -11,17 +11,17 @@ use borrow.Author.Tests.{le-leb, lt-ltb}
 use Rattle.room.specs.Choice.{pick}
 use Rattle.records.specs.declared.Token.{Token}
 use Rattle.records.specs.Tokens.{tokensFrom, tokensLength}
-use Rattle.checks.specs.declared.Verdict.the-variants.{Accepted}
-use Rattle.checks.specs.Verdicts.{andThen, sized}
-use Rattle.checks.specs.Points.{pointsFrom}
-use Rattle.checks.specs.Texts.{inText, runText}
-use Rattle.checks.specs.Shapes.{runGood}
-use Rattle.checks.proofs.Chains.{both-yes}
+use Rattle.verdict.specs.declared.Verdict.the-variants.{Accepted}
+use Rattle.verdict.specs.Verdicts.{andThen, sized, roomed}
+use Rattle.verdict.specs.Points.{pointsFrom}
+use Rattle.sizes.specs.Texts.{inText, runText}
+use Rattle.shapes.specs.Shapes.{runGood}
+use Rattle.verdict.proofs.Bools.{both-yes}
 use Rattle.elongate.specs.declared.Raw.{Raw}
 use Rattle.elongate.specs.Raws.{Run, piecesLent, piecesFrom, runsOf as runsLent}
 use Rattle.elongate.specs.Elongated.{piecesLength, allTokens}
 use Rattle.elongate.specs.Good.{counts}
-use Rattle.elongate.specs.Verdicts.{total, claimedBy, runLent, textBy, rawFits, isRaw, shapesFrom, roomsFit, roomed, rawVerdict}
+use Rattle.elongate.specs.Verdicts.{total, claimedBy, runLent, textBy, rawFits, isRaw, shapesFrom, roomsFit, rawVerdict}
 use Rattle.elongate.proofs.Pieces.{length-pieces, pieces-length}
 use Rattle.elongate.proofs.Arranging.{lengths-total}
 use Rattle.edit_format.proofs.Picks.{pick-elim}

@@ -10,11 +10,10 @@ use lib.ListN.{length, take, drop}
 use lib.Dec.{leb}
 use borrow.Author.Tests.{le-leb, le-ltb, lt-ltb}
 use Rattle.room.specs.Placed.{placed}
-use Rattle.refusal.specs.declared.Refusal.{Refusal}
 use Rattle.refusal.specs.declared.Refusal.the-variants.{CodePoint}
-use Rattle.checks.specs.declared.Verdict.{Verdict}
-use Rattle.checks.specs.declared.Verdict.the-variants.{Accepted, Refused}
-use Rattle.checks.specs.Points.{isPoint, pointsFrom}
+use Rattle.verdict.specs.declared.Verdict.the-variants.{Accepted}
+use Rattle.verdict.specs.Points.{isPoint, pointsFrom}
+use Rattle.verdict.proofs.Chains.{went}
 use Rattle.edit_format.specs.Tests.{both}
 use Rattle.edit_format.specs.Items.{Item, Keep, Drop, Add, texts, allPoints, itemsGood}
 use Rattle.edit_format.specs.Items as F
@@ -23,10 +22,6 @@ use Rattle.edit_format.proofs.Picks.{both-0, both-1, apart}
 unfoldable AllPoints : List ℕ → Type 0
 AllPoints [] = Unit
 AllPoints (c ∷ cs) = (isPoint c ≡ true) × AllPoints cs
-
-went : (b : Bool) (v : Verdict) (r : Refusal) → elim b [ true ↦ v | false ↦ Refused r ] ≡ Accepted → (b ≡ true) × (v ≡ Accepted)
-went true v r h = (refl, h)
-went false v r h = let z : _≡_ {A = ℕ} 0 1 = cc in absurd (omega arith)
 
 told : (cs : List ℕ) (i : ℕ) → pointsFrom cs i ≡ Accepted → AllPoints cs
 unfolding pointsFrom AllPoints

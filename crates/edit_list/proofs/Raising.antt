@@ -14,9 +14,9 @@ use Rattle.room.proofs.Answers.{same-room}
 use Rattle.refusal.specs.declared.Refusal.{Refusal}
 use Rattle.records.specs.Operations.{flatOperations}
 use Rattle.records.proofs.Operations.{length-flat}
-use Rattle.checks.specs.declared.Verdict.{Verdict}
-use Rattle.checks.specs.declared.Verdict.the-variants.{Accepted as Fine}
-use Rattle.checks.specs.Points.{pointsFrom}
+use Rattle.verdict.specs.declared.Verdict.{Verdict}
+use Rattle.verdict.specs.declared.Verdict.the-variants.{Accepted as Fine}
+use Rattle.verdict.specs.Points.{pointsFrom}
 use Rattle.elongate.specs.declared.Raw.{Raw}
 use Rattle.elongate.specs.declared.Written.{Written}
 use Rattle.elongate.specs.declared.Answer.{Answer}

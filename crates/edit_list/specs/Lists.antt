@@ -5,8 +5,8 @@ use mathlib.Core.List.{List}
 use lib.ListN.{length}
 use Rattle.room.specs.Placed.{placed, answered}
 use Rattle.records.specs.Operations.{flatOperations}
-use Rattle.checks.specs.declared.Verdict.the-variants.{Accepted as Fine}
-use Rattle.checks.specs.Points.{pointsFrom}
+use Rattle.verdict.specs.declared.Verdict.the-variants.{Accepted as Fine}
+use Rattle.verdict.specs.Points.{pointsFrom}
 use Rattle.elongate.specs.Raws.{flatSpans, flatKeys}
 use Rattle.elongate.specs.Elongated.{cookedFrom, allTokens}
 use Rattle.edit_format.specs.Items.{Item, texts}

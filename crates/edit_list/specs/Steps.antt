@@ -6,7 +6,7 @@ use lib.ListN.{length, take, drop, getD, set, replicate}
 use lib.IntN.{ℤ}
 use Rattle.room.specs.Placed.{placed, answered}
 use Rattle.records.specs.Operations.{flatOperations}
-use Rattle.checks.specs.declared.Verdict.the-variants.{Accepted as Fine}
+use Rattle.verdict.specs.declared.Verdict.the-variants.{Accepted as Fine}
 use Rattle.diff.specs.declared.diff.Item.{Item as Edit}
 use Rattle.diff.specs.declared.diff.Item.the-variants.{Retain, Delete, Insert, Neither}
 use Rattle.elongate.specs.declared.Written.{Written}

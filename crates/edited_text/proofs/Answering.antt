@@ -6,7 +6,7 @@ use mathlib.Core.Bool.{Bool, true, false, _&&_}
 use mathlib.Core.List.{List}
 use native.Mathlib.Omega.{arith}
 use lib.ListN.{length}
-use lib.Dec.{leb, lit<}
+use lib.Dec.{leb}
 use borrow.Author.Tests.{leb-true}
 use Rattle.refusal.specs.declared.Refusal.{Refusal}
 use Rattle.refusal.specs.declared.Refusal.the-variants as R
@@ -14,30 +14,19 @@ use Rattle.records.specs.Operations.{operationsOf}
 use Rattle.records.specs.Cursors.{cursorsOf}
 use Rattle.records.proofs.Operations.{length-of as operations-of}
 use Rattle.records.proofs.Cursors.{length-of as cursors-of}
-use Rattle.checks.specs.declared.Limits.{Limits}
-use Rattle.checks.specs.declared.Verdict.{Verdict}
-use Rattle.checks.specs.declared.Verdict.the-variants.{Accepted, Refused}
-use Rattle.checks.specs.Texts.{total, claimedBy}
-use Rattle.checks.specs.Sizes.{Small, merging}
+use Rattle.sizes.specs.declared.Limits.{Limits}
+use Rattle.verdict.specs.declared.Verdict.{Verdict}
+use Rattle.verdict.specs.declared.Verdict.the-variants.{Accepted, Refused}
+use Rattle.sizes.specs.Texts.{total, claimedBy}
+use Rattle.sizes.specs.Sizes.{merging}
 use Rattle.checks.specs.Lists.{listsVerdict}
-use Rattle.checks.specs.Accepted.{AcceptedList}
-use Rattle.checks.proofs.Bools.{and-left, and-right}
-use Rattle.checks.proofs.Chains.{stops, goes-on}
+use Rattle.shapes.specs.Accepted.{AcceptedList}
+use Rattle.verdict.proofs.Bools.{and-left, and-right}
+use Rattle.verdict.proofs.Chains.{stops, has-room, lacks-room}
 use Rattle.checks.proofs.Accepted.{accepted-left, accepted-right}
 use Rattle.edited_text.specs.declared.Counts.{Counts}
 use Rattle.edited_text.specs.declared.Answer.the-variants as A
-use Rattle.edited_text.specs.Merging.{roomsFit, roomed, mergeVerdict, verdictOn, mergeOn, MergedBy, Mergeable, Merges}
-
-pub small : (l : Limits) → l ≡ merging → Small l
-small l e = rw e (record { tokens = lit< tt; text = lit< tt })
-
-room-yes : (b : Bool) → b ≡ true → roomed b ≡ Accepted
-unfolding roomed
-room-yes b e = rw e
-
-room-no : (b : Bool) → b ≡ false → roomed b ≡ Refused R.Room
-unfolding roomed
-room-no b e = rw e
+use Rattle.edited_text.specs.Merging.{roomsFit, mergeVerdict, verdictOn, mergeOn, MergedBy, Mergeable, Merges}
 
 same-counts : (r : Counts) (n m : ℕ) → r .operations ≡ n → r .cursors ≡ m → r ≡ record { operations = n; cursors = m }
 same-counts r n m e f = rw (← e, ← f)
@@ -86,12 +75,12 @@ module _ (original text spans keys left right lcs rcs o c w : List ℕ) where
 
         pub no-room : tested ≡ false → MergedBy original text spans keys left right lcs rcs o o c c w w (A.Refused R.Room)
         unfolding mergeVerdict
-        no-room f = refuses R.Room (sym (goes-on _ _ _ passed (sym (room-no _ (sym rooms ∙ f)))))
+        no-room f = refuses R.Room (lacks-room _ _ passed (sym rooms ∙ f))
 
         module _ (f : tested ≡ true) where
           accepts : verdict ≡ Accepted
           unfolding mergeVerdict
-          accepts = sym (goes-on _ _ _ passed (sym (room-yes _ (sym rooms ∙ f))))
+          accepts = has-room _ _ passed (sym rooms ∙ f)
 
           abbrev first : Bool
           first = leb ((length left / 6 + length right / 6) * 6) (length o)

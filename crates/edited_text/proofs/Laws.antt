@@ -12,10 +12,10 @@ use Rattle.records.specs.Operations.{operationsOf, flatOperations}
 use Rattle.records.specs.Cursors.{cursorsOf, flatCursors}
 use Rattle.records.proofs.Operations.{of-answered as operations-back}
 use Rattle.records.proofs.Cursors.{of-answered as cursors-back}
-use Rattle.checks.specs.declared.Verdict.the-variants.{Accepted}
-use Rattle.checks.specs.Sizes.{merging, otherwise}
-use Rattle.checks.specs.Accepted.{AcceptedList}
-use Rattle.checks.proofs.Chains.{first-passed}
+use Rattle.verdict.specs.declared.Verdict.the-variants.{Accepted}
+use Rattle.sizes.specs.Sizes.{merging, otherwise}
+use Rattle.shapes.specs.Accepted.{AcceptedList}
+use Rattle.verdict.proofs.Chains.{first-passed}
 use Rattle.checks.proofs.Accepted.{accepted-left, accepted-right}
 use Rattle.merging.specs.Lent.{Lent}
 use Rattle.merging.specs.Operations.{opsFrom}
@@ -23,7 +23,7 @@ use Rattle.merging.specs.Tiling.{Merges}
 use Rattle.merging_laws.proofs.Accepted.{merged-accepted, merged-merges}
 use Rattle.edited_text.specs.declared.Answer.{Answer}
 use Rattle.edited_text.specs.declared.Answer.the-variants as A
-use Rattle.edited_text.specs.Merging.{mergeVerdict, verdictOn, mergeOn, answerOf, leaves, MergedBy}
+use Rattle.edited_text.specs.Merging.{mergeVerdict, verdictOn, mergeOn, MergedBy}
 
 module _ (original text spans keys left right lcs rcs o c w : List ℕ) where
   -- "Any two outcomes it allows are shown equal, or the exception (the work room) is listed"

@@ -14,13 +14,13 @@ use Rattle.records.specs.Cursors.{cursorsFrom, cursorsOf, flatCursors}
 use Rattle.records.proofs.Cursors.{length-of, length-answered, of-answered}
 use Rattle.cursors.specs.Sorted.{sorted}
 use Rattle.cursors.proofs.Sinks.{length-sorted, sorted-answered}
-use Rattle.checks.specs.Sizes.{merging}
-use Rattle.checks.specs.Accepted.{AcceptedList}
-use Rattle.checks.proofs.Accepted.{retained-most}
+use Rattle.sizes.specs.Sizes.{merging}
+use Rattle.shapes.specs.Accepted.{AcceptedList}
+use Rattle.shapes.proofs.Accepted.{retained-most}
 use Rattle.merging.specs.declared.Op.{Op}
 use Rattle.merging.specs.declared.Op.the-variants.{Delete, Insert, Retain}
 use Rattle.merging.specs.declared.Order.{Order}
-use Rattle.merging.specs.Lent.{Lent, rulesOf}
+use Rattle.merging.specs.Lent.{Lent, rulesOf, lentOf}
 use Rattle.merging.specs.Operations.{opsFrom, recordsOf}
 use Rattle.merging.specs.OrderRule.{priorityOf}
 use Rattle.merging.specs.Meeting.{nothing}
@@ -34,7 +34,7 @@ use Rattle.order.proofs.Lending.{priority-of}
 use Rattle.order_laws.proofs.Accepted.{readable}
 use Rattle.operation.specs.Views.{most}
 use Rattle.merge.specs.declared.Totals.{Totals}
-use Rattle.merge.specs.Running.{lentOf, listOf, begin, outcome, Listed, Runnable, Ran}
+use Rattle.merge.specs.Running.{listOf, begin, outcome, Listed, Runnable, Ran}
 use Rattle.edited_text.specs.declared.Counts.{Counts}
 use Rattle.edited_text.specs.Merging.{mergeOn, Mergeable, Merges}
 

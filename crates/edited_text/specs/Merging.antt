@@ -1,24 +1,23 @@
 -- What the call `merge` answers and leaves in its rooms. Assumes nothing.
 use Prim.Native.Nat.{ℕ, _+_, _*_, _≤_}
 use mathlib.Core.Path.{_≡_}
-use mathlib.Core.Bool.{Bool, true, false, _&&_}
+use mathlib.Core.Bool.{Bool, _&&_}
 use mathlib.Core.List.{List}
 use lib.ListN.{length}
 use lib.Dec.{leb}
-use Rattle.refusal.specs.declared.Refusal.the-variants as R
 use Rattle.room.specs.Placed.{answered}
 use Rattle.records.specs.declared.Operation.{Operation}
 use Rattle.records.specs.declared.Cursor.{Cursor}
 use Rattle.records.specs.Operations.{operationsOf, flatOperations}
 use Rattle.records.specs.Cursors.{cursorsOf, flatCursors}
-use Rattle.checks.specs.declared.Verdict.{Verdict}
-use Rattle.checks.specs.declared.Verdict.the-variants.{Accepted, Refused}
-use Rattle.checks.specs.Verdicts.{andThen}
-use Rattle.checks.specs.Texts.{total, claimedBy}
-use Rattle.checks.specs.Sizes.{merging}
+use Rattle.verdict.specs.declared.Verdict.{Verdict}
+use Rattle.verdict.specs.declared.Verdict.the-variants.{Accepted, Refused}
+use Rattle.verdict.specs.Verdicts.{andThen, roomed, leaves}
+use Rattle.sizes.specs.Texts.{total, claimedBy}
+use Rattle.sizes.specs.Sizes.{merging}
 use Rattle.checks.specs.Lists.{listsVerdict}
-use Rattle.checks.specs.Accepted.{AcceptedList}
-use Rattle.merging.specs.Lent.{Lent, rulesOf}
+use Rattle.shapes.specs.Accepted.{AcceptedList}
+use Rattle.merging.specs.Lent.{lentOf, rulesOf}
 use Rattle.merging.specs.Merge.{Merged, mergeOf}
 use Rattle.edited_text.specs.declared.Counts.{Counts}
 use Rattle.edited_text.specs.declared.Answer.{Answer}
@@ -31,11 +30,6 @@ roomsFit left right cs ds o c w =
     leb ((length left + length right) * 6) o
     && (leb ((length cs + length ds) * 2) c && leb ((total claimedBy left + total claimedBy right) * 2) w)
 
--- "7: a lent room is shorter than asked"
-unfoldable pub roomed : Bool → Verdict
-roomed true = Accepted
-roomed false = Refused R.Room
-
 -- "Order for lists: 3, 4, 1, 2, 5, 7"
 unfoldable pub mergeVerdict : List ℕ → List ℕ → List ℕ → List ℕ → List Operation → List Operation → List Cursor → List Cursor → ℕ → ℕ → ℕ → Verdict
 mergeVerdict original text spans keys left right cs ds o c w =
@@ -44,17 +38,12 @@ mergeVerdict original text spans keys left right cs ds o c w =
 -- "The merge", of lists and cursors as they are lent
 abbrev pub mergeOn : List ℕ → List ℕ → List ℕ → List ℕ → List ℕ → List ℕ → List ℕ → List ℕ → Merged
 mergeOn original text spans keys left right lcs rcs =
-    mergeOf (rulesOf (record { original = original; inserted = text; spans = spans; keys = keys })) (operationsOf left) (operationsOf right) (cursorsOf lcs) (cursorsOf rcs)
+    mergeOf (rulesOf (lentOf original text spans keys)) (operationsOf left) (operationsOf right) (cursorsOf lcs) (cursorsOf rcs)
 
 -- the answer by the verdict: how many operations and cursors, or the refusal
 abbrev pub answerOf : Verdict → Merged → Answer
 answerOf Accepted m = A.Counts (record { operations = length (m .operations); cursors = length (m .cursors) })
 answerOf (Refused r) m = A.Refused r
-
--- "A refusal writes nothing. On success a room past its answer is unchanged"
-abbrev pub leaves : Verdict → List ℕ → List ℕ → List ℕ
-leaves Accepted x d = answered x d
-leaves (Refused r) x d = d
 
 -- "A refusal writes nothing.", "only the work room is unspecified": past its length
 abbrev pub WorkLeft : Verdict → List ℕ → List ℕ → Type 0

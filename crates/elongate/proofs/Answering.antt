@@ -11,14 +11,14 @@ use borrow.Author.Tests.{le-leb, leb-true, ltb-true}
 use Rattle.refusal.specs.declared.Refusal.{Refusal}
 use Rattle.refusal.specs.declared.Refusal.the-variants as R
 use Rattle.records.specs.Tokens.{tokensFrom}
-use Rattle.checks.specs.declared.Verdict.{Verdict}
-use Rattle.checks.specs.declared.Verdict.the-variants.{Accepted, Refused}
-use Rattle.checks.specs.Texts.{runText}
-use Rattle.checks.specs.Shapes.{runGood}
-use Rattle.checks.proofs.Accepted.{all-in, run-length}
-use Rattle.checks.specs.Points.{pointsFrom}
-use Rattle.checks.proofs.Bools.{and-left, and-right}
-use Rattle.checks.proofs.Chains.{fits, goes-on}
+use Rattle.verdict.specs.declared.Verdict.{Verdict}
+use Rattle.verdict.specs.declared.Verdict.the-variants.{Accepted, Refused}
+use Rattle.sizes.specs.Texts.{runText}
+use Rattle.shapes.specs.Shapes.{runGood}
+use Rattle.shapes.proofs.Accepted.{all-in, run-length}
+use Rattle.verdict.specs.Points.{pointsFrom}
+use Rattle.verdict.proofs.Bools.{and-left, and-right}
+use Rattle.verdict.proofs.Chains.{fits, goes-on, has-room, lacks-room, went}
 use Rattle.elongate.specs.declared.Raw.{Raw}
 use Rattle.elongate.specs.declared.Written.{Written}
 use Rattle.elongate.specs.declared.Answer.the-variants as A
@@ -28,17 +28,13 @@ use Rattle.elongate.specs.Currents.{none, cookedOn}
 use Rattle.elongate.specs.Places.{kindOf}
 use Rattle.elongate.specs.Good.{GoodRaw, AllGood, counts}
 use Rattle.elongate.specs.Writes.{Ready, Wrote}
-use Rattle.elongate.specs.Verdicts.{total, claimedBy, runLent, textBy, rawFits, isRaw, shapesFrom, roomsFit, roomed, rawVerdict, leaves, Elongates, verdictOn}
+use Rattle.elongate.specs.Verdicts.{total, claimedBy, runLent, textBy, rawFits, isRaw, shapesFrom, roomsFit, rawVerdict, Elongates, verdictOn}
 use Rattle.elongate.proofs.Pieces.{pieces-length}
 use Rattle.elongate.proofs.Checking.{length-raws}
 use Rattle.elongate.proofs.Arranging.{total-arranged, counts-total, length-total, lengths-total, good-arranged, runs-arranged}
 use Rattle.elongate.proofs.Joining.{some-runs, cooks-all, tokens-joined, joined-length, cooked-length}
 
 -- an accepted list is good
-
-went : (b : Bool) (v : Verdict) (r : Refusal) → elim b [ true ↦ v | false ↦ Refused r ] ≡ Accepted → (b ≡ true) × (v ≡ Accepted)
-went true v r h = (refl, h)
-went false v r h = let z : _≡_ {A = ℕ} 0 1 = cc in absurd (omega arith)
 
 module _ (n : ℕ) (spans keys joins : List ℕ) where
   good-raw : (r : Raw) → isRaw n spans keys joins r ≡ true → GoodRaw n spans keys joins r
@@ -81,14 +77,6 @@ module _ (n : ℕ) (spans keys joins : List ℕ) where
 
 same-written : (r : Written) (m t : ℕ) → r .operations ≡ m → r .tokens ≡ t → r ≡ record { operations = m; tokens = t }
 same-written r m t e f = rw (← e, ← f)
-
-room-yes : (b : Bool) → b ≡ true → roomed b ≡ Accepted
-unfolding roomed
-room-yes b e = rw e
-
-room-no : (b : Bool) → b ≡ false → roomed b ≡ Refused R.Room
-unfolding roomed
-room-no b e = rw e
 
 length-runs : (spans keys joins : List ℕ) (rs : List Raw) → length (runsOf spans keys joins rs) ≡ length rs
 unfolding runsOf
@@ -175,10 +163,10 @@ module _ (xs spans keys joins text o s k j : List ℕ) where
     pub accepts : (t : ℕ) → t ≡ min 1000000 (total claimedBy (rawsOf xs))
         → leb (length xs / 3 * 6) (length o) && (leb (t * 2) (length s) && (leb t (length k) && leb t (length j))) ≡ true
         → pointsFrom text 0 ≡ Accepted → verdictOn xs spans keys joins text o s k j ≡ Accepted
-    unfolding rawVerdict roomed
+    unfolding rawVerdict
     accepts t e f p =
         let g : roomsFit (rawsOf xs) (length o) (length s) (length k) (length j) ≡ true = rw (length-raws xs, ← claims t e) f in
-        sym (fits _ _ _ v (goes-on _ _ _ p (goes-on _ _ _ w (sym (room-yes _ g)))))
+        sym (fits _ _ _ v (goes-on _ _ _ p (sym (has-room _ _ w g))))
 
     pub no-room : (t : ℕ) → t ≡ min 1000000 (total claimedBy (rawsOf xs))
         → leb (length xs / 3 * 6) (length o) && (leb (t * 2) (length s) && (leb t (length k) && leb t (length j))) ≡ false
@@ -186,7 +174,7 @@ module _ (xs spans keys joins text o s k j : List ℕ) where
     unfolding rawVerdict
     no-room t e f p =
         let g : roomsFit (rawsOf xs) (length o) (length s) (length k) (length j) ≡ false = rw (length-raws xs, ← claims t e) f in
-        sym (fits _ _ _ v (goes-on _ _ _ p (goes-on _ _ _ w (sym (room-no _ g)))))
+        sym (fits _ _ _ v (goes-on _ _ _ p (sym (lacks-room _ _ w g))))
 
     -- what was written is the answer
     pub writes : (o′ s′ k′ j′ : List ℕ) (r : Written) → verdictOn xs spans keys joins text o s k j ≡ Accepted

@@ -11,11 +11,11 @@ use lib.Dec.{leb}
 use borrow.Author.Tests.{lt-ltb, le-ltb, le-leb, lt-leb, leb-true}
 use Rattle.refusal.specs.declared.Refusal.the-variants as R
 use Rattle.records.specs.Tokens.{tokensLent, tokensFrom}
-use Rattle.checks.specs.declared.Verdict.the-variants.{Accepted, Refused}
-use Rattle.checks.specs.Texts.{runText}
-use Rattle.checks.specs.Shapes.{runGood}
-use Rattle.checks.proofs.Bools.{leb-same}
-use Rattle.checks.proofs.Sums.{cap, cap-on, cap-test}
+use Rattle.verdict.specs.declared.Verdict.the-variants.{Accepted, Refused}
+use Rattle.sizes.specs.Texts.{runText}
+use Rattle.shapes.specs.Shapes.{runGood}
+use Rattle.verdict.proofs.Bools.{leb-same}
+use Rattle.sizes.proofs.Sums.{cap, cap-on, cap-test}
 use Rattle.elongate.specs.declared.Raw.{Raw}
 use Rattle.elongate.specs.Raws.{rawAt, rawsFrom, rawsOf, piecesLent}
 use Rattle.elongate.specs.Verdicts.{total, claimedBy, runLent, textBy, rawFits, isRaw, shapesFrom}

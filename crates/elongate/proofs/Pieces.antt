@@ -10,8 +10,8 @@ use lib.ListN.{length, getD, take, drop}
 use lib.Dec.{eqb}
 use lib.Seq.{drop-cons}
 use Rattle.records.specs.Tokens.{tokensFrom, tokensLength}
-use Rattle.checks.specs.Texts.{runText}
-use Rattle.checks.proofs.Accepted.{run-length}
+use Rattle.sizes.specs.Texts.{runText}
+use Rattle.shapes.proofs.Accepted.{run-length}
 use Rattle.elongate.specs.declared.Raw.{Raw}
 use Rattle.elongate.specs.Raws.{Piece, piecesFrom, piecesLent, flatSpans, flatKeys, flatJoins}
 use Rattle.elongate.specs.Elongated.{lastRight, firstLeft, piecesLength}

@@ -14,7 +14,7 @@ use Rattle.records.specs.declared.Operation.{Operation}
 use Rattle.records.specs.Operations.{flatOperations}
 use Rattle.records.specs.Tokens.{tokensFrom}
 use Rattle.records.proofs.Operations as O
-use Rattle.checks.specs.Texts.{runText}
+use Rattle.sizes.specs.Texts.{runText}
 use Rattle.elongate.specs.declared.Raw.{Raw}
 use Rattle.elongate.specs.declared.Current.{Current}
 use Rattle.elongate.specs.Raws.{Piece, piecesFrom, piecesLent, flatSpans, flatKeys, flatJoins, runOf, runsOf}

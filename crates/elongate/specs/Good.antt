@@ -2,7 +2,7 @@
 use Prim.Native.Nat.{ℕ, _+_, _≤_, _<_}
 use mathlib.Core.List.{List, [], _∷_}
 use Rattle.records.specs.Tokens.{tokensFrom}
-use Rattle.checks.specs.Accepted.{AllIn}
+use Rattle.shapes.specs.Accepted.{AllIn}
 use Rattle.elongate.specs.declared.Raw.{Raw}
 use Rattle.elongate.specs.Raws.{piecesLent}
 

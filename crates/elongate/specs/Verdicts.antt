@@ -7,15 +7,14 @@ use lib.ListN.{length}
 use lib.Dec.{leb, ltb}
 use Rattle.refusal.specs.declared.Refusal.the-variants as R
 use Rattle.room.specs.Choice.{pick}
-use Rattle.room.specs.Placed.{answered}
 use Rattle.records.specs.Operations.{flatOperations}
 use Rattle.records.specs.Tokens.{tokensFrom}
-use Rattle.checks.specs.declared.Verdict.{Verdict}
-use Rattle.checks.specs.declared.Verdict.the-variants.{Accepted, Refused}
-use Rattle.checks.specs.Verdicts.{andThen, sized}
-use Rattle.checks.specs.Points.{pointsFrom}
-use Rattle.checks.specs.Texts.{runText}
-use Rattle.checks.specs.Shapes.{runGood}
+use Rattle.verdict.specs.declared.Verdict.{Verdict}
+use Rattle.verdict.specs.declared.Verdict.the-variants.{Accepted, Refused}
+use Rattle.verdict.specs.Verdicts.{andThen, sized, roomed, leaves}
+use Rattle.verdict.specs.Points.{pointsFrom}
+use Rattle.sizes.specs.Texts.{runText}
+use Rattle.shapes.specs.Shapes.{runGood}
 use Rattle.elongate.specs.declared.Raw.{Raw}
 use Rattle.elongate.specs.declared.Answer.{Answer}
 use Rattle.elongate.specs.declared.Answer.the-variants as A
@@ -61,11 +60,6 @@ shapesFrom n spans keys joins (r ∷ rs) i =
 abbrev pub roomsFit : List Raw → ℕ → ℕ → ℕ → ℕ → Bool
 roomsFit rs o s k j = leb (length rs * 6) o && (leb (counts rs * 2) s && (leb (counts rs) k && leb (counts rs) j))
 
--- "7: a lent room is shorter than asked"
-unfoldable pub roomed : Bool → Verdict
-roomed true = Accepted
-roomed false = Refused R.Room
-
 -- "Raw lists: 3, 4, 1, 7."
 unfoldable pub rawVerdict : List ℕ → List ℕ → List ℕ → List ℕ → List Raw → ℕ → ℕ → ℕ → ℕ → Verdict
 rawVerdict text spans keys joins rs o s k j =
@@ -76,11 +70,6 @@ rawVerdict text spans keys joins rs o s k j =
 abbrev pub answerOf : Verdict → ℕ → ℕ → Answer
 answerOf Accepted o t = A.Counts (record { operations = o; tokens = t })
 answerOf (Refused r) o t = A.Refused r
-
--- "A refusal writes nothing. On success a room past its answer is unchanged"
-abbrev pub leaves : Verdict → List ℕ → List ℕ → List ℕ
-leaves Accepted x d = answered x d
-leaves (Refused r) x d = d
 
 -- what `elongate` answers and leaves in its rooms
 pub record Elongates (xs spans keys joins text o s k j o′ s′ k′ j′ : List ℕ) (v : Verdict) (r : Answer) : Type 0 where

@@ -271,7 +271,7 @@ fn write(
                 let r = raw_at(raw, i);
                 let at = current.first + current.count;
                 append(spans, keys, joins, r, spanned, keyed, joined, at);
-                let length = checks::run_text(spans, keys, n, r.first, r.count);
+                let length = sizes::run_text(spans, keys, n, r.first, r.count);
                 let left = left_joinable(joins, r.first);
                 let last = r.first + r.count - 1;
                 let right = right_joinable(joins, last);
@@ -325,7 +325,7 @@ fn claimed(raw: &[usize]) -> usize
     'sum: while i < count {
         let r = raw_at(raw, i);
         let more = claimed_by(r);
-        sum = checks::capped(sum, more);
+        sum = sizes::capped(sum, more);
         i += 1;
     }
     sum
@@ -340,7 +340,7 @@ fn text_by(spans: &[u32], keys: &[u32], joins: &[u8], n: usize, r: Raw) -> usize
     }
     let lent = pieces_lent(spans, keys, joins);
     if run_lent(lent, r) {
-        return checks::run_text(spans, keys, n, r.first, r.count);
+        return sizes::run_text(spans, keys, n, r.first, r.count);
     }
     0
 }
@@ -355,7 +355,7 @@ fn used_text(raw: &[usize], spans: &[u32], keys: &[u32], joins: &[u8], n: usize)
     'sum: while i < count {
         let r = raw_at(raw, i);
         let more = text_by(spans, keys, joins, n, r);
-        sum = checks::capped(sum, more);
+        sum = sizes::capped(sum, more);
         i += 1;
     }
     sum
@@ -389,13 +389,19 @@ fn is_raw(spans: &[u32], keys: &[u32], joins: &[u8], n: usize, r: Raw) -> bool
     }
     let lent = pieces_lent(spans, keys, joins);
     if run_lent(lent, r) {
-        return checks::run_good(spans, keys, n, r.first, r.count);
+        return shapes::run_good(spans, keys, n, r.first, r.count);
     }
     false
 }
 
 // Refusal 1 of a raw list.
-fn check_raws(raw: &[usize], spans: &[u32], keys: &[u32], joins: &[u8], n: usize) -> checks::Verdict
+fn check_raws(
+    raw: &[usize],
+    spans: &[u32],
+    keys: &[u32],
+    joins: &[u8],
+    n: usize,
+) -> verdict::Verdict
     ensures { λ r. ⌜ r ≡ shapesFrom n (now (spans .entry)) (now (keys .entry)) (now (joins .entry)) (rawsOf (now (raw .entry))) 0 ⌝ }
 {
     let count = raw.len() / 3;
@@ -405,10 +411,10 @@ fn check_raws(raw: &[usize], spans: &[u32], keys: &[u32], joins: &[u8], n: usize
         if is_raw(spans, keys, joins, n, r) {
             i += 1;
         } else {
-            return checks::Verdict::Refused(refusal::Refusal::Record { index: i });
+            return verdict::Verdict::Refused(refusal::Refusal::Record { index: i });
         }
     }
-    checks::Verdict::Accepted
+    verdict::Verdict::Accepted
 }
 
 // Whether the rooms are as long as asked for so many operations and tokens.
@@ -452,11 +458,11 @@ pub fn elongate(
     if !raw_fits(raw, spans, keys, joins, n) {
         return Answer::Refused(refusal::Refusal::Size);
     }
-    match checks::check_text(text) {
-        checks::Verdict::Refused(refusal) => Answer::Refused(refusal),
-        checks::Verdict::Accepted => match check_raws(raw, spans, keys, joins, n) {
-            checks::Verdict::Refused(refusal) => Answer::Refused(refusal),
-            checks::Verdict::Accepted => {
+    match verdict::check_text(text) {
+        verdict::Verdict::Refused(refusal) => Answer::Refused(refusal),
+        verdict::Verdict::Accepted => match check_raws(raw, spans, keys, joins, n) {
+            verdict::Verdict::Refused(refusal) => Answer::Refused(refusal),
+            verdict::Verdict::Accepted => {
                 let tokens = claimed(raw);
                 if !rooms_fit(
                     raw.len() / 3,

@@ -2,7 +2,7 @@
 // them. Every long slice is the beginning of an array of ones: an operation of ones inserts the token
 // at 1, a token of ones spells the code point at 1, a cursor of ones stands at 1, and a raw operation
 // of ones is an insert.
-use checks::Verdict;
+use verdict::Verdict;
 ghost use Prim.Native.Nat.{_≤_};
 
 fn main() {
@@ -330,7 +330,7 @@ fn verdict_on(
     let none = [0usize; 0];
     match setting {
         Setting::One => checks::check_list(
-            checks::other_limits(),
+            sizes::other_limits(),
             original,
             text,
             spans,
@@ -339,7 +339,7 @@ fn verdict_on(
             cursors,
         ),
         Setting::Both => checks::check_lists(
-            checks::merging_limits(),
+            sizes::merging_limits(),
             original,
             text,
             spans,
@@ -350,7 +350,7 @@ fn verdict_on(
             cursors,
         ),
         Setting::Left => checks::check_lists(
-            checks::merging_limits(),
+            sizes::merging_limits(),
             original,
             text,
             spans,
@@ -361,7 +361,7 @@ fn verdict_on(
             &none,
         ),
         Setting::Right => checks::check_lists(
-            checks::merging_limits(),
+            sizes::merging_limits(),
             original,
             text,
             spans,

@@ -13,7 +13,7 @@ use Rattle.records.specs.Operations.{operationsFrom, operationsOf, flatOperatio
 use Rattle.merging.specs.declared.Op.{Op}
 use Rattle.merging.specs.declared.Op.the-variants.{Delete, Insert, Retain}
 use Rattle.merging.specs.declared.Order.{Order}
-use Rattle.merging.specs.Lent.{Lent, rulesOf}
+use Rattle.merging.specs.Lent.{Lent, rulesOf, lentOf}
 use Rattle.merging.specs.Operations.{Out, opsFrom, recordsOf, spanOf}
 use Rattle.merging.specs.OrderRule.{goesLeft, orderRule, thenBy, isLess}
 use Rattle.merging.specs.Cursors.{ended}
@@ -36,7 +36,7 @@ use Rattle.merge.specs.declared.Totals.{Totals}
 use Rattle.merge.specs.declared.Choice.{Choice}
 use Rattle.merge.specs.declared.Choice.the-variants.{Nothing as Neither, Left, Right}
 use Rattle.merge.specs.Choosing.{NextReadable, choiceOf}
-use Rattle.merge.specs.Running.{lentOf, listOf, begin, outcome, Listed, Runnable, Ran}
+use Rattle.merge.specs.Running.{listOf, begin, outcome, Listed, Runnable, Ran}
 use Rattle.cursor_position.specs.declared.Progress.{Progress}
 use Rattle.cursor_position.specs.Moves.{Went}
 use Rattle.merge.specs.Turning.{cursorsLeft}

@@ -13,7 +13,7 @@ use Rattle.records.specs.Cursors.{flatCursors}
 use Rattle.records.specs.Operations.{flatOperations}
 use Rattle.merging.specs.declared.Op.{Op}
 use Rattle.merging.specs.declared.Order.{Order}
-use Rattle.merging.specs.Lent.{Lent, Rules, Lawful, rulesOf}
+use Rattle.merging.specs.Lent.{Lent, Rules, Lawful, rulesOf, lentOf}
 use Rattle.merging.specs.Operations.{Out, orderOf, spanOf, recordsOf}
 use Rattle.merging.specs.Meeting.{frontOf, tailOf}
 use Rattle.merging.specs.Turn.{State, Turned, turned, turnLeft, turnRight, turnWith, emitted, fromLeft, fromRight, takenOf}
@@ -35,7 +35,7 @@ use Rattle.merge.specs.declared.Side.{Side}
 use Rattle.merge.specs.declared.Totals.{Totals}
 use Rattle.merge.specs.declared.Turned.{Turned as Result}
 use Rattle.merge.specs.Turning.{cursorsLeft, taken, result, shiftBy, Turnable, Turns}
-use Rattle.merge.specs.Running.{lentOf, listOf, outcome, Runnable}
+use Rattle.merge.specs.Running.{listOf, outcome, Runnable}
 use Rattle.merge.proofs.OneTurn.{stateOf, turnOf, same-front, turned-out, turned-cursors, turned-state}
 use Rattle.merge.proofs.Sides.{SideFits, own-fits, other-fits, turnable}
 

@@ -6,6 +6,7 @@ use mathlib.Core.Bool.{true, false}
 use mathlib.Core.List.{List}
 use lib.ListN.{length}
 use native.Mathlib.Omega.{arith}
+use Rattle.merging.specs.Lent.{lentOf}
 use Rattle.merging.specs.declared.Op.{Op}
 use Rattle.merging.specs.declared.Order.{Order}
 use Rattle.merging.specs.Turn.{none, takenOf}
@@ -20,7 +21,7 @@ use Rattle.order.specs.Readable.{ofText}
 use Rattle.merge.specs.Choosing.{choiceOf, isNone, takenBy, ofSide}
 use Rattle.merge.specs.Sides.{ofNumber}
 use Rattle.merge.specs.Turning.{Turnable, Turns}
-use Rattle.merge.specs.Running.{lentOf, Runnable}
+use Rattle.merge.specs.Running.{Runnable}
 use Rattle.merge.proofs.Running.{Going, left-turnable, left-less, left-step, right-turnable, right-less, right-step}
 use Rattle.merge.proofs.Ends.{Chosen, chosen}
 

@@ -8,7 +8,7 @@ use Rattle.records.specs.Operations.{operationsOf, flatOperations}
 use Rattle.records.specs.Cursors.{cursorsOf, flatCursors}
 use Rattle.merging.specs.declared.Op.{Op}
 use Rattle.merging.specs.declared.Order.{Order}
-use Rattle.merging.specs.Lent.{Lent, rulesOf}
+use Rattle.merging.specs.Lent.{Lent, rulesOf, lentOf}
 use Rattle.merging.specs.Operations.{opsFrom, lengthOf, recordsOf}
 use Rattle.merging.specs.Meeting.{nothing}
 use Rattle.merging.specs.Turn.{State}
@@ -17,10 +17,6 @@ use Rattle.merging.specs.Tiling.{Tiled, totalOf, tokensOf, Inserts}
 use Rattle.operation.specs.Views.{most}
 use Rattle.order.specs.Readable.{Run}
 use Rattle.merge.specs.declared.Totals.{Totals}
-
--- all that was lent
-abbrev pub lentOf : List ℕ → List ℕ → List ℕ → List ℕ → Lent
-lentOf original text spans keys = record { original = original; inserted = text; spans = spans; keys = keys }
 
 -- "An insert's order is the original text consumed before it": the operations of a lent list
 abbrev pub listOf : List ℕ → List Op

@@ -19,7 +19,7 @@ use Rattle.edit_read.specs.Answer.{lengthsOf}
 use Rattle.merge_files.specs.Program.{utf8}
 use Rattle.merge_files.specs.Steps.{isEdit}
 
-never : {A : Type 0} {n : ℕ} {r : Refusal} → C.Count n ≡ C.Refused r → A
+pub never : {A : Type 0} {n : ℕ} {r : Refusal} → C.Count n ≡ C.Refused r → A
 never e = let z : _≡_ {A = ℕ} 0 1 = cc in absurd (omega arith)
 
 pub utf8-yes : (s : List ℕ) (n : ℕ) → C.Count n ≡ read-length-of s → true ≡ utf8 s

@@ -17,8 +17,8 @@ use Rattle.room.proofs.Answers.{same-room}
 use Rattle.records.specs.declared.Operation.{Operation}
 use Rattle.records.specs.Operations.{operationsOf}
 use Rattle.cursors.proofs.Sinks.{le-or-lt}
-use Rattle.checks.specs.declared.Verdict.the-variants as W
-use Rattle.checks.specs.Verdicts.{andThen}
+use Rattle.verdict.specs.declared.Verdict.the-variants as W
+use Rattle.verdict.specs.Verdicts.{andThen, roomed as roomFits}
 use Rattle.edit_format.specs.Items.{Item, texts}
 use Rattle.edit_format.specs.Records.{recordsOf}
 use Rattle.edit_format.specs.Written.{written}
@@ -26,7 +26,7 @@ use Rattle.edit_format.proofs.TextLaws.{texts-length}
 use Rattle.edit_format.proofs.RecordLaws.{length-records}
 use Rattle.edit_write.specs.Writing.{fileOf, roomed, Wrote}
 use Rattle.diff.specs.Checks.{fits}
-use Rattle.merging.specs.Lent.{Lent}
+use Rattle.merging.specs.Lent.{Lent, lentOf as given}
 use Rattle.merging.specs.Operations.{opsFrom}
 use Rattle.merging.specs.Outputs.{toDiff}
 use Rattle.merging.proofs.OutputLaws.{diff-items}
@@ -41,10 +41,8 @@ use Rattle.outputs.proofs.Replaying.{written-of}
 use Rattle.outputs.proofs.Filing.{file-items, file-writable, files}
 use Rattle.merge_files.specs.declared.Outcome.the-variants as O
 use Rattle.merge_files.specs.Program.{merged, bytesOf, kindOf, outcomeOf, roomAfter, Written}
-use Rattle.merge_files.specs.Steps.{given, Diffable}
-
-never : {A : Type 0} {n : ℕ} {r : Refusal} → C.Count n ≡ C.Refused r → A
-never e = let z : _≡_ {A = ℕ} 0 1 = cc in absurd (omega arith)
+use Rattle.merge_files.specs.Steps.{Diffable}
+use Rattle.merge_files.proofs.Checking.{never}
 
 module _ (original text spans keys ops : List ℕ) (K : Diffable original text spans keys ops) where
   abbrev lent : Lent
@@ -66,7 +64,7 @@ module _ (original text spans keys ops : List ℕ) (K : Diffable original text s
 
   module _ (d : List ℤ) (e : List ℕ) (nd : length d ≡ 3072) (ne : length e ≡ 131070) where
     in-rooms : verdictIn lent os d e ≡ W.Accepted
-    unfolding verdictIn roomFor andThen
+    unfolding verdictIn roomFor roomFits andThen
     in-rooms =
         rw (
           K .accepted,

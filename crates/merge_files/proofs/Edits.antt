@@ -13,10 +13,11 @@ use Rattle.room.proofs.Answers.{at-start, one-more, same-room}
 use Rattle.records.specs.declared.Operation.{Operation}
 use Rattle.records.specs.Operations.{operationsOf}
 use Rattle.records.proofs.Operations.{of-answered, length-answered}
-use Rattle.checks.specs.Texts.{total, claimedBy}
+use Rattle.sizes.specs.Texts.{total, claimedBy}
 use Rattle.elongate.specs.Raws.{Piece, Run, flatSpans, flatKeys}
 use Rattle.elongate.specs.Elongated.{cookedFrom, allTokens, consumes, piecesLength}
 use Rattle.elongate.proofs.Joining.{cooked-length}
+use Rattle.elongate.proofs.Pieces.{length-spans, length-keys}
 use Rattle.edit_format.specs.Items.{Item, texts}
 use Rattle.edit_format.specs.Reading.{readFile}
 use Rattle.edit_format.proofs.Accepts.{accepted-good}
@@ -38,16 +39,6 @@ keys-append : (ps qs : List Piece) → flatKeys (ps ++ qs) ≡ flatKeys ps ++ fl
 unfolding flatKeys
 keys-append [] qs = refl
 keys-append (p ∷ ps) qs = ap (λ (x : List ℕ). p .key ∷ x) (keys-append ps qs)
-
-spans-length : (ps : List Piece) → length (flatSpans ps) ≡ length ps * 2
-unfolding flatSpans
-spans-length [] = refl
-spans-length (p ∷ ps) = omega (arith, spans-length ps)
-
-keys-length : (ps : List Piece) → length (flatKeys ps) ≡ length ps
-unfolding flatKeys
-keys-length [] = refl
-keys-length (p ∷ ps) = omega (arith, keys-length ps)
 
 -- a list's inserts claim no more tokens than it has
 picked : (k n : ℕ) → pick (eqb k 1) n 0 ≤ n
@@ -100,12 +91,12 @@ module _ (left right : List ℕ) (F : Files left right) (text lefts rights spans
     spans-same : length spans₁ ≡ length spans
     spans-same =
         rw (L .spans-are, at-start (flatSpans (allTokens (listOf 0 ls))) spans)
-        (same-room (flatSpans (allTokens (listOf 0 ls))) spans (omega (arith, spans-length (allTokens (listOf 0 ls)), L .many-tokens, L .tokens-most, R .spans-fit)))
+        (same-room (flatSpans (allTokens (listOf 0 ls))) spans (omega (arith, length-spans (allTokens (listOf 0 ls)), L .many-tokens, L .tokens-most, R .spans-fit)))
 
     keys-same : length keys₁ ≡ length keys
     keys-same =
         rw (L .keys-are, at-start (flatKeys (allTokens (listOf 0 ls))) keys)
-        (same-room (flatKeys (allTokens (listOf 0 ls))) keys (omega (arith, keys-length (allTokens (listOf 0 ls)), L .many-tokens, L .tokens-most, R .keys-fit)))
+        (same-room (flatKeys (allTokens (listOf 0 ls))) keys (omega (arith, length-keys (allTokens (listOf 0 ls)), L .many-tokens, L .tokens-most, R .keys-fit)))
 
     pub right-listable : Listable right (l .text) (l .tokens) text₁ rights spans₁ keys₁
     right-listable =
@@ -134,16 +125,16 @@ module _ (left right : List ℕ) (F : Files left right) (text lefts rights spans
 
       all-spans : spans₂ ≡ answered (flatSpans lt ++ flatSpans rt) spans
       all-spans =
-          two-puts (flatSpans lt) (flatSpans rt) spans spans₁ spans₂ (l .tokens * 2) (L .spans-are) (omega (arith, L .many-tokens, spans-length lt)) (M .spans-are)
+          two-puts (flatSpans lt) (flatSpans rt) spans spans₁ spans₂ (l .tokens * 2) (L .spans-are) (omega (arith, L .many-tokens, length-spans lt)) (M .spans-are)
 
       all-keys : keys₂ ≡ answered (flatKeys lt ++ flatKeys rt) keys
-      all-keys = two-puts (flatKeys lt) (flatKeys rt) keys keys₁ keys₂ (l .tokens) (L .keys-are) (omega (arith, L .many-tokens, keys-length lt)) (M .keys-are)
+      all-keys = two-puts (flatKeys lt) (flatKeys rt) keys keys₁ keys₂ (l .tokens) (L .keys-are) (omega (arith, L .many-tokens, length-keys lt)) (M .keys-are)
 
       many-spans : (l .tokens + r .tokens) * 2 ≡ length (flatSpans lt ++ flatSpans rt)
-      many-spans = omega (arith, L .many-tokens, M .many-tokens, spans-length lt, spans-length rt, length-append (flatSpans lt) (flatSpans rt))
+      many-spans = omega (arith, L .many-tokens, M .many-tokens, length-spans lt, length-spans rt, length-append (flatSpans lt) (flatSpans rt))
 
       many-keys : l .tokens + r .tokens ≡ length (flatKeys lt ++ flatKeys rt)
-      many-keys = omega (arith, L .many-tokens, M .many-tokens, keys-length lt, keys-length rt, length-append (flatKeys lt) (flatKeys rt))
+      many-keys = omega (arith, L .many-tokens, M .many-tokens, length-keys lt, length-keys rt, length-append (flatKeys lt) (flatKeys rt))
 
       pub spans-in : (l .tokens + r .tokens) * 2 ≤ length spans₂
       spans-in =

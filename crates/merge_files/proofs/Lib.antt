@@ -1,4 +1,3 @@
-pub mod Accepting
 pub mod Lines
 pub mod Checking
 pub mod Diffing

@@ -14,29 +14,28 @@ use Rattle.records.specs.declared.Operation.{Operation}
 use Rattle.records.specs.Operations.{operationsOf, flatOperations}
 use Rattle.records.specs.Cursors.{cursorsFrom, cursorsOf}
 use Rattle.records.proofs.Operations.{length-answered, of-answered}
-use Rattle.checks.specs.declared.Verdict.{Verdict}
-use Rattle.checks.specs.declared.Verdict.the-variants as W
-use Rattle.checks.specs.Verdicts.{andThen}
-use Rattle.checks.specs.Texts.{total, claimedBy}
-use Rattle.checks.specs.Sizes.{merging, otherwise}
-use Rattle.checks.specs.Points.{pointsVerdict}
+use Rattle.verdict.specs.declared.Verdict.{Verdict}
+use Rattle.verdict.specs.declared.Verdict.the-variants as W
+use Rattle.verdict.specs.Verdicts.{andThen, roomed}
+use Rattle.sizes.specs.Texts.{total, claimedBy}
+use Rattle.sizes.specs.Sizes.{merging, otherwise}
+use Rattle.verdict.specs.Points.{pointsVerdict}
 use Rattle.checks.specs.Lists.{listsVerdict}
-use Rattle.checks.specs.Accepted.{Within, AcceptedList}
-use Rattle.checks.proofs.Chains.{first-passed, rest-passed}
-use Rattle.checks.proofs.Accepted.{accepted-left, accepted-right}
+use Rattle.shapes.specs.Accepted.{Within, AcceptedList}
+use Rattle.verdict.proofs.Chains.{first-passed, rest-passed}
+use Rattle.checks.proofs.Accepted.{accepted-left, accepted-right, verdict-yes}
 use Rattle.edit_format.specs.Written.{written}
-use Rattle.merging.specs.Lent.{Lent, rulesOf}
+use Rattle.merging.specs.Lent.{Lent, rulesOf, lentOf as given}
 use Rattle.merging.specs.Merge.{Merged, mergeOf}
 use Rattle.merging_laws.proofs.Accepted.{merged-accepted, merged-operations-most}
 use Rattle.to_diff.specs.Answers.{verdictOn}
 use Rattle.edited_text.specs.declared.Counts.{Counts}
 use Rattle.edited_text.specs.declared.Answer.{Answer}
 use Rattle.edited_text.specs.declared.Answer.the-variants as A
-use Rattle.edited_text.specs.Merging.{roomed, mergeVerdict, verdictOn as asked, mergeOn, answerOf, MergedBy}
+use Rattle.edited_text.specs.Merging.{mergeVerdict, verdictOn as asked, mergeOn, answerOf, MergedBy}
 use Rattle.merge_files.specs.declared.Outcome.{Outcome}
 use Rattle.merge_files.specs.Program.{refused, merged, judged, verdictOf, fileOf, mergedOf, Written}
-use Rattle.merge_files.specs.Steps.{given, diffResult, mergeResult, Diffable, Mergeable}
-use Rattle.merge_files.proofs.Accepting.{verdict-yes}
+use Rattle.merge_files.specs.Steps.{diffResult, mergeResult, Diffable, Mergeable}
 
 -- a refusal's number
 pub number-most : (r : Refusal) → number r ≤ 10

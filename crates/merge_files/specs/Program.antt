@@ -9,9 +9,9 @@ use Rattle.refusal.specs.Numbers.{number}
 use Rattle.room.specs.Choice.{pick}
 use Rattle.room.specs.Placed.{answered}
 use Rattle.records.specs.declared.Operation.{Operation}
-use Rattle.checks.specs.declared.Verdict.{Verdict}
-use Rattle.checks.specs.declared.Verdict.the-variants as W
-use Rattle.checks.specs.Sizes.{merging}
+use Rattle.verdict.specs.declared.Verdict.{Verdict}
+use Rattle.verdict.specs.declared.Verdict.the-variants as W
+use Rattle.sizes.specs.Sizes.{merging}
 use Rattle.checks.specs.Lists.{listsVerdict}
 use Rattle.elongate.specs.Raws.{Piece, flatSpans, flatKeys}
 use Rattle.elongate.specs.Elongated.{cooked, cookedFrom, allTokens}

@@ -7,20 +7,16 @@ use lib.ListN.{length}
 use Rattle.room.specs.Choice.{pick}
 use Rattle.records.specs.declared.Operation.{Operation}
 use Rattle.records.specs.Operations.{operationsOf}
-use Rattle.checks.specs.declared.Verdict.the-variants as W
-use Rattle.checks.specs.Texts.{total, claimedBy}
-use Rattle.checks.specs.Points.{pointsFrom}
+use Rattle.verdict.specs.declared.Verdict.the-variants as W
+use Rattle.sizes.specs.Texts.{total, claimedBy}
+use Rattle.verdict.specs.Points.{pointsFrom}
 use Rattle.edit_format.specs.Reading.{Found, Accepted, Refused, readFile}
 use Rattle.edit_format.specs.Written.{written}
-use Rattle.merging.specs.Lent.{Lent}
+use Rattle.merging.specs.Lent.{lentOf as given}
 use Rattle.to_diff.specs.Items.{diffOf}
 use Rattle.to_diff.specs.Answers.{verdictOn}
 use Rattle.edit_list.specs.Raws.{itemsIn}
 use Rattle.merge_files.specs.Program.{Result, merged, mergedOf, lentOf, leftOf, rightOf, sized, utf8}
-
--- what was lent to a merge
-abbrev pub given : List ℕ → List ℕ → List ℕ → List ℕ → Lent
-given original text spans keys = record { original = original; inserted = text; spans = spans; keys = keys }
 
 -- the edit file of a list
 abbrev pub diffResult : List ℕ → List ℕ → List ℕ → List ℕ → List ℕ → Result

@@ -14,6 +14,10 @@ pub record Lent : Type 0 where
   pub spans : List ℕ
   pub keys : List ℕ
 
+-- the same, by its parts
+abbrev pub lentOf : List ℕ → List ℕ → List ℕ → List ℕ → Lent
+lentOf original text spans keys = record { original = original; inserted = text; spans = spans; keys = keys }
+
 -- "Two tokens are equal when their keys are": the keys of count tokens from first on
 unfoldable pub keysOf : Lent → ℕ → ℕ → List ℕ
 keysOf lent first count = slice first (first + count) (lent .keys)

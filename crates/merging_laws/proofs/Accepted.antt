@@ -13,9 +13,9 @@ use Rattle.records.specs.declared.Cursor.{Cursor}
 use Rattle.records.specs.Tokens.{tokensFrom}
 use Rattle.cursors.specs.Sorted.{sorted}
 use Rattle.cursors.proofs.Sinks.{length-sorted}
-use Rattle.checks.specs.Texts.{total, claimedBy, insertedBy, textLength}
-use Rattle.checks.specs.Sizes.{merging, otherwise}
-use Rattle.checks.specs.Accepted.{AllIn, Within, AcceptedList}
+use Rattle.sizes.specs.Texts.{total, claimedBy, insertedBy, textLength}
+use Rattle.sizes.specs.Sizes.{merging, otherwise}
+use Rattle.shapes.specs.Accepted.{AllIn, Within, AcceptedList}
 use Rattle.merging.specs.declared.Op.{Op}
 use Rattle.merging.specs.Lent.{Lent, rulesOf, Lawful, lengthsOf, sum}
 use Rattle.merging.specs.Operations.{lengthOf, opsIn, opsFrom, recordsOf}

@@ -12,15 +12,15 @@ use borrow.Author.Tests.{eq-eqb, ne-eqb, le-leb}
 use Rattle.records.specs.declared.Operation.{Operation}
 use Rattle.records.specs.declared.Token.{Token}
 use Rattle.records.specs.Tokens.{tokensLent, tokensFrom, tokensLength}
-use Rattle.checks.specs.Texts.{total, runText, claimedBy, insertedBy, retainedBy, textLength, textFrom}
-use Rattle.checks.specs.Accepted.{Tiles, AllIn, Insert as Adds, Part, Shapes}
+use Rattle.sizes.specs.Texts.{total, runText, claimedBy, insertedBy, retainedBy, textLength, textFrom}
+use Rattle.shapes.specs.Accepted.{Tiles, AllIn, Insert as Adds, Part, Shapes}
 use Rattle.merging.specs.declared.Op.{Op}
 use Rattle.merging.specs.declared.Op.the-variants.{Delete, Insert, Retain}
 use Rattle.merging.specs.Lent.{Lent, lengthsOf, sum, spellingOf}
-use Rattle.merging.specs.Operations.{spanOf, lengthOf, opsFrom}
+use Rattle.merging.specs.Operations.{lengthOf, opsFrom}
 use Rattle.merging.specs.Outputs.{textOf}
 use Rattle.merging.specs.Tiling.{Tiled, totalOf, ofInsert, Inserts}
-use Rattle.merging.proofs.Decoded.{op-insert, op-delete, op-retain}
+use Rattle.merging.proofs.Decoded.{first-insert, first-delete, first-retain}
 
 -- "insert [..] with no tokens; token or range outside what was lent": count tokens from first on are not so
 pub record Run (lent : Lent) (first count : ℕ) : Type 0 where
@@ -37,17 +37,10 @@ ofRetain (Retain o l) = l
 -- a list, by its first record
 module _ (at : ℕ) (o : Operation) (os : List Operation) where
   ops-insert : o .kind ≡ 1 → opsFrom at (o ∷ os) ≡ Insert at (o .first) (o .count) ∷ opsFrom at os
-  unfolding opsFrom
-  ops-insert k =
-      ap (λ (a : Op). a ∷ opsFrom (at + spanOf a) os) (op-insert at o k) ∙ ap (λ (x : ℕ). Insert at (o .first) (o .count) ∷ opsFrom x os) (add-zero at)
-
-  ops-delete : o .kind ≡ 0 → opsFrom at (o ∷ os) ≡ Delete (o .order) (o .length) ∷ opsFrom (at + o .length) os
-  unfolding opsFrom
-  ops-delete k = ap (λ (a : Op). a ∷ opsFrom (at + spanOf a) os) (op-delete at o (λ e. omega arith) k)
+  ops-insert k = first-insert at o os k ∙ ap (λ (x : ℕ). Insert at (o .first) (o .count) ∷ opsFrom x os) (add-zero at)
 
   ops-retain : o .kind ≡ 2 → opsFrom at (o ∷ os) ≡ Retain (o .order) (o .length) ∷ opsFrom (at + o .length) os
-  unfolding opsFrom
-  ops-retain k = ap (λ (a : Op). a ∷ opsFrom (at + spanOf a) os) (op-retain at o (λ e. omega arith) (λ e. omega arith))
+  ops-retain k = first-retain at o os (λ e. omega arith) (λ e. omega arith)
 
 pub length-ops : (os : List Operation) (at : ℕ) → length (opsFrom at os) ≡ length os
 unfolding opsFrom
@@ -104,7 +97,7 @@ module _ (lent : Lent) (n : ℕ) where
   tiledFirst : (o : Operation) (os : List Operation) (at : ℕ) → First lent n o os at
       → ((to : ℕ) → Tiles n os to → Tiled (opsFrom to os) to n) → Tiled (opsFrom at (o ∷ os)) at n
   tiledFirst o os at (adds k r t) ih = rw (ops-insert at o os k) (refl, r .some, ih at t)
-  tiledFirst o os at (drops k p e t) ih = rw (ops-delete at o os k, e) (refl, p, ih (at + o .length) t)
+  tiledFirst o os at (drops k p e t) ih = rw (first-delete at o os k, e) (refl, p, ih (at + o .length) t)
   tiledFirst o os at (keeps k p e t) ih = rw (ops-retain at o os k, e) (refl, p, ih (at + o .length) t)
 
   pub tiled : (os : List Operation) (at : ℕ) → Listed lent n os at → Tiled (opsFrom at os) at n
@@ -117,7 +110,7 @@ module _ (lent : Lent) (n : ℕ) where
       → ((to : ℕ) → Tiles n os to → Inserts (Run lent) (opsFrom to os)) → Inserts (Run lent) (opsFrom at (o ∷ os))
   unfolding Inserts
   runsFirst o os at (adds k r t) ih = rw (ops-insert at o os k) (r, ih at t)
-  runsFirst o os at (drops k p e t) ih = rw (ops-delete at o os k) (ih (at + o .length) t)
+  runsFirst o os at (drops k p e t) ih = rw (first-delete at o os k) (ih (at + o .length) t)
   runsFirst o os at (keeps k p e t) ih = rw (ops-retain at o os k) (ih (at + o .length) t)
 
   pub runs : (os : List Operation) (at : ℕ) → Listed lent n os at → Inserts (Run lent) (opsFrom at os)
@@ -135,7 +128,7 @@ module _ (lent : Lent) (n : ℕ) where
           → ((to : ℕ) → Tiles n os to → total v os ≡ totalOf w (opsFrom to os)) → total v (o ∷ os) ≡ totalOf w (opsFrom at (o ∷ os))
       unfolding total totalOf
       totalFirst o os at (adds k r t) ih = rw (ops-insert at o os k) (omega (arith, ofAdds at o k r, ih at t))
-      totalFirst o os at (drops k p e t) ih = rw (ops-delete at o os k) (omega (arith, ofDrops o k, ih (at + o .length) t))
+      totalFirst o os at (drops k p e t) ih = rw (first-delete at o os k) (omega (arith, ofDrops o k, ih (at + o .length) t))
       totalFirst o os at (keeps k p e t) ih = rw (ops-retain at o os k) (omega (arith, ofKeeps o k, ih (at + o .length) t))
 
       totals : (os : List Operation) (at : ℕ) → Listed lent n os at → total v os ≡ totalOf w (opsFrom at os)
@@ -202,7 +195,7 @@ module _ (lent : Lent) (n : ℕ) where
   textFirst o os at (adds k r t) ih =
       rw (ops-insert at o os k, eq-eqb (o .kind) 1 k, textFrom) (ap (λ (s : List ℕ). spellingOf lent (o .first) (o .count) ++ s) (ih at t))
   textFirst o os at (drops k p e t) ih =
-      rw (ops-delete at o os k, ne-eqb (o .kind) 1 (λ z. omega arith), ne-eqb (o .kind) 2 (λ z. omega arith), textFrom) (ih (at + o .length) t)
+      rw (first-delete at o os k, ne-eqb (o .kind) 1 (λ z. omega arith), ne-eqb (o .kind) 2 (λ z. omega arith), textFrom) (ih (at + o .length) t)
   textFirst o os at (keeps k p e t) ih =
       rw (ops-retain at o os k, e, ne-eqb (o .kind) 1 (λ z. omega arith), eq-eqb (o .kind) 2 k, textFrom)
       (ap (λ (s : List ℕ). take (o .length) (drop at (lent .original)) ++ s) (ih (at + o .length) t))

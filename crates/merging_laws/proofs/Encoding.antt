@@ -8,7 +8,7 @@ use native.Mathlib.Omega.{arith}
 use native.Mathlib.Nat.{add-zero}
 use lib.ListN.{length}
 use Rattle.records.specs.declared.Operation.{Operation}
-use Rattle.checks.specs.Accepted.{Tiles, Shapes}
+use Rattle.shapes.specs.Accepted.{Tiles, Shapes}
 use Rattle.merging.specs.declared.Op.{Op}
 use Rattle.merging.specs.declared.Op.the-variants.{Delete, Insert, Retain}
 use Rattle.merging.specs.Lent.{Lent}

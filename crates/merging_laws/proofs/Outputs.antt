@@ -12,9 +12,9 @@ use Rattle.records.specs.Tokens.{tokensFrom, spelled, tokensLength}
 use Rattle.records.proofs.Tokens.{length-spell}
 use Rattle.diff.specs.Replay.{replayed, left, added}
 use Rattle.diff.specs.Checks.{fine, numbers, covers}
-use Rattle.checks.specs.declared.Limits.{Limits}
-use Rattle.checks.specs.Texts.{listText}
-use Rattle.checks.specs.Accepted.{AllIn, AcceptedList}
+use Rattle.sizes.specs.declared.Limits.{Limits}
+use Rattle.sizes.specs.Texts.{listText}
+use Rattle.shapes.specs.Accepted.{AllIn, AcceptedList}
 use Rattle.merging.specs.declared.Op.{Op}
 use Rattle.merging.specs.declared.Op.the-variants.{Delete, Insert, Retain}
 use Rattle.merging.specs.Lent.{Lent, lengthsOf, sum, spellingOf}

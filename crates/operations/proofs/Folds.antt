@@ -13,8 +13,8 @@ use lib.ListN.{length, take, getD}
 use Rattle.refusal.specs.declared.Refusal.the-variants as R
 use Rattle.room.specs.Choice.{pick}
 use Rattle.records.specs.declared.Operation.{Operation}
-use Rattle.checks.specs.declared.Verdict.the-variants.{Accepted, Refused}
-use Rattle.checks.specs.Tiling.{tilingFrom}
+use Rattle.verdict.specs.declared.Verdict.the-variants.{Accepted, Refused}
+use Rattle.shapes.specs.Tiling.{tilingFrom}
 use Rattle.operations.specs.declared.Tile.{Tile}
 use Rattle.operations.specs.Folds.{noOperation, movedTo, stoppedAt, tileStep, tileAll, tileEnd}
 

@@ -9,7 +9,7 @@ use native.Mathlib.Omega.{arith}
 use lib.ListN.{length, take, getD}
 use Rattle.records.specs.declared.Operation.{Operation}
 use Rattle.records.specs.Operations.{operationsFrom, operationsOf}
-use Rattle.checks.specs.Texts.{total, retainedBy, insertedBy, textLength}
+use Rattle.sizes.specs.Texts.{total, retainedBy, insertedBy, textLength}
 use Rattle.operations.specs.Folds.{noOperation, textBy, textAll}
 
 module _ (n : ℕ) (spans keys : List ℕ) where

@@ -6,9 +6,9 @@ use lib.Dec.{eqb, leb}
 use Rattle.refusal.specs.declared.Refusal.the-variants as R
 use Rattle.room.specs.Choice.{pick}
 use Rattle.records.specs.declared.Operation.{Operation}
-use Rattle.checks.specs.Texts.{retainedBy, insertedBy}
-use Rattle.checks.specs.declared.Verdict.{Verdict}
-use Rattle.checks.specs.declared.Verdict.the-variants.{Accepted, Refused}
+use Rattle.sizes.specs.Texts.{retainedBy, insertedBy}
+use Rattle.verdict.specs.declared.Verdict.{Verdict}
+use Rattle.verdict.specs.declared.Verdict.the-variants.{Accepted, Refused}
 use Rattle.operations.specs.declared.Tile.{Tile}
 
 -- what stands past a list's end

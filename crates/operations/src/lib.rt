@@ -2,8 +2,8 @@
 // the first to the last. What a walk does at one operation is a function of its own, on values.
 ghost use mathlib.Core.Path.{_≡_};
 ghost use Prim.Native.Nat.{_+_, min};
-ghost use Rattle.checks.specs.Texts.{textLength};
-ghost use Rattle.checks.specs.Tiling.{tilingOf};
+ghost use Rattle.sizes.specs.Texts.{textLength};
+ghost use Rattle.shapes.specs.Tiling.{tilingOf};
 ghost use Rattle.operations.specs.Folds.{movedTo, stoppedAt, tileStep, tileAll, tileEnd, textBy};
 
 // A walk over the tiles: the original's length, the operations seen, how much they consume, and
@@ -82,20 +82,20 @@ pub fn tile_all(operations: &[records::Operation], start: Tile) -> Tile
     t
 }
 
-pub fn tile_end(t: Tile) -> checks::Verdict
+pub fn tile_end(t: Tile) -> verdict::Verdict
     ensures { λ r. ⌜ r ≡ tileEnd t ⌝ }
 {
     let index = t.index;
     if t.good {
         if t.at == t.n {
-            return checks::Verdict::Accepted;
+            return verdict::Verdict::Accepted;
         }
     }
-    checks::Verdict::Refused(refusal::Refusal::Tiling { index })
+    verdict::Verdict::Refused(refusal::Refusal::Tiling { index })
 }
 
 // Refusal 2 of a list over an original of n code points.
-pub fn check_tiling(n: usize, operations: &[records::Operation]) -> checks::Verdict
+pub fn check_tiling(n: usize, operations: &[records::Operation]) -> verdict::Verdict
     ensures { λ r. ⌜ r ≡ tilingOf n (now (operations .entry)) ⌝ }
 {
     tile_end(tile_all(
@@ -120,9 +120,9 @@ pub fn text_step(spans: &[u32], keys: &[u32], n: usize, sum: usize, o: records::
     ensures { λ r. ⌜ r ≡ min 1000000 (sum + textBy n (now (spans .entry)) (now (keys .entry)) o) ⌝ }
 {
     let alone = [o.kind, o.order, o.length, o.side, o.first, o.count];
-    let more = checks::text_length(spans, keys, n, &alone);
+    let more = sizes::text_length(spans, keys, n, &alone);
     let before = at_most(sum, 1000000);
-    checks::capped(before, more)
+    sizes::capped(before, more)
 }
 
 // The length of a list's text, capped: that of an accepted list is below the cap. n is the length of

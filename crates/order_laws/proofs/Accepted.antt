@@ -10,8 +10,8 @@ use lib.ListN.{length, getD}
 use Rattle.records.specs.declared.Operation.{Operation}
 use Rattle.records.specs.declared.Cursor.{Cursor}
 use Rattle.records.specs.Tokens.{tokensFrom}
-use Rattle.checks.specs.declared.Limits.{Limits}
-use Rattle.checks.specs.Accepted.{AllIn, AcceptedList}
+use Rattle.sizes.specs.declared.Limits.{Limits}
+use Rattle.shapes.specs.Accepted.{AllIn, AcceptedList}
 use Rattle.merging.specs.declared.Op.{Op}
 use Rattle.merging.specs.declared.Op.the-variants.{Delete, Insert, Retain}
 use Rattle.merging.specs.Lent.{Lent}

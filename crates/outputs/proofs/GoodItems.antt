@@ -1,8 +1,8 @@
 -- Shown: the diff of an accepted list has no zero, no empty text and no two retains in a row, and keeps the sizes of edit files; and it
 -- mentions all of the original.
 -- How: by induction on the operations, which tile the original, none being empty.
-use Prim.Native.Nat.{ℕ, zero, suc, _+_, _<_}
-use mathlib.Core.Path.{_≡_, refl, ap}
+use Prim.Native.Nat.{ℕ, _+_, _<_}
+use mathlib.Core.Path.{_≡_, refl}
 use mathlib.Core.Bool.{true, false, not}
 use mathlib.Core.List.{List, [], _∷_}
 use native.Mathlib.Omega.{arith}
@@ -12,14 +12,16 @@ use borrow.Author.Tests.{le-leb}
 use Rattle.records.specs.declared.Operation.{Operation}
 use Rattle.records.specs.declared.Token.{Token}
 use Rattle.records.specs.Tokens.{tokensFrom, spelled, tokensLength}
+use Rattle.records.proofs.Tokens.{length-from}
 use Rattle.diff.specs.Replay.{Edit, retain, delete, insert, mentioned}
-use Rattle.checks.specs.declared.Verdict.the-variants.{Accepted}
-use Rattle.checks.specs.Sizes.{otherwise}
-use Rattle.checks.specs.Points.{pointsFrom}
+use Rattle.verdict.specs.declared.Verdict.the-variants.{Accepted}
+use Rattle.sizes.specs.Sizes.{otherwise}
+use Rattle.verdict.specs.Points.{pointsFrom}
 use Rattle.checks.specs.Lists.{listVerdict}
-use Rattle.checks.specs.Accepted.{AllIn, AcceptedList}
-use Rattle.checks.proofs.Chains.{first-passed, rest-passed}
-use Rattle.checks.proofs.Accepted.{accepted-list, spelled-length}
+use Rattle.shapes.specs.Accepted.{AllIn, AcceptedList}
+use Rattle.verdict.proofs.Chains.{first-passed, rest-passed}
+use Rattle.shapes.proofs.Accepted.{spelled-length}
+use Rattle.checks.proofs.Accepted.{accepted-list}
 use Rattle.edit_format.specs.Tests.{both}
 use Rattle.edit_format.specs.Items.{Keep, kept, dropped, allPoints, itemsGood, Good}
 use Rattle.edit_format.proofs.Picks.{both-1}
@@ -43,11 +45,6 @@ unfolding AllIn tokensLength
 some-spelled text [] a h = absurd (omega arith)
 some-spelled text (t ∷ ts) a h = omega (arith, spelled-length text (t ∷ ts) a, a .0)
 
-length-tokens : (spans keys : List ℕ) (i k : ℕ) → length (tokensFrom spans keys i k) ≡ k
-unfolding tokensFrom
-length-tokens spans keys i zero = refl
-length-tokens spans keys i (suc k) = ap suc (length-tokens spans keys (i + 1) k)
-
 -- a retain joined in front
 good-joined : (l : ℕ) (es : List Edit) → 0 < l → itemsGood false (itemsOf es) ≡ true → itemsGood false (itemsOf (joined l es)) ≡ true
 unfolding itemsGood itemsOf itemOf
@@ -64,7 +61,7 @@ good-diff lent [] at n p t i = refl
 good-diff lent (Delete o l ∷ ls) at n p t i = rw (le-leb 1 l (omega (arith, t .1))) (good-diff lent ls (o + l) n p (t .2) i)
 good-diff lent (Insert o f k ∷ ls) at n p t i =
     let ts : List Token = tokensFrom (lent .spans) (lent .keys) f k in
-    let s = some-spelled (lent .inserted) ts (i .0 .tokens) (omega (arith, length-tokens (lent .spans) (lent .keys) f k, t .1)) in
+    let s = some-spelled (lent .inserted) ts (i .0 .tokens) (omega (arith, length-from (lent .spans) (lent .keys) f k, t .1)) in
     rw (le-leb 1 (length (spelled (lent .inserted) ts)) (omega arith), points-spelled (lent .inserted) ts p) (good-diff lent ls at n p (t .2) (i .1))
 good-diff lent (Retain o l ∷ ls) at n p t i = good-joined l (toDiff lent ls) (t .1) (good-diff lent ls (o + l) n p (t .2) i)
 

@@ -8,19 +8,14 @@ use native.Mathlib.Omega.{arith}
 use lib.ListN.{take, drop}
 use lib.Dec.{ltb, leb}
 use borrow.Author.Tests.{ltb-true, ltb-false, leb-true, le-leb, lt-leb}
-use Rattle.refusal.specs.declared.Refusal.{Refusal}
 use Rattle.refusal.specs.declared.Refusal.the-variants.{CodePoint}
 use Rattle.records.specs.declared.Token.{Token}
 use Rattle.records.specs.Tokens.{spell, spelled}
-use Rattle.checks.specs.declared.Verdict.{Verdict}
-use Rattle.checks.specs.declared.Verdict.the-variants.{Accepted, Refused}
-use Rattle.checks.specs.Points.{isPoint as isPointOf, pointsFrom}
-use Rattle.edit_format.specs.Tests.{both}
+use Rattle.verdict.specs.declared.Verdict.the-variants.{Accepted}
+use Rattle.verdict.specs.Points.{isPoint as isPointOf, pointsFrom}
+use Rattle.verdict.proofs.Chains.{went}
 use Rattle.edit_format.specs.Items.{isPoint, allPoints}
 use Rattle.edit_format.proofs.Picks.{both-0, both-1, apart}
-
-never : {r : Refusal} → _≡_ {A = Verdict} (Refused r) Accepted → ⊥
-never e = let z : _≡_ {A = ℕ} 0 1 = cc in omega arith
 
 -- the two readings of refusal 4's rule
 same-point : (c : ℕ) → isPointOf c ≡ true → isPoint c ≡ true
@@ -39,12 +34,9 @@ same-point c h = go (ltb c 55296) (ltb 57343 c) (leb c 1114111) refl refl refl h
 pub all-points : (t : List ℕ) (i : ℕ) → pointsFrom t i ≡ Accepted → allPoints t ≡ true
 unfolding pointsFrom allPoints
 all-points [] i h = refl
-all-points (c ∷ cs) i h = go (isPointOf c) refl h (λ e. all-points cs (i + 1) e)
-  where
-    go : (b : Bool) → isPointOf c ≡ b → elim b [ true ↦ pointsFrom cs (i + 1) | false ↦ Refused (CodePoint i) ] ≡ Accepted
-        → (pointsFrom cs (i + 1) ≡ Accepted → allPoints cs ≡ true) → both (isPoint c) (allPoints cs) ≡ true
-    go true e f k = rw (same-point c e, k f)
-    go false e f k = absurd (never f)
+all-points (c ∷ cs) i h =
+    let w = went (isPointOf c) (pointsFrom cs (i + 1)) (CodePoint i) h in
+    rw (same-point c (w .0), all-points cs (i + 1) (w .1))
 
 -- the parts of a text
 points-range : (s n : ℕ) (t : List ℕ) → allPoints t ≡ true → allPoints (take n (drop s t)) ≡ true

@@ -18,11 +18,11 @@ use Rattle.diff.specs.Items as D
 use Rattle.diff.specs.Replay.{Edit, retain, delete, insert, editOf, editsOf, replayed}
 use Rattle.diff.specs.Checks.{fine, fits}
 use Rattle.diff.specs.Answers.{diff, edits, textOf, covering, roomed, Replayed}
-use Rattle.checks.specs.declared.Verdict.{Verdict}
-use Rattle.checks.specs.declared.Verdict.the-variants.{Accepted, Refused}
-use Rattle.checks.specs.Verdicts.{andThen as thenCheck}
-use Rattle.checks.specs.Sizes.{otherwise}
-use Rattle.checks.specs.Texts.{listText}
+use Rattle.verdict.specs.declared.Verdict.{Verdict}
+use Rattle.verdict.specs.declared.Verdict.the-variants.{Accepted, Refused}
+use Rattle.verdict.specs.Verdicts.{andThen as thenCheck}
+use Rattle.sizes.specs.Sizes.{otherwise}
+use Rattle.sizes.specs.Texts.{listText}
 use Rattle.edit_format.specs.Items.{Item, Keep, Drop, Add, texts, Good}
 use Rattle.edit_format.specs.Records.{recordsOf}
 use Rattle.edit_format.proofs.RecordLaws.{length-records}

@@ -17,18 +17,18 @@ use Rattle.cursors.specs.Sorted.{sorted}
 use Rattle.refusal.specs.declared.Counted.{Counted}
 use Rattle.refusal.specs.declared.Counted.the-variants.{Count}
 use Rattle.diff.specs.Answers.{diff, covering, Replayed}
-use Rattle.checks.specs.declared.Verdict.{Verdict}
-use Rattle.checks.specs.declared.Verdict.the-variants.{Accepted, Refused}
-use Rattle.checks.specs.Verdicts.{andThen}
-use Rattle.checks.specs.Sizes.{otherwise}
-use Rattle.checks.specs.Accepted.{AcceptedList}
+use Rattle.verdict.specs.declared.Verdict.{Verdict}
+use Rattle.verdict.specs.declared.Verdict.the-variants.{Accepted, Refused}
+use Rattle.verdict.specs.Verdicts.{andThen, roomed}
+use Rattle.sizes.specs.Sizes.{otherwise}
+use Rattle.shapes.specs.Accepted.{AcceptedList}
 use Rattle.checks.proofs.Accepted.{accepted-list}
 use Rattle.merging.specs.Lent.{Lent}
 use Rattle.merging.specs.Outputs.{Span, spelledBy, ofText, ofOriginal, historyText, flatSpans}
 use Rattle.merging_laws.proofs.Outputs.{agrees}
 use Rattle.apply.specs.declared.Applied.the-variants as A
 use Rattle.apply.specs.declared.WithHistory.the-variants as H
-use Rattle.apply.specs.Answers.{verdictOn, textOn, historyOn, fits, roomed, applyVerdict, historyVerdict, applied, told, Applies, Tells}
+use Rattle.apply.specs.Answers.{verdictOn, textOn, historyOn, fits, applyVerdict, historyVerdict, applied, told, Applies, Tells}
 use Rattle.to_diff.specs.declared.Diffed.the-variants.{Counts}
 use Rattle.to_diff.specs.Answers.{Diffs}
 use Rattle.outputs.specs.Spans.{spanAt, spansFrom}

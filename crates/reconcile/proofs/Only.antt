@@ -5,7 +5,7 @@ use mathlib.Core.Path.{_≡_, sym, _∙_, ap}
 use mathlib.Core.List.{List}
 use lib.IntN.{ℤ}
 use Rattle.refusal.specs.declared.Counted.{Counted}
-use Rattle.checks.specs.declared.Verdict.{Verdict}
+use Rattle.verdict.specs.declared.Verdict.{Verdict}
 use Rattle.elongate.specs.declared.Answer.{Answer}
 use Rattle.elongate.specs.Verdicts.{Elongates}
 use Rattle.edit_format.specs.Items.{Item}

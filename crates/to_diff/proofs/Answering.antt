@@ -13,19 +13,19 @@ use Rattle.records.specs.declared.Operation.{Operation}
 use Rattle.records.specs.Cursors.{cursorsFrom, cursorsOf}
 use Rattle.records.specs.Tokens.{spelling}
 use Rattle.diff.specs.Replay.{Edit, delete, insert}
-use Rattle.checks.specs.declared.Limits.{Limits}
-use Rattle.checks.specs.declared.Verdict.{Verdict}
-use Rattle.checks.specs.declared.Verdict.the-variants.{Accepted, Refused}
-use Rattle.checks.specs.Verdicts.{andThen}
-use Rattle.checks.specs.Sizes.{Small, otherwise}
+use Rattle.sizes.specs.declared.Limits.{Limits}
+use Rattle.verdict.specs.declared.Verdict.{Verdict}
+use Rattle.verdict.specs.declared.Verdict.the-variants.{Accepted, Refused}
+use Rattle.verdict.specs.Verdicts.{andThen, roomed}
+use Rattle.sizes.specs.Sizes.{otherwise}
 use Rattle.checks.specs.Lists.{listVerdict}
-use Rattle.checks.specs.Accepted.{AcceptedList}
+use Rattle.shapes.specs.Accepted.{AcceptedList}
 use Rattle.checks.proofs.Accepted.{accepted-list}
 use Rattle.edit_format.specs.Items.{added, texts}
 use Rattle.edit_format.proofs.TextLaws.{texts-length}
 use Rattle.merging.specs.declared.Op.{Op}
 use Rattle.merging.specs.declared.Op.the-variants.{Delete, Insert, Retain}
-use Rattle.merging.specs.Lent.{Lent}
+use Rattle.merging.specs.Lent.{Lent, lentOf}
 use Rattle.merging.specs.Operations.{opsFrom}
 use Rattle.merging.specs.Outputs.{joined, toDiff}
 use Rattle.merging.specs.Tiling.{Inserts}
@@ -33,15 +33,12 @@ use Rattle.merging_laws.proofs.Decoding.{Run, Listed, tiled, runs}
 use Rattle.merging_laws.proofs.Outputs.{diff-fits}
 use Rattle.to_diff.specs.declared.Diffed.the-variants.{Counts, Refused as No}
 use Rattle.to_diff.specs.declared.Sizes.{Sizes}
-use Rattle.to_diff.specs.Items.{itemsOf, diffOf, lentOf}
+use Rattle.to_diff.specs.Items.{itemsOf, diffOf}
 use Rattle.to_diff.specs.Answers.{verdictOn, roomFor, verdictIn, lengthsOf, Diffs}
 use Rattle.to_diff.specs.Writes.{Spells, items, Ready, Measures, Fits, Wrote}
 use Rattle.to_diff.proofs.Joining.{length-items, added-items}
 
--- the sizes for diffs are small, and no cursors are none
-pub others-small : {l : Limits} → l ≡ otherwise → Small l
-others-small e = rw e (record { tokens = omega arith; text = omega arith })
-
+-- no cursors are none
 no-cursors : (xs : List ℕ) → length xs ≡ 0 → cursorsOf xs ≡ []
 unfolding cursorsOf cursorsFrom
 no-cursors [] e = refl
@@ -110,13 +107,13 @@ module _ (original text spans keys : List ℕ) (os : List Operation) where
 
     module _ (d : List ℤ) (e : List ℕ) where
       pub items-short : length d / 3 < s .items → Diffs (lentOf original text spans keys) os d e d e (No Room)
-      unfolding verdictIn roomFor andThen
+      unfolding verdictIn roomFor roomed andThen
       items-short l =
           let t = lt-leb (3 * length (diffOf (lentOf original text spans keys) os)) (length d) (omega (arith, many)) in
           record { answer = rw (h, t); items = rw (h, t); text = rw (h, t) }
 
       pub text-short : s .items ≤ length d / 3 → length e < s .text → Diffs (lentOf original text spans keys) os d e d e (No Room)
-      unfolding verdictIn roomFor andThen
+      unfolding verdictIn roomFor roomed andThen
       text-short k l =
           let t = le-leb (3 * length (diffOf (lentOf original text spans keys) os)) (length d) (omega (arith, many)) in
           let u = lt-leb (length (texts (diffOf (lentOf original text spans keys) os))) (length e) (omega (arith, long)) in
@@ -127,7 +124,7 @@ module _ (original text spans keys : List ℕ) (os : List Operation) where
 
       pub writes : {d′ : List ℤ} {e′ : List ℕ} → s .items ≤ length d / 3 → s .text ≤ length e → Wrote (items text spans keys os) d e d′ e′
           → Diffs (lentOf original text spans keys) os d e d′ e′ (Counts (s .items) (s .text))
-      unfolding verdictIn roomFor andThen
+      unfolding verdictIn roomFor roomed andThen
       writes k l w =
           let t = le-leb (3 * length (diffOf (lentOf original text spans keys) os)) (length d) (omega (arith, many)) in
           let u = le-leb (length (texts (diffOf (lentOf original text spans keys) os))) (length e) (omega (arith, long)) in

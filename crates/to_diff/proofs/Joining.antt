@@ -8,29 +8,10 @@ use native.Mathlib.Omega.{arith}
 use native.Mathlib.Nat.{add-assoc}
 use lib.ListN.{length}
 use Rattle.diff.specs.Replay.{Edit, retain, delete, insert, added as addedBy}
-use Rattle.records.specs.declared.Operation.{Operation}
 use Rattle.edit_format.specs.Items.{Drop, Add, added}
-use Rattle.merging.specs.declared.Op.{Op}
-use Rattle.merging.specs.declared.Op.the-variants.{Delete, Insert, Retain}
-use Rattle.merging.specs.Operations.{spanOf, opsFrom}
 use Rattle.merging.specs.Outputs.{joined}
-use Rattle.merging.proofs.Decoded.{op-insert, op-delete, op-retain}
 use Rattle.to_diff.specs.Items.{itemOf, itemsOf}
 use Rattle.to_diff.specs.Writes.{keeps}
-
--- a list, by the kind of its first record
-module _ (at : ℕ) (o : Operation) (os : List Operation) where
-  pub first-insert : o .kind ≡ 1 → opsFrom at (o ∷ os) ≡ Insert at (o .first) (o .count) ∷ opsFrom (at + 0) os
-  unfolding opsFrom
-  first-insert k = ap (λ (a : Op). a ∷ opsFrom (at + spanOf a) os) (op-insert at o k)
-
-  pub first-delete : o .kind ≡ 0 → opsFrom at (o ∷ os) ≡ Delete (o .order) (o .length) ∷ opsFrom (at + o .length) os
-  unfolding opsFrom
-  first-delete k = ap (λ (a : Op). a ∷ opsFrom (at + spanOf a) os) (op-delete at o (λ e. omega arith) k)
-
-  pub first-retain : (o .kind ≡ 1 → ⊥) → (o .kind ≡ 0 → ⊥) → opsFrom at (o ∷ os) ≡ Retain (o .order) (o .length) ∷ opsFrom (at + o .length) os
-  unfolding opsFrom
-  first-retain n m = ap (λ (a : Op). a ∷ opsFrom (at + spanOf a) os) (op-retain at o n m)
 
 -- items are as many as edits, and add what they add
 pub length-items : (es : List Edit) → length (itemsOf es) ≡ length es

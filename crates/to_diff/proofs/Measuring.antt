@@ -6,23 +6,25 @@ use mathlib.Core.Bool.{Bool, true, false}
 use mathlib.Core.List.{List, [], _∷_}
 use native.Mathlib.Omega.{arith}
 use lib.ListN.{length}
+use Rattle.merging.specs.Lent.{lentOf}
 use Rattle.diff.specs.Replay.{Edit, retain, insert}
 use Rattle.records.specs.declared.Operation.{Operation}
 use Rattle.records.specs.declared.Token.{Token}
 use Rattle.records.specs.Operations.{operationAt, operationsFrom, operationsOf}
 use Rattle.records.specs.Tokens.{tokensFrom, spelling}
 use Rattle.records.proofs.Operations.{from-more, from-none}
-use Rattle.checks.specs.Texts.{runText}
-use Rattle.checks.proofs.Accepted.{run-length, spelled-length}
+use Rattle.sizes.specs.Texts.{runText}
+use Rattle.shapes.proofs.Accepted.{run-length, spelled-length}
 use Rattle.edit_format.specs.Items.{added}
 use Rattle.merging.specs.declared.Op.{Op}
 use Rattle.merging.specs.Operations.{opsFrom}
 use Rattle.merging.specs.Outputs.{toDiff}
 use Rattle.merging.specs.Tiling.{totalOf, ofInsert, Inserts}
 use Rattle.merging.proofs.OutputLaws.{diff-added}
-use Rattle.to_diff.specs.Items.{lentOf, diffOf}
+use Rattle.merging.proofs.Decoded.{first-insert, first-delete, first-retain}
+use Rattle.to_diff.specs.Items.{diffOf}
 use Rattle.to_diff.specs.Writes.{Spells, items, Ready, Measures}
-use Rattle.to_diff.proofs.Joining.{first-insert, first-delete, first-retain, length-items, added-items, behind, behind-first, behind-joined, behind-delete, behind-insert}
+use Rattle.to_diff.proofs.Joining.{length-items, added-items, behind, behind-first, behind-joined, behind-delete, behind-insert}
 
 -- the operation at a place, and those behind it
 pub at-place : (ops : List ℕ) (i n : ℕ) (o : Operation) → i < n → o ≡ operationAt ops i

@@ -6,6 +6,7 @@ use mathlib.Core.List.{List, [], _∷_, _++_, append-assoc, append-nil}
 use native.Mathlib.Omega.{arith}
 use lib.ListN.{length, length-append}
 use lib.IntN.{ℤ}
+use Rattle.merging.specs.Lent.{lentOf}
 use Rattle.diff.specs.Replay.{Edit, retain, delete, insert}
 use Rattle.room.specs.Placed.{placed, answered}
 use Rattle.room.proofs.Answers.{one-more, same-room}
@@ -22,9 +23,10 @@ use Rattle.merging.specs.Operations.{opsFrom}
 use Rattle.merging.specs.Outputs.{toDiff}
 use Rattle.merging.specs.Tiling.{Tiled, Inserts}
 use Rattle.merging.proofs.OneTurn.{tiled-le}
-use Rattle.to_diff.specs.Items.{lentOf, itemOf, itemsOf, diffOf}
+use Rattle.merging.proofs.Decoded.{first-insert, first-delete, first-retain}
+use Rattle.to_diff.specs.Items.{itemOf, itemsOf, diffOf}
 use Rattle.to_diff.specs.Writes.{keeps, Spells, items, Ready, Fits, Kept, Inserted, Wrote}
-use Rattle.to_diff.proofs.Joining.{first-insert, first-delete, first-retain, pended, pend-more, pend-none, pend-delete, pend-insert}
+use Rattle.to_diff.proofs.Joining.{pended, pend-more, pend-none, pend-delete, pend-insert}
 use Rattle.to_diff.proofs.Measuring.{at-place}
 
 -- a retain that was held back adds no text

@@ -6,14 +6,11 @@ use mathlib.Core.List.{List, []}
 use lib.ListN.{length}
 use lib.IntN.{ℤ}
 use lib.Dec.{leb}
-use Rattle.refusal.specs.declared.Refusal.the-variants.{Room}
-use Rattle.room.specs.Choice.{pick}
-use Rattle.room.specs.Placed.{answered}
 use Rattle.records.specs.declared.Operation.{Operation}
-use Rattle.checks.specs.declared.Verdict.{Verdict}
-use Rattle.checks.specs.declared.Verdict.the-variants.{Accepted, Refused}
-use Rattle.checks.specs.Verdicts.{andThen}
-use Rattle.checks.specs.Sizes.{otherwise}
+use Rattle.verdict.specs.declared.Verdict.{Verdict}
+use Rattle.verdict.specs.declared.Verdict.the-variants.{Accepted, Refused}
+use Rattle.verdict.specs.Verdicts.{andThen, roomed, leaves}
+use Rattle.sizes.specs.Sizes.{otherwise}
 use Rattle.checks.specs.Lists.{listVerdict}
 use Rattle.edit_format.specs.Items.{Item, texts}
 use Rattle.edit_format.specs.Records.{recordsOf}
@@ -28,7 +25,7 @@ verdictOn lent os = listVerdict otherwise (lent .original) (lent .inserted) (len
 
 -- "All others: the exact length of the answer": rooms of so many numbers and so many code points; a record is three numbers
 unfoldable pub roomFor : List Item → ℕ → ℕ → Verdict
-roomFor is a b = pick (leb (3 * length is) a && leb (length (texts is)) b) Accepted (Refused Room)
+roomFor is a b = roomed (leb (3 * length is) a && leb (length (texts is)) b)
 
 -- "Order for lists: 3, 4, 1, 2, 5, 7"
 unfoldable pub verdictIn : Lent → List Operation → List ℤ → List ℕ → Verdict
@@ -42,11 +39,6 @@ answerOf (Refused r) is = No r
 -- "All others: the exact length of the answer": how much to lend, or the refusal
 unfoldable pub lengthsOf : Lent → List Operation → Diffed
 lengthsOf lent os = answerOf (verdictOn lent os) (diffOf lent os)
-
--- "A refusal writes nothing. On success a room past its answer is unchanged"
-abbrev pub leaves : {A : Type 0} → Verdict → List A → List A → List A
-leaves Accepted s d = answered s d
-leaves (Refused r) s d = d
 
 -- "A public call's statement covers its result, numbers of a refusal included, and the lent buffers": a list's diff with its checks,
 -- into two rooms: the answer, and the rooms afterwards

@@ -1,5 +1,4 @@
 -- The diff of a list of operation records, as items and their text. Assumes nothing.
-use Prim.Native.Nat.{ℕ}
 use mathlib.Core.List.{List, [], _∷_}
 use Rattle.records.specs.declared.Operation.{Operation}
 use Rattle.diff.specs.Replay.{Edit, retain, delete, insert}
@@ -22,7 +21,3 @@ itemsOf (e ∷ es) = itemOf e ∷ itemsOf es
 -- "to_diff: retains positive with neighbours joined, deletes negative and never joined, inserts as text.": of a list's records
 unfoldable pub diffOf : Lent → List Operation → List Item
 diffOf lent os = itemsOf (toDiff lent (opsFrom 0 os))
-
--- "All lists of one call share one lent inserted text": what is lent beside the list, by its parts
-abbrev pub lentOf : List ℕ → List ℕ → List ℕ → List ℕ → Lent
-lentOf original text spans keys = record { original = original; inserted = text; spans = spans; keys = keys }

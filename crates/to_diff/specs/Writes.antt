@@ -7,13 +7,14 @@ use lib.IntN.{ℤ}
 use Rattle.room.specs.Placed.{placed, answered}
 use Rattle.records.specs.declared.Operation.{Operation}
 use Rattle.records.specs.Tokens.{tokensLent, tokensFrom}
-use Rattle.checks.specs.Accepted.{AllIn}
+use Rattle.shapes.specs.Accepted.{AllIn}
+use Rattle.merging.specs.Lent.{lentOf}
 use Rattle.edit_format.specs.Items.{Item, Keep, Add, added, texts}
 use Rattle.edit_format.specs.Records.{recordOf, recordsOf}
 use Rattle.merging.specs.Operations.{opsFrom}
 use Rattle.merging.specs.Tiling.{Tiled, Inserts}
 use Rattle.to_diff.specs.declared.Sizes.{Sizes}
-use Rattle.to_diff.specs.Items.{diffOf, lentOf}
+use Rattle.to_diff.specs.Items.{diffOf}
 
 -- "retains positive with neighbours joined": a joined retain that is not written yet; 0 is none
 unfoldable pub keeps : ℕ → List Item

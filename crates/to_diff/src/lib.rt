@@ -11,7 +11,7 @@ ghost use Rattle.records.specs.Tokens.{spelling};
 ghost use Rattle.words.specs.Words.{Lends};
 ghost use Rattle.edit_format.specs.Items.{Drop};
 ghost use Rattle.edit_format.specs.Records.{recordOf};
-ghost use Rattle.to_diff.specs.Items.{lentOf};
+ghost use Rattle.merging.specs.Lent.{lentOf};
 ghost use Rattle.to_diff.specs.Answers.{verdictOn, lengthsOf, Diffs};
 ghost use Rattle.to_diff.specs.Writes.{keeps, items, Ready, Kept, Inserted, Measures, Fits, Wrote};
 use refusal::Refusal;
@@ -109,7 +109,7 @@ fn measure(text: &[u32], spans: &[u32], keys: &[u32], operations: &[usize]) -> S
         let r = records::operation_at(operations, i);
         let next = i + 1;
         if r.kind == 1 {
-            size += checks::run_text(spans, keys, lent, r.first, r.count);
+            size += sizes::run_text(spans, keys, lent, r.first, r.count);
             found += 1;
             joins = false;
             i = next;
@@ -178,10 +178,10 @@ fn check(
     spans: &[u32],
     keys: &[u32],
     operations: &[usize],
-) -> checks::Verdict
+) -> verdict::Verdict
     ensures { λ r. ⌜ r ≡ verdictOn (lentOf (now (original .entry)) (now (text .entry)) (now (spans .entry)) (now (keys .entry))) (operationsOf (now (operations .entry))) ⌝ }
 {
-    let limits = checks::other_limits();
+    let limits = sizes::other_limits();
     checks::check_list(
         limits,
         original,
@@ -204,8 +204,8 @@ pub fn to_diff_lengths(
     ensures { λ r. ⌜ r ≡ lengthsOf (lentOf (now (original .entry)) (now (text .entry)) (now (spans .entry)) (now (keys .entry))) (operationsOf (now (operations .entry))) ⌝ }
 {
     match check(original, text, spans, keys, operations) {
-        checks::Verdict::Refused(refusal) => Diffed::Refused(refusal),
-        checks::Verdict::Accepted => {
+        verdict::Verdict::Refused(refusal) => Diffed::Refused(refusal),
+        verdict::Verdict::Accepted => {
             let sizes = measure(text, spans, keys, operations);
             Diffed::Counts {
                 items: sizes.items,
@@ -228,8 +228,8 @@ pub fn to_diff(
     ensures { λ r. ⌜ Diffs (lentOf (now (original .entry)) (now (text .entry)) (now (spans .entry)) (now (keys .entry))) (operationsOf (now (operations .entry))) (now (room .entry)) (now (out .entry)) (now (room .exit)) (now (out .exit)) r ⌝ }
 {
     match check(original, text, spans, keys, operations) {
-        checks::Verdict::Refused(refusal) => Diffed::Refused(refusal),
-        checks::Verdict::Accepted => {
+        verdict::Verdict::Refused(refusal) => Diffed::Refused(refusal),
+        verdict::Verdict::Accepted => {
             let sizes = measure(text, spans, keys, operations);
             if room.len() / 3 < sizes.items {
                 return Diffed::Refused(Refusal::Room);

@@ -10,7 +10,7 @@ use Rattle.diff.proofs.Building.{placed-none, placed-length, placed-more}
 use Rattle.records.specs.declared.Token.{Token}
 use Rattle.records.specs.Tokens.{tokenAt, tokensFrom, spell, spelled, spelling}
 use Rattle.records.proofs.Tokens.{from-more, from-none, length-spell}
-use Rattle.checks.specs.Accepted.{AllIn}
+use Rattle.shapes.specs.Accepted.{AllIn}
 use Rattle.words.specs.Words.{Lends}
 
 module _ (text spans keys : List ℕ) (first count : ℕ) (d : List ℕ) (at : ℕ) where

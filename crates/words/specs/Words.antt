@@ -3,7 +3,7 @@ use Prim.Native.Nat.{ℕ, _+_, _≤_}
 use mathlib.Core.List.{List}
 use lib.ListN.{length}
 use Rattle.records.specs.Tokens.{tokensLent, tokensFrom, spelling}
-use Rattle.checks.specs.Accepted.{AllIn}
+use Rattle.shapes.specs.Accepted.{AllIn}
 
 -- "token or range outside what was lent": not so; and the room d has place for the spelling from `at` on
 pub record Lends (text spans keys : List ℕ) (first count : ℕ) (d : List ℕ) (at : ℕ) : Type 0 where

@@ -2,7 +2,7 @@
 -- Each way is a law of ApplyWays. Assumes nothing.
 use Rattle.apply.proofs.ApplyWays.{apply-stops, apply-no-room, apply-asks, apply-sorts, apply-writes}
 use borrow.Author.Tests.{not-true, not-false}
-use Rattle.apply.specs.Parts.{lentOf}
+use Rattle.merging.specs.Lent.{lentOf}
 use Rattle.records.specs.Cursors.{cursorsOf}
 use Rattle.records.specs.Operations.{operationsOf}
 use borrow.Author.Needs.{needs}

@@ -2,7 +2,7 @@
 -- Each way is a law of AllWays. Assumes nothing.
 use Rattle.apply.proofs.AllWays.{all-stops, all-no-room, all-no-history, all-asks, all-sorts, all-writes}
 use borrow.Author.Tests.{not-true, not-false}
-use Rattle.apply.specs.Parts.{lentOf}
+use Rattle.merging.specs.Lent.{lentOf}
 use Rattle.records.specs.Cursors.{cursorsOf}
 use Rattle.records.specs.Operations.{operationsOf}
 use borrow.Author.Needs.{needs}

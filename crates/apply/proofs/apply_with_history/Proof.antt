@@ -2,7 +2,7 @@
 -- Each way is a law of HistoryWays. Assumes nothing.
 use Rattle.apply.proofs.HistoryWays.{history-stops, history-no-room, history-asks, history-writes}
 use borrow.Author.Tests.{not-true, not-false}
-use Rattle.apply.specs.Parts.{lentOf}
+use Rattle.merging.specs.Lent.{lentOf}
 use Rattle.records.specs.Operations.{operationsOf}
 use borrow.Author.Needs.{needs}
 use Rattle.apply.proofs.apply_with_history.Statement.{statement}

@@ -1,8 +1,9 @@
 -- `apply_with_history_lengths` counts what `apply_with_history` writes.
 -- By the verdict, as Answering says. Assumes nothing.
-use Rattle.apply.proofs.Answering.{small, judged-none, told-refuse, told-count}
+use Rattle.sizes.proofs.Fits.{other-small}
+use Rattle.apply.proofs.Answering.{judged-none, told-refuse, told-count}
 use Rattle.records.proofs.Operations.{length-of}
-use Rattle.apply.specs.Parts.{lentOf}
+use Rattle.merging.specs.Lent.{lentOf}
 use Rattle.records.specs.Operations.{operationsOf}
 use mathlib.Core.Path.{sym}
 use borrow.Author.Needs.{needs}
@@ -16,7 +17,7 @@ slice-aggregate-none : tie.Need-slice-aggregate-none
 slice-aggregate-none c = search needs
 
 check-list-requires : tie.Need-check-list-requires
-check-list-requires c κs = small _ (c .before .other-limits .ensures)
+check-list-requires c κs = other-small (c .before .other-limits .ensures)
 
 enum-known-refusal : tie.Need-enum-known-refusal
 enum-known-refusal c = search needs

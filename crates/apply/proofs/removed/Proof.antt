@@ -1,6 +1,6 @@
 -- `removed` sums what a list deletes, up to the cap.
 -- The loop keeps `Totals`, whose ways are in Sums. Assumes nothing.
-use Rattle.checks.proofs.Sums.{Totals, totals-begin, totals-on, totals-end}
+use Rattle.sizes.proofs.Sums.{Totals, totals-begin, totals-on, totals-end}
 use Rattle.apply.specs.Parts.{removedBy}
 use mathlib.Core.Path.{refl}
 use Prim.Native.Nat.{_-_}

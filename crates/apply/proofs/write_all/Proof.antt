@@ -3,7 +3,7 @@
 use Rattle.apply.proofs.Histories.{Both, tell-begins, tell-asks, tell-on, tell-ends}
 use Rattle.apply.proofs.Texts.{text-begins, text-asks, text-on, text-ends}
 use native.Mathlib.Omega.{arith}
-use Rattle.apply.specs.Parts.{lentOf}
+use Rattle.merging.specs.Lent.{lentOf}
 use Prim.Native.Nat.{_-_}
 use borrow.Author.Needs.{needs}
 use Rattle.apply.proofs.write_all.Statement.{statement}

@@ -2,7 +2,7 @@
 -- The loop's invariant and its ways are those of Histories. Assumes nothing.
 use Rattle.apply.proofs.Histories.{Telling, tell-begins, tell-asks, tell-on, tell-ends}
 use native.Mathlib.Omega.{arith}
-use Rattle.apply.specs.Parts.{lentOf}
+use Rattle.merging.specs.Lent.{lentOf}
 use Prim.Native.Nat.{_-_}
 use borrow.Author.Needs.{needs}
 use Rattle.apply.proofs.write_history.Statement.{statement}

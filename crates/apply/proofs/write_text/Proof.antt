@@ -2,7 +2,7 @@
 -- The loop's invariant and its ways are those of Texts. Assumes nothing.
 use Rattle.apply.proofs.Texts.{Writing, text-begins, text-asks, text-on, text-ends}
 use native.Mathlib.Omega.{arith}
-use Rattle.apply.specs.Parts.{lentOf}
+use Rattle.merging.specs.Lent.{lentOf}
 use Prim.Native.Nat.{_-_}
 use borrow.Author.Needs.{needs}
 use Rattle.apply.proofs.write_text.Statement.{statement}

@@ -1,7 +1,8 @@
 -- `check_list` gives the verdict on one list.
 -- A chain of checks, by Chains; the sizes and the tiling keep the text below the cap. Assumes nothing.
-use Rattle.checks.proofs.Accepted.{text-small}
-use Rattle.checks.proofs.Chains.{stops, goes-on, too-big, fits, first-no, second-no, both-yes}
+use Rattle.shapes.proofs.Accepted.{text-small}
+use Rattle.verdict.proofs.Bools.{first-no, second-no, both-yes}
+use Rattle.verdict.proofs.Chains.{stops, goes-on, too-big, fits}
 use Rattle.checks.specs.Lists.{listVerdict}
 use Rattle.records.specs.Cursors.{cursorsOf}
 use Rattle.records.specs.Operations.{operationsOf}

@@ -1,6 +1,7 @@
 -- `check_lists` gives the verdict on the two lists of a merge.
 -- Two good lists leave the texts; any other are judged check by check. Assumes nothing.
-use Rattle.checks.proofs.Chains.{too-big, first-no}
+use Rattle.verdict.proofs.Bools.{first-no}
+use Rattle.verdict.proofs.Chains.{too-big}
 use Rattle.checks.proofs.Passing.{good-lists}
 use Rattle.checks.specs.Lists.{listsVerdict}
 use borrow.Author.Tests.{not-true, not-false}
@@ -39,11 +40,17 @@ check-texts-requires c κs = search needs
 
 returns-4 : tie.Need-returns-4
 returns-4 c =
-    let a = c .before .before .before .before .before .before .before .before .before .before .before .before .before .before .before .args in
+    let c2 = c .before .before in
+    let c3 = c2 .before in
+    let c4 = c3 .before in
+    let c5 = c4 .before in
+    let c6 = c5 .before in
+    let c15 = c6 .before .before .before .before .before .before .before .before .before in
+    let a = c15 .args in
     c .check-texts .ensures
-    ∙ good-lists (a .limits) (a .original .now) (a .text .now) (a .spans .now) (a .keys .now) _ _ _ _ (sym (c .before .before .before .before .before .before .lent-fits .ensures) ∙ not-false _ (c .before .before .before .before .before .if1 .left))
-    (c .before .before .before .before .is-good .ensures (not-false _ (c .before .before .before .if2 .left)))
-    (c .before .before .is-good2 .ensures (not-false _ (c .before .if3 .left)))
+    ∙ good-lists (a .limits) (a .original .now) (a .text .now) (a .spans .now) (a .keys .now) _ _ _ _ (sym (c6 .lent-fits .ensures) ∙ not-false _ (c5 .if1 .left))
+    (c4 .is-good .ensures (not-false _ (c3 .if2 .left)))
+    (c2 .is-good2 .ensures (not-false _ (c .before .if3 .left)))
 
 pub check-lists-spec : {M : Type 1} → statement M
 check-lists-spec =

@@ -1,6 +1,7 @@
 -- `is_good` says yes only of a list in which there is nothing to refuse.
 -- Each no is an empty promise. Assumes nothing.
-use Rattle.checks.proofs.Passing.{good-list, no-way}
+use Rattle.checks.proofs.Passing.{good-list}
+use Rattle.verdict.proofs.Bools.{no-way}
 use borrow.Author.Tests.{not-false}
 use native.Mathlib.Omega.{arith}
 use borrow.Author.Needs.{needs}
@@ -25,14 +26,14 @@ returns-4 c = λ e. no-way e
 returns-5 : tie.Need-returns-5
 returns-5 c = λ e. no-way e
 
+add-end : tie.Need-add-end
+add-end c =
+    let c3 = c .before .before .before in
+    let c17 = c3 .before .before .before .before .before .before .before .before .before .before .before .before .before .before in
+    omega (arith, c .before .if5 .left, c3 .if4 .left, c17 .pre .text)
+
 returns-6 : tie.Need-returns-6
 returns-6 c = λ e. no-way e
-
-add-end : tie.Need-add-end
-add-end c = omega (arith, c .before .if6 .left, c .before .before .before .if5 .left, c .before .before .before .before .before .before .before .before .before .before .before .before .before .before .before .before .before .before .before .before .pre .text)
-
-returns-7 : tie.Need-returns-7
-returns-7 c = λ e. no-way e
 
 check-cursors-requires : tie.Need-check-cursors-requires
 check-cursors-requires c κs = search needs
@@ -43,15 +44,24 @@ enum-told c = search needs
 enum-known-verdict : tie.Need-enum-known-verdict
 enum-known-verdict c = search needs
 
-returns-8 : tie.Need-returns-8
-returns-8 c =
-    let c24 = c .before .before .before .before .before .before .before .before .before .before .before .before .before .before .before .before .before .before .before .before .before .before .before .before in
-    let a = c24 .args in
-    λ e. good-list (a .limits) (a .n) (a .m) (a .spans .now) (a .keys .now) (a .operations .now) (a .cursors .now) (c .before .before .before .before .before .before .before .before .before .before .before .before .before .before .before .pass-list .result) _ (c24 .pre) (c .before .before .before .before .before .before .before .before .before .before .before .before .before .before .before .before .before .before .if1 .left) (c .before .before .before .before .before .before .before .before .before .before .before .before .before .before .before .before .if2 .left)
-    (c .before .before .before .before .before .before .before .before .before .before .before .before .before .before .before .pass-list .ensures (not-false _ (c .before .before .before .before .before .before .before .before .before .before .before .before .before .if3 .left))) (c .before .before .before .before .before .before .before .before .before .before .if4 .left) (c .before .before .before .before .before .before .before .if5 .left) (c .before .before .before .if7 .left) (c .before .before .check-cursors .ensures) (c .enum-told .given .1)
+returns-7 : tie.Need-returns-7
+returns-7 c =
+    let c2 = c .before .before in
+    let c3 = c2 .before in
+    let c7 = c3 .before .before .before .before in
+    let c10 = c7 .before .before .before in
+    let c12 = c10 .before .before in
+    let c13 = c12 .before in
+    let c15 = c13 .before .before in
+    let c21 = c15 .before .before .before .before .before .before in
+    let a = c21 .args in
+    λ e.
+    good-list (a .limits) (a .n) (a .m) (a .spans .now) (a .keys .now) (a .operations .now) (a .cursors .now) (c12 .pass-list .result) _ (c21 .pre)
+    (c15 .if1 .left) (c13 .if2 .left) (c12 .pass-list .ensures (not-false _ (c10 .if3 .left))) (c7 .if4 .left) (c3 .if6 .left)
+    (c2 .check-cursors .ensures) (c .enum-told .given .1)
 
-returns-9 : tie.Need-returns-9
-returns-9 c = λ e. no-way e
+returns-8 : tie.Need-returns-8
+returns-8 c = λ e. no-way e
 
 pub is-good-spec : {M : Type 1} → statement M
 is-good-spec =
@@ -63,11 +73,10 @@ is-good-spec =
     returns-3
     returns-4
     returns-5
-    returns-6
     add-end
-    returns-7
+    returns-6
     check-cursors-requires
     enum-told
     enum-known-verdict
-    returns-8
-    returns-9)
+    returns-7
+    returns-8)

@@ -1,11 +1,11 @@
 -- `judge_lists` gives the verdict on the two lists of a merge.
 -- A chain of checks, by Chains; the sizes and the tilings keep the texts below the cap. Assumes nothing.
-use Rattle.checks.proofs.Accepted.{text-small}
-use Rattle.checks.proofs.Chains.{stops, goes-on, too-big, fits, first-no, second-no, both-yes, first-passed, rest-passed}
-use Rattle.checks.proofs.Bools.{and-left, and-right}
+use Rattle.shapes.proofs.Accepted.{text-small}
+use Rattle.verdict.proofs.Chains.{stops, goes-on, too-big, fits, first-passed, rest-passed}
+use Rattle.verdict.proofs.Bools.{and-left, and-right, first-no, second-no, both-yes}
 use Rattle.checks.specs.Lists.{listsVerdict}
-use Rattle.checks.specs.Tiling.{tilingOf}
-use Rattle.checks.specs.Sizes.{listFits}
+use Rattle.shapes.specs.Tiling.{tilingOf}
+use Rattle.sizes.specs.Sizes.{listFits}
 use Rattle.records.specs.Cursors.{cursorsOf}
 use Rattle.records.specs.Operations.{operationsOf}
 use borrow.Author.Tests.{not-true, not-false}

@@ -1,6 +1,6 @@
 -- Shown: `moved_index` answers `movedIndex`.
 -- How: each way through its test is a case of the definition's test.
-use Rattle.cursor_position.proofs.Cases.{in-front, in-rest}
+use Rattle.merging.proofs.Moving.{in-front, in-rest}
 use native.Mathlib.Omega.{arith}
 use borrow.Author.Needs.{needs}
 use Rattle.cursor_position.proofs.moved_index.Statement.{statement}

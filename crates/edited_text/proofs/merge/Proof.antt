@@ -4,7 +4,8 @@ use borrow.Author.Needs.{needs}
 use borrow.Author.Tests.{not-true, not-false}
 use mathlib.Core.Path.{sym, _∙_}
 use native.Mathlib.Omega.{arith}
-use Rattle.edited_text.proofs.Answering.{small, refused, no-room, mergeable, answers}
+use Rattle.sizes.proofs.Fits.{merging-small}
+use Rattle.edited_text.proofs.Answering.{refused, no-room, mergeable, answers}
 use Rattle.edited_text.proofs.merge.Statement.{statement}
 use Rattle.edited_text.proofs.merge.Tie as tie
 
@@ -12,7 +13,7 @@ merging-limits-requires : tie.Need-merging-limits-requires
 merging-limits-requires c κs = search needs
 
 check-lists-requires : tie.Need-check-lists-requires
-check-lists-requires c κs = small _ (c .merging-limits .ensures)
+check-lists-requires c κs = merging-small (c .merging-limits .ensures)
 
 enum-known-refusal : tie.Need-enum-known-refusal
 enum-known-refusal c = search needs

@@ -2,7 +2,7 @@
 -- Each way is a law of Answering. Assumes nothing.
 use Rattle.elongate.proofs.Answering.{ready, accepts, no-room, writes, refuses}
 use Rattle.elongate.specs.Verdicts.{rawVerdict}
-use Rattle.checks.proofs.Chains.{stops, goes-on, too-big, fits}
+use Rattle.verdict.proofs.Chains.{stops, goes-on, too-big, fits}
 use borrow.Author.Tests.{not-true, not-false}
 use mathlib.Core.Path.{sym, _∙_}
 use borrow.Author.Needs.{needs}

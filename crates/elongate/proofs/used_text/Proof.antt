@@ -2,7 +2,7 @@
 -- The loop keeps `Totals`, whose ways are in Checking. Assumes nothing.
 use Rattle.elongate.proofs.Checking.{Totals, totals-begin, totals-on, totals-end}
 use Rattle.elongate.specs.Verdicts.{textBy}
-use Rattle.checks.proofs.Sums.{cap-cap}
+use Rattle.sizes.proofs.Sums.{cap-cap}
 use mathlib.Core.Path.{refl}
 use Prim.Native.Nat.{_-_}
 use borrow.Author.Needs.{needs}

@@ -1,18 +1,11 @@
 -- `verdict_on` is safe and ends: both settings are below the cap of the sums, and the list that retains fits its array.
 -- Assumes nothing.
 use lib.Seq.{length-take-le}
-use mathlib.Core.Path.{sym, subst}
-use native.Mathlib.Omega.{arith}
-use Rattle.checks.specs.Sizes.{Small, merging, otherwise}
+use mathlib.Core.Path.{sym}
+use Rattle.sizes.proofs.Fits.{merging-small, other-small}
 use borrow.Author.Needs.{needs}
 use Rattle.list_sizes.proofs.verdict_on.Statement.{statement}
 use Rattle.list_sizes.proofs.verdict_on.Tie as tie
-
-merging-small : Small merging
-merging-small = record { tokens = omega arith; text = omega arith }
-
-other-small : Small otherwise
-other-small = record { tokens = omega arith; text = omega arith }
 
 places-requires : tie.Need-places-requires
 places-requires c κs = search needs
@@ -24,7 +17,7 @@ other-limits-requires : tie.Need-other-limits-requires
 other-limits-requires c κs = search needs
 
 check-list-requires : tie.Need-check-list-requires
-check-list-requires c κs = subst Small (sym (c .other-limits .ensures)) other-small
+check-list-requires c κs = other-small (c .other-limits .ensures)
 
 enum-told-2 : tie.Need-enum-told-2
 enum-told-2 c = search needs
@@ -33,7 +26,7 @@ merging-limits-requires : tie.Need-merging-limits-requires
 merging-limits-requires c κs = search needs
 
 check-lists-requires : tie.Need-check-lists-requires
-check-lists-requires c κs = subst Small (sym (c .merging-limits .ensures)) merging-small
+check-lists-requires c κs = merging-small (c .merging-limits .ensures)
 
 enum-told-3 : tie.Need-enum-told-3
 enum-told-3 c = search needs
@@ -51,7 +44,7 @@ slice-aggregate-check-lists-2 : tie.Need-slice-aggregate-check-lists-2
 slice-aggregate-check-lists-2 c = search needs
 
 check-lists-requires-2 : tie.Need-check-lists-requires-2
-check-lists-requires-2 c κs = subst Small (sym (c .before .before .merging-limits2 .ensures)) merging-small
+check-lists-requires-2 c κs = merging-small (c .before .before .merging-limits2 .ensures)
 
 enum-told-4 : tie.Need-enum-told-4
 enum-told-4 c = search needs
@@ -69,7 +62,7 @@ slice-aggregate-check-lists-4 : tie.Need-slice-aggregate-check-lists-4
 slice-aggregate-check-lists-4 c = search needs
 
 check-lists-requires-3 : tie.Need-check-lists-requires-3
-check-lists-requires-3 c κs = subst Small (sym (c .before .before .merging-limits3 .ensures)) merging-small
+check-lists-requires-3 c κs = merging-small (c .before .before .merging-limits3 .ensures)
 
 returns : tie.Need-returns
 returns c = search needs

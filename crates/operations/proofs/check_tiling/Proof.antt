@@ -39,17 +39,17 @@ use denote.Triple.Spec.{Meets, tripleOf}
 use denote.Triple.Table.{entered, cited}
 use denote.Triple.Walked.{says, Stays, stay-none, stay-none-slice, walkOf, goes-none, goes-none-slice, Walks, ends-at, walked, walk-meets}
 use denote.Exit.{yes}
-use Rattle.checks.specs.Tiling.{tilingOf}
+use Rattle.shapes.specs.Tiling.{tilingOf}
 use Rattle.operations.specs.Folds.{tileAll, tileEnd}
 use Rattle.operations.proofs.Folds.{going, tiles}
 use Rattle.records.specs.declared.Operation.{Operation}
 use Rattle.operations.specs.declared.Tile.{Tile}
-use Rattle.checks.specs.declared.Verdict.{Verdict}
+use Rattle.verdict.specs.declared.Verdict.{Verdict}
 use Rattle.records.proofs.Operation as O
 use Rattle.operations.proofs.Tile as S
 use Rattle.operations.proofs.Tile.Laws as S′
-use Rattle.checks.proofs.Verdict as R
-use Rattle.checks.proofs.Verdict.Laws as R′
+use Rattle.verdict.proofs.Verdict as R
+use Rattle.verdict.proofs.Verdict.Laws as R′
 use Rattle.operations.proofs.tile_all as all′
 use Rattle.operations.proofs.tile_all.Symbol as all-def
 use Rattle.operations.proofs.tile_all.Symbol.{name as #operations·tile-all}

@@ -4,7 +4,7 @@ use Prim.Native.Nat.{min}
 use mathlib.Core.List.{List}
 use mathlib.Core.Path.{_∙_, ap}
 use Rattle.records.specs.declared.Operation.{Operation}
-use Rattle.checks.specs.Texts.{textLength}
+use Rattle.sizes.specs.Texts.{textLength}
 use Rattle.operations.proofs.Sums.{stepped, one}
 use borrow.Author.Needs.{needs}
 use Rattle.operations.proofs.text_step.Statement.{statement}

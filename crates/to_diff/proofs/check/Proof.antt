@@ -1,6 +1,7 @@
 -- Shown: `check` gives refusals 3, 4, 1 and 2 of a list.
 -- How: the check of lists, with the sizes for diffs and no cursors.
-use Rattle.to_diff.proofs.Answering.{others-small, checked}
+use Rattle.sizes.proofs.Fits.{other-small}
+use Rattle.to_diff.proofs.Answering.{checked}
 use mathlib.Core.Path.{refl}
 use borrow.Author.Needs.{needs}
 use Rattle.to_diff.proofs.check.Statement.{statement}
@@ -13,7 +14,7 @@ slice-aggregate-check-list : tie.Need-slice-aggregate-check-list
 slice-aggregate-check-list c = search needs
 
 check-list-requires : tie.Need-check-list-requires
-check-list-requires c κs = others-small (c .before .other-limits .ensures)
+check-list-requires c κs = other-small (c .before .other-limits .ensures)
 
 returns : tie.Need-returns
 returns c = checked _ _ _ _ _ _ _ _ (c .before .before .other-limits .ensures) (refl) (c .check-list .ensures)

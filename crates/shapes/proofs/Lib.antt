@@ -1,0 +1,3 @@
+pub mod Shapely
+pub mod Tiled
+pub mod Accepted

@@ -1,0 +1,3 @@
+pub mod Shapes
+pub mod Tiling
+pub mod Accepted

@@ -1,0 +1,14 @@
+-- `lent_fits` tells whether the lent texts keep their sizes.
+-- By its two tests. Assumes nothing.
+use borrow.Author.Tests.{le-leb, lt-leb}
+use Rattle.sizes.proofs.lent_fits.Statement.{statement}
+use Rattle.sizes.proofs.lent_fits.Tie as tie
+
+returns : tie.Need-returns
+returns c = rw (lt-leb _ _ (c .if1 .taken))
+
+returns-2 : tie.Need-returns-2
+returns-2 c = rw (le-leb _ _ (c .if1 .left))
+
+pub lent-fits-spec : {M : Type 1} → statement M
+lent-fits-spec = tie.close (tie.spec returns returns-2)

@@ -1,0 +1,4 @@
+pub mod Bools
+pub mod Points
+pub mod Chains
+pub mod Rooms

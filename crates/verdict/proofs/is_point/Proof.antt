@@ -1,0 +1,17 @@
+-- `is_point` tells a code point from what is none.
+-- By the three ranges that its tests part. Assumes nothing.
+use borrow.Author.Tests.{lt-ltb, le-ltb}
+use Rattle.verdict.proofs.is_point.Statement.{statement}
+use Rattle.verdict.proofs.is_point.Tie as tie
+
+returns : tie.Need-returns
+returns c = rw (lt-ltb _ _ (c .if1 .taken))
+
+returns-2 : tie.Need-returns-2
+returns-2 c = rw (le-ltb _ _ (c .before .if1 .left), le-ltb _ _ (c .if2 .taken))
+
+returns-3 : tie.Need-returns-3
+returns-3 c = rw (le-ltb _ _ (c .before .if1 .left), lt-ltb _ _ (c .if2 .left))
+
+pub is-point-spec : {M : Type 1} → statement M
+is-point-spec = tie.close (tie.spec returns returns-2 returns-3)

@@ -1,0 +1,35 @@
+-- Refusal 4. Assumes nothing.
+use Prim.Native.Nat.{ℕ, _+_, _≤_, _<_}
+use mathlib.Core.Path.{_≡_}
+use mathlib.Core.Bool.{Bool, true, false, _&&_, _||_}
+use mathlib.Core.List.{List, [], _∷_}
+use lib.Dec.{leb, ltb}
+use lib.ListN.{length, getD, drop}
+use Rattle.refusal.specs.declared.Refusal.the-variants.{CodePoint}
+use Rattle.verdict.specs.declared.Verdict.{Verdict}
+use Rattle.verdict.specs.declared.Verdict.the-variants.{Accepted, Refused}
+use Rattle.verdict.specs.Verdicts.{andThen}
+
+-- "a number above 10FFFF hex or in D800 to DFFF" is none
+abbrev pub isPoint : ℕ → Bool
+isPoint c = ltb c 55296 || (ltb 57343 c && leb c 1114111)
+
+-- "4: a lent text holds a number above 10FFFF hex or in D800 to DFFF. Carries: its index": from index i on
+unfoldable pub pointsFrom : List ℕ → ℕ → Verdict
+pointsFrom [] i = Accepted
+pointsFrom (c ∷ cs) i = elim (isPoint c) [ true ↦ pointsFrom cs (i + 1) | false ↦ Refused (CodePoint i) ]
+
+-- "one lent inserted text .., checked after the original"
+abbrev pub pointsVerdict : List ℕ → List ℕ → Verdict
+pointsVerdict original text = andThen (pointsFrom original 0) (pointsFrom text 0)
+
+-- what is left of a text from i on gives the answer of what is left from an earlier place on
+pub record Reading (text : List ℕ) (from i : ℕ) : Type 0 where
+  pub most : i ≤ length text
+  pub rest : pointsFrom (drop i text) i ≡ pointsFrom (drop from text) from
+
+-- r is the first place from `from` on that holds no code point, or `to`
+pub record Searched (text : List ℕ) (from to r : ℕ) : Type 0 where
+  pub most : r ≤ to
+  pub read : Reading text from r
+  pub bad : r < to → isPoint (getD text r 0) ≡ false
