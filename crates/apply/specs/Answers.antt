@@ -63,10 +63,12 @@ abbrev pub applied : Verdict → ℕ → ℕ → Applied
 applied Accepted text cursors = A.Counts text cursors
 applied (Refused r) text cursors = A.Refused r
 
+-- the same of a history: how many spans, and code points of their text, or the refusal
 abbrev pub told : Verdict → ℕ → ℕ → WithHistory
 told Accepted spans text = H.Counts spans text
 told (Refused r) spans text = H.Refused r
 
+-- the same of both
 abbrev pub toldAll : Verdict → ℕ → ℕ → ℕ → ℕ → WithAll
 toldAll Accepted text cursors spans texts = B.Counts text cursors spans texts
 toldAll (Refused r) text cursors spans texts = B.Refused r

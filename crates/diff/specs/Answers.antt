@@ -20,9 +20,11 @@ pub record Diff : Type 0 where
   pub items : List ℤ
   pub text : List ℕ
 
+-- a diff of its three parts
 abbrev pub diff : List ℕ → List ℤ → List ℕ → Diff
 diff o is t = record { original = o; items = is; text = t }
 
+-- the edits that a lent diff stands for
 unfoldable pub edits : Diff → List Edit
 edits d = editsOf (d .text) (itemsOf (d .items) (length (d .text)))
 

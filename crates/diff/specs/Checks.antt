@@ -12,6 +12,7 @@ use Rattle.diff.specs.declared.diff.Item.{Item}
 use Rattle.diff.specs.declared.diff.Item.the-variants.{Retain, Delete, Insert, Neither}
 use Rattle.diff.specs.Replay.{Edit, retain, delete, insert, left}
 
+-- "Given exactly when": what a check finds
 pub data Verdict : Type 0 where
   fine : Verdict
   refused : Refusal → Verdict
@@ -41,6 +42,7 @@ originalMost = 65535
 abbrev pub itemsMost : ℕ
 itemsMost = 8192
 
+-- "with 131,070 code points of text"
 abbrev pub textMost : ℕ
 textMost = 131070
 

@@ -19,6 +19,7 @@ editOf lent (Delete n) = delete n
 editOf lent (Insert s n) = insert (take n (drop s lent))
 editOf lent Neither = insert []
 
+-- the edits of all items, in order
 unfoldable pub editsOf : List ℕ → List Item → List Edit
 editsOf lent [] = []
 editsOf lent (i ∷ is) = editOf lent i ∷ editsOf lent is

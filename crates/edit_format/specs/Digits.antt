@@ -27,5 +27,6 @@ unfoldable pub digitsIn : ℕ → ℕ → ℕ → List ℕ
 digitsIn zero m n = digit n ∷ []
 digitsIn (suc f) m n = pick (ltb n m) (digit n ∷ []) (digitsIn f m (n / m) ++ digit (n % m) ∷ [])
 
+-- "Numbers are decimal, `add=` .. in lower-case hex; no leading zeros": n in base m
 unfoldable pub digits : ℕ → ℕ → List ℕ
 digits m n = digitsIn n m n

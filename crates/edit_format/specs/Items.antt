@@ -20,12 +20,14 @@ kept (Keep n ∷ is) = n + kept is
 kept (Drop n ∷ is) = kept is
 kept (Add cs ∷ is) = kept is
 
+-- "Keep plus drop is original": the drops
 unfoldable pub dropped : List Item → ℕ
 dropped [] = 0
 dropped (Keep n ∷ is) = dropped is
 dropped (Drop n ∷ is) = n + dropped is
 dropped (Add cs ∷ is) = dropped is
 
+-- "keep plus added is result": the added code points
 unfoldable pub added : List Item → ℕ
 added [] = 0
 added (Keep n ∷ is) = added is
@@ -39,6 +41,7 @@ texts (Keep n ∷ is) = texts is
 texts (Drop n ∷ is) = texts is
 texts (Add cs ∷ is) = cs ++ texts is
 
+-- "two keeps never follow each other": the items meant
 unfoldable pub isKeep : Item → Bool
 isKeep (Keep n) = true
 isKeep (Drop n) = false
@@ -55,6 +58,7 @@ endsKeep (i ∷ j ∷ is) = endsKeep (j ∷ is)
 unfoldable pub isPoint : ℕ → Bool
 isPoint c = both (leb c 1114111) (not (both (leb 55296 c) (leb c 57343)))
 
+-- "Code points outside refusal 4's rule only": all of them
 unfoldable pub allPoints : List ℕ → Bool
 allPoints [] = true
 allPoints (c ∷ cs) = both (isPoint c) (allPoints cs)

@@ -11,6 +11,7 @@ use Rattle.edit_format.specs.Digits.{digitOf, isDigit}
 use Rattle.edit_format.specs.Items.{Item, Keep, Drop, Add, kept, dropped, added, endsKeep, isPoint}
 use Rattle.edit_format.specs.Written.{Head, formKey, originalKey, resultKey, itemsKey, keepKey, dropKey, addKey, endKey}
 
+-- "`keep=`, `drop=` or `add=`": the kinds of an item's line
 pub data Kind : Type 0 where
   keeping dropping adding : Kind
 
@@ -31,6 +32,7 @@ lineNo (items o r) = 4
 lineNo (item h is k) = length is + 5
 lineNo (ending h is) = length is + 5
 
+-- "`keep=`, `drop=` or `add=`": the key of each kind
 unfoldable pub kindKey : Kind → List ℕ
 kindKey keeping = keepKey
 kindKey dropping = dropKey
@@ -46,6 +48,7 @@ keyOf (items o r) = itemsKey
 keyOf (item h is k) = kindKey k
 keyOf (ending h is) = endKey
 
+-- "`add=` one or more code points in lower-case hex": this kind alone
 unfoldable pub hexes : Kind → Bool
 hexes keeping = false
 hexes dropping = false
@@ -102,6 +105,7 @@ pub data State : Type 0 where
 unfoldable pub kindOf : ℕ → Kind
 kindOf b = pick (eqb b 107) keeping (pick (eqb b 100) dropping adding)
 
+-- "`keep=`, `drop=` or `add=`": the item of a line of this kind that holds the numbers cs and then n
 unfoldable pub itemOf : Kind → List ℕ → ℕ → Item
 itemOf keeping cs n = Keep n
 itemOf dropping cs n = Drop n
@@ -151,10 +155,12 @@ step (num l cs n) b = numbered l cs n b
 step (open′ h is) b = keyed (item h is (kindOf b)) 0 b
 step (after h is) b = bad (length is + 6)
 
+-- one step for each byte, in order
 unfoldable pub run : State → List ℕ → State
 run s [] = s
 run s (b ∷ bs) = run (step s b) bs
 
+-- "Edit files: 8 then 7": what is found in a file, before any room is looked at
 pub data Found : Type 0 where
   Accepted : List Item → Found
   -- refusal 8, with the line
@@ -176,6 +182,7 @@ finish (after h is) =
 abbrev pub found : State → List ℕ → Found
 found s bs = finish (run s bs)
 
+-- "Lines end in LF, in this order: `form=1`, ..": what is found in the bytes of a file
 unfoldable pub readFile : List ℕ → Found
 readFile bs = finish (run (key form 0) bs)
 

@@ -22,5 +22,6 @@ unfoldable pub recordsFrom : ℕ → List Item → List ℤ
 recordsFrom at [] = []
 recordsFrom at (i ∷ is) = recordOf at i ++ recordsFrom (at + size i) is
 
+-- "Diff items": the records of a whole file
 unfoldable pub recordsOf : List Item → List ℤ
 recordsOf is = recordsFrom 0 is

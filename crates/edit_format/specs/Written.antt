@@ -9,24 +9,31 @@ use Rattle.edit_format.specs.Items.{Item, Keep, Drop, Add, kept, dropped
 abbrev pub formKey : List ℕ
 formKey = 102 ∷ 111 ∷ 114 ∷ 109 ∷ 61 ∷ []
 
+-- "`original=`"
 abbrev pub originalKey : List ℕ
 originalKey = 111 ∷ 114 ∷ 105 ∷ 103 ∷ 105 ∷ 110 ∷ 97 ∷ 108 ∷ 61 ∷ []
 
+-- "`result=`"
 abbrev pub resultKey : List ℕ
 resultKey = 114 ∷ 101 ∷ 115 ∷ 117 ∷ 108 ∷ 116 ∷ 61 ∷ []
 
+-- "`items=`"
 abbrev pub itemsKey : List ℕ
 itemsKey = 105 ∷ 116 ∷ 101 ∷ 109 ∷ 115 ∷ 61 ∷ []
 
+-- "`keep=`"
 abbrev pub keepKey : List ℕ
 keepKey = 107 ∷ 101 ∷ 101 ∷ 112 ∷ 61 ∷ []
 
+-- "`drop=`"
 abbrev pub dropKey : List ℕ
 dropKey = 100 ∷ 114 ∷ 111 ∷ 112 ∷ 61 ∷ []
 
+-- "`add=`"
 abbrev pub addKey : List ℕ
 addKey = 97 ∷ 100 ∷ 100 ∷ 61 ∷ []
 
+-- "`end=`"
 abbrev pub endKey : List ℕ
 endKey = 101 ∷ 110 ∷ 100 ∷ 61 ∷ []
 
@@ -40,11 +47,13 @@ points [] = []
 points (c ∷ []) = digits 16 c
 points (c ∷ d ∷ cs) = digits 16 c ++ 32 ∷ points (d ∷ cs)
 
+-- "`keep=`, `drop=` or `add=`": an item's line
 unfoldable pub itemLine : Item → List ℕ
 itemLine (Keep n) = numberLine keepKey n
 itemLine (Drop n) = numberLine dropKey n
 itemLine (Add cs) = addKey ++ points cs ++ 10 ∷ []
 
+-- "that many of `keep=`, `drop=` or `add=`": the items' lines, in order
 unfoldable pub itemLines : List Item → List ℕ
 itemLines [] = []
 itemLines (i ∷ is) = itemLine i ++ itemLines is
@@ -55,6 +64,7 @@ pub record Head : Type 0 where
   pub result : ℕ
   pub count : ℕ
 
+-- "in this order: `form=1`, `original=`, `result=`, `items=`"
 unfoldable pub headLines : Head → List ℕ
 headLines h = numberLine formKey 1 ++ numberLine originalKey (h .original) ++ numberLine resultKey (h .result) ++ numberLine itemsKey (h .count)
 

@@ -32,11 +32,13 @@ itemsLeft (Counts n m) (Accepted is) d = answered (recordsOf is) d
 itemsLeft (Counts n m) (Refused l) d = d
 itemsLeft (No e) f d = d
 
+-- the same of the text's room
 unfoldable pub textLeft : FileRead → Found → List ℕ → List ℕ
 textLeft (Counts n m) (Accepted is) d = answered (texts is) d
 textLeft (Counts n m) (Refused l) d = d
 textLeft (No e) f d = d
 
+-- "Edit files: 8 then 7": what the call answers, and what stands in both rooms after it
 pub record ReadInto (f : Found) (d : List ℤ) (e : List ℕ) (d′ : List ℤ) (e′ : List ℕ) (r : FileRead) : Type 0 where
   pub answer : r ≡ answerOf f (length d) (length e)
   pub items : d′ ≡ itemsLeft r f d

@@ -25,11 +25,13 @@ fileItem text (Delete n) = Drop n
 fileItem text (Insert s n) = Add (take n (drop s text))
 fileItem text Neither = Add []
 
+-- "that many of `keep=`, `drop=` or `add=`": the items of all that is lent, in order
 unfoldable pub fileItems : List ℕ → List Lent → List Item
 unfolding fileItem
 fileItems text [] = []
 fileItems text (i ∷ is) = fileItem text i ∷ fileItems text is
 
+-- "Writing a diff takes no original": the items of a file, by the diff's flat records and its text
 unfoldable pub fileOf : List ℤ → List ℕ → List Item
 unfolding fileItems
 fileOf items text = fileItems text (itemsOf items (length text))
@@ -53,9 +55,11 @@ shapes k i (Add cs ∷ is) = pick (leb 1 (length cs)) (shapes false (i + 1) is) 
 unfoldable pub writable : List Item → List ℕ → Verdict
 writable is text = andThen (sizes is text) (andThen (points 0 text) (shapes false 0 is))
 
+-- "All others: the exact length of the answer": how many bytes, or the refusal
 unfoldable pub lengthOf : List Item → List ℕ → Counted
 lengthOf is text = counted (writable is text) (length (written is))
 
+-- "order 3, 4, 1, 7": the room last
 unfoldable pub roomed : List Item → List ℕ → List ℕ → Verdict
 roomed is text out = andThen (writable is text) (fits (length (written is)) out)
 

@@ -41,6 +41,7 @@ parts kind (r ∷ rs) =
           ]
     ]
 
+-- "in each stretch without a retain, all deletes come first, then all inserts, each kind in its own order"
 abbrev pub arranged : {A : Type 0} → (A → ℕ) → List A → List A
 arranged kind rs = together (parts kind rs)
 
@@ -50,6 +51,7 @@ lastRight [] = false
 lastRight (p ∷ []) = rightJoinable p
 lastRight (p ∷ q ∷ ps) = lastRight (q ∷ ps)
 
+-- "by last and first token": the first one's flag, left joinable
 unfoldable pub firstLeft : List Piece → Bool
 firstLeft [] = false
 firstLeft (p ∷ ps) = leftJoinable p
@@ -68,6 +70,7 @@ joinedFrom c [] = c ∷ []
 joinedFrom c (r ∷ rs) =
     elim (joinable (c .kind) (lastRight (c .tokens)) r) [ true ↦ joinedFrom (join c r) rs | false ↦ c ∷ joinedFrom r rs ]
 
+-- "neighbours of one kind join": a whole list
 abbrev pub joined : List Run → List Run
 joined [] = []
 joined (r ∷ rs) = joinedFrom r rs
@@ -92,6 +95,7 @@ cookedFrom (r ∷ rs) at first =
     record { kind = r .kind; order = at; length = piecesLength (r .tokens); side = 0; first = first; count = length (r .tokens) }
     ∷ cookedFrom rs (at + consumes (r .kind) (piecesLength (r .tokens))) (first + length (r .tokens))
 
+-- "cooking gives order and length, side left": a whole list, its tokens from the start of their room
 abbrev pub cooked : List Run → List Operation
 cooked rs = cookedFrom rs 0 0
 

@@ -30,6 +30,7 @@ pub record Piece : Type 0 where
 abbrev pub leftJoinable : Piece → Bool
 leftJoinable p = eqb (p .joins % 2) 1
 
+-- "right joinable": bit 1
 abbrev pub rightJoinable : Piece → Bool
 rightJoinable p = eqb (p .joins / 2 % 2) 1
 
@@ -52,10 +53,12 @@ unfoldable pub flatSpans : List Piece → List ℕ
 flatSpans [] = []
 flatSpans (p ∷ ps) = p .start ∷ p .length ∷ flatSpans ps
 
+-- their keys
 unfoldable pub flatKeys : List Piece → List ℕ
 flatKeys [] = []
 flatKeys (p ∷ ps) = p .key ∷ flatKeys ps
 
+-- their flags
 unfoldable pub flatJoins : List Piece → List ℕ
 flatJoins [] = []
 flatJoins (p ∷ ps) = p .joins ∷ flatJoins ps
@@ -65,9 +68,11 @@ pub record Run : Type 0 where
   pub kind : ℕ
   pub tokens : List Piece
 
+-- "A raw operation is a kind and its tokens": the one that a raw record means
 abbrev pub runOf : List ℕ → List ℕ → List ℕ → Raw → Run
 runOf spans keys joins r = record { kind = r .kind; tokens = piecesFrom spans keys joins (r .first) (r .count) }
 
+-- "A raw operation is a kind and its tokens": a whole list
 unfoldable pub runsOf : List ℕ → List ℕ → List ℕ → List Raw → List Run
 runsOf spans keys joins [] = []
 runsOf spans keys joins (r ∷ rs) = runOf spans keys joins r ∷ runsOf spans keys joins rs

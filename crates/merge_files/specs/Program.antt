@@ -61,6 +61,7 @@ lentOf d original ls rs =
 abbrev pub leftOf : List Item → List Operation
 leftOf ls = cooked (listOf 0 ls)
 
+-- "elongates": the right list, whose tokens stand behind the left one's
 abbrev pub rightOf : List Item → List Item → List Operation
 rightOf ls rs = cookedFrom (listOf (length (texts ls)) rs) 0 (length (allTokens (listOf 0 ls)))
 
@@ -72,10 +73,12 @@ verdictOf lent left right = listsVerdict merging (lent .original) (lent .inserte
 unfoldable pub fileOf : Lent → List Operation → List Operation → List ℕ
 fileOf lent left right = written (diffOf lent (mergeOf (rulesOf lent) left right [] [] .operations))
 
+-- "writes the edit file or a line `refused=` with the number": by the merge's verdict
 unfoldable pub judged : Verdict → List ℕ → Result
 judged W.Accepted file = merged file
 judged (W.Refused r) file = refused (number r)
 
+-- "merges, and writes the edit file", or "the merge's refusals"
 unfoldable pub mergedOf : Lent → List Operation → List Operation → Result
 mergedOf lent left right = judged (verdictOf lent left right) (fileOf lent left right)
 
@@ -106,6 +109,7 @@ unfoldable pub kindOf : Result → Outcome
 kindOf (merged bytes) = O.Merged (length bytes)
 kindOf (refused n) = O.Refused (length (numberLine refusedKey n))
 
+-- "a lent room is shorter than asked": by the bytes' length
 unfoldable pub outcomeOf : Result → ℕ → Outcome
 outcomeOf r room = pick (leb (length (bytesOf r)) room) (kindOf r) O.Room
 

@@ -38,14 +38,17 @@ unfoldable pub from-4 : ℕ → ℕ → ℕ → List ℕ → ℕ
 from-4 a b c [] = 0
 from-4 a b c (d ∷ s) = pick (utf8-4 a b c d) 4 0
 
+-- the same after two bytes: "UTF8-3 / UTF8-4"
 unfoldable pub from-3 : ℕ → ℕ → List ℕ → ℕ
 from-3 a b [] = 0
 from-3 a b (c ∷ s) = pick (utf8-3 a b c) 3 (from-4 a b c s)
 
+-- the same after one byte: "UTF8-2 / UTF8-3 / UTF8-4"
 unfoldable pub from-2 : ℕ → List ℕ → ℕ
 from-2 a [] = 0
 from-2 a (b ∷ s) = pick (utf8-2 a b) 2 (from-3 a b s)
 
+-- "UTF8-char   = UTF8-1 / UTF8-2 / UTF8-3 / UTF8-4": how many bytes the one at the front takes, 0 where none stands there
 unfoldable pub utf8-char : List ℕ → ℕ
 utf8-char [] = 0
 utf8-char (a ∷ s) = pick (utf8-1 a) 1 (from-2 a s)

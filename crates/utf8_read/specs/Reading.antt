@@ -21,5 +21,6 @@ points-from k [] = []
 points-from (suc k) (b ∷ s) = points-from k s
 points-from zero (b ∷ s) = elim (utf8-char (b ∷ s)) [ zero ↦ [] | suc k ↦ decode (take (suc k) (b ∷ s)) ∷ points-from k s ]
 
+-- "Decoding a UTF-8 character": the code points of bytes, up to the first bad sequence
 abbrev pub points : List ℕ → List ℕ
 points s = points-from 0 s
