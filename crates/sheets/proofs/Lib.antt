@@ -1,0 +1,3 @@
+pub mod Opening
+pub mod Lines
+pub mod Sheets
