@@ -51,8 +51,8 @@ fn read_named(i: usize, bytes: &mut [u8]) -> Found
     read_file(&name[..length], bytes)
 }
 
-// A room of 65,536 bytes should be longer than all that files of 2,048 bytes merge to; that is not
-// proved, so a short one is refused by the paper's number.
+// The room of 65,536 bytes is long enough for any three files: what is written has at most 14,393
+// (law `enough` of merge_files). So the last case never comes; it has the paper's number.
 fn merge(original: &[u8], left: &[u8], right: &[u8]) {
     let mut out = io::large_buffer();
     match merge_files::merge_files(original, left, right, &mut out) {

@@ -30,7 +30,7 @@ use Rattle.merge_files.specs.declared.Outcome.{Outcome}
 use Rattle.merge_files.specs.Program.{textOf, tokensOf, rightOf, Written}
 use Rattle.merge_files.specs.Steps.{mergeResult, goodResult, Mergeable, Files, Rooms}
 
-spans-append : (ps qs : List Piece) → flatSpans (ps ++ qs) ≡ flatSpans ps ++ flatSpans qs
+pub spans-append : (ps qs : List Piece) → flatSpans (ps ++ qs) ≡ flatSpans ps ++ flatSpans qs
 unfolding flatSpans
 spans-append [] qs = refl
 spans-append (p ∷ ps) qs = ap (λ (x : List ℕ). p .start ∷ p .length ∷ x) (spans-append ps qs)

@@ -4,3 +4,6 @@ pub mod Diffing
 pub mod Merging
 pub mod Edits
 pub mod Files
+pub mod Short
+pub mod Added
+pub mod Enough

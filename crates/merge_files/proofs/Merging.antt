@@ -24,7 +24,6 @@ use Rattle.checks.specs.Lists.{listsVerdict}
 use Rattle.shapes.specs.Accepted.{Within, AcceptedList}
 use Rattle.verdict.proofs.Chains.{first-passed, rest-passed}
 use Rattle.checks.proofs.Accepted.{accepted-left, accepted-right, verdict-yes}
-use Rattle.edit_format.specs.Written.{written}
 use Rattle.merging.specs.Lent.{Lent, rulesOf, lentOf as given}
 use Rattle.merging.specs.Merge.{Merged, mergeOf}
 use Rattle.merging_laws.proofs.Accepted.{merged-accepted, merged-operations-most}
@@ -34,7 +33,7 @@ use Rattle.edited_text.specs.declared.Answer.{Answer}
 use Rattle.edited_text.specs.declared.Answer.the-variants as A
 use Rattle.edited_text.specs.Merging.{mergeVerdict, verdictOn as asked, mergeOn, answerOf, MergedBy}
 use Rattle.merge_files.specs.declared.Outcome.{Outcome}
-use Rattle.merge_files.specs.Program.{refused, merged, judged, verdictOf, fileOf, mergedOf, Written}
+use Rattle.merge_files.specs.Program.{refused, judged, verdictOf, fileOf, mergedOf, Written}
 use Rattle.merge_files.specs.Steps.{diffResult, mergeResult, Diffable, Mergeable}
 
 -- a refusal's number
@@ -62,6 +61,28 @@ refused-of (W.Refused s) m r e = cc
 counts-of : (v : Verdict) (m : Merged) (n : Counts) → A.Counts n ≡ answerOf v m → (v ≡ W.Accepted) × (n .operations ≡ length (m .operations))
 counts-of W.Accepted m n e = (refl, cc)
 counts-of (W.Refused s) m n e = let z : _≡_ {A = ℕ} 0 1 = cc in absurd (omega arith)
+
+-- the list of an accepted merge is an accepted list
+pub merged-fine : (lent : Lent) (ls rs : List Operation) → listsVerdict merging (lent .original) (lent .inserted) (lent .spans) (lent .keys) ls rs [] [] ≡ W.Accepted
+    → verdictOn lent (mergeOf (rulesOf lent) ls rs [] [] .operations) ≡ W.Accepted
+unfolding verdictOn listsVerdict Within
+merged-fine lent ls rs passed =
+    let al = accepted-left merging (lent .original) (lent .inserted) (lent .spans) (lent .keys) ls rs [] [] passed in
+    let ar = accepted-right merging (lent .original) (lent .inserted) (lent .spans) (lent .keys) ls rs [] [] passed in
+    let m = merged-accepted lent ls rs [] [] al ar in
+    let p : pointsVerdict (lent .original) (lent .inserted) ≡ W.Accepted = first-passed _ _ (rest-passed _ _ passed) in
+    let a : AcceptedList otherwise (lent .original) (lent .inserted) (lent .spans) (lent .keys) (mergeOf (rulesOf lent) ls rs [] [] .operations) [] = record {
+      original-most = m .original-most;
+      text-most = m .text-most;
+      operations-most = m .operations-most;
+      cursors-most = omega arith;
+      tokens-most = m .tokens-most;
+      inserted-most = m .inserted-most;
+      shapes = m .shapes;
+      tiles = m .tiles;
+      within = tt;
+    } in
+    verdict-yes otherwise (lent .original) (lent .inserted) (lent .spans) (lent .keys) (mergeOf (rulesOf lent) ls rs [] [] .operations) [] a p
 
 module _ (original text spans keys left right : List ℕ) (K : Mergeable left right) (o c w o′ c′ w′ : List ℕ) (no : length o ≡ 6144) (nw : length w ≡ 4096) where
   abbrev lent : Lent
@@ -128,25 +149,7 @@ module _ (original text spans keys left right : List ℕ) (K : Mergeable left ri
     back = rw room-is (of-answered ops o (n .operations * 6) (ap (λ (k : ℕ). k * 6) count))
 
     pub diffable : Diffable original text spans keys (take (n .operations * 6) o′)
-    unfolding verdictOn listsVerdict Within
-    diffable =
-        let m = merged-accepted lent ls rs [] [] al ar in
-        let p : pointsVerdict original text ≡ W.Accepted = first-passed _ _ (rest-passed _ _ passed) in
-        let a : AcceptedList otherwise original text spans keys ops [] = record {
-          original-most = m .original-most;
-          text-most = m .text-most;
-          operations-most = m .operations-most;
-          cursors-most = omega arith;
-          tokens-most = m .tokens-most;
-          inserted-most = m .inserted-most;
-          shapes = m .shapes;
-          tiles = m .tiles;
-          within = tt;
-        } in
-        record {
-          accepted = rw back (verdict-yes otherwise original text spans keys ops [] a p);
-          few = rw back (omega (arith, count, small));
-        }
+    diffable = record { accepted = rw back (merged-fine lent ls rs passed); few = rw back (omega (arith, count, small)) }
 
     pub merges : (out out′ : List ℕ) (z : Outcome) → Written (diffResult original text spans keys (take (n .operations * 6) o′)) out out′ z
         → Written (mergeResult original text spans keys left right) out out′ z

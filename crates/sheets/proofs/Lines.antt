@@ -12,14 +12,14 @@ use Rattle.overlap.specs.Overlap.{overlapOf, longest, first}
 use Rattle.records.specs.declared.Operation.{Operation}
 use Rattle.records.specs.Tokens.{tokensFrom, spelled}
 use Rattle.cursors.specs.Sorted.{place, sorted}
-use Rattle.checks.specs.declared.Verdict.{Verdict}
-use Rattle.checks.specs.declared.Verdict.the-variants as W
-use Rattle.checks.specs.Verdicts.{andThen, sized}
-use Rattle.checks.specs.Points.{pointsFrom}
-use Rattle.checks.specs.Texts.{total, runText, textLength}
-use Rattle.checks.specs.Sizes.{merging, listFits}
-use Rattle.checks.specs.Shapes.{runGood, recordsFrom}
-use Rattle.checks.specs.Tiling.{tilingFrom, tilingOf, withinFrom}
+use Rattle.verdict.specs.declared.Verdict.{Verdict}
+use Rattle.verdict.specs.declared.Verdict.the-variants as W
+use Rattle.verdict.specs.Verdicts.{andThen, sized}
+use Rattle.verdict.specs.Points.{pointsFrom}
+use Rattle.sizes.specs.Texts.{total, runText, textLength}
+use Rattle.sizes.specs.Sizes.{merging, listFits}
+use Rattle.shapes.specs.Shapes.{runGood, recordsFrom}
+use Rattle.shapes.specs.Tiling.{tilingFrom, tilingOf, withinFrom}
 use Rattle.checks.specs.Lists.{listsVerdict}
 use Rattle.elongate.specs.Raws.{flatSpans, flatKeys}
 use Rattle.elongate.specs.Elongated.{parts, lastRight, firstLeft, joinedFrom, elongated, piecesLength, cookedFrom, allTokens}

@@ -4,11 +4,11 @@ use mathlib.Core.Path.{refl}
 use Rattle.records.specs.Tokens.{tokensFrom}
 use Rattle.overlap.proofs.Sheets.{sheets-hold as overlaps-hold}
 use Rattle.diff.proofs.Sheets.{sheets as replays-hold}
-use Rattle.checks.specs.Verdicts.{andThen, sized}
-use Rattle.checks.specs.Points.{pointsFrom}
-use Rattle.checks.specs.Texts.{total, runText}
-use Rattle.checks.specs.Shapes.{runGood, recordsFrom}
-use Rattle.checks.specs.Tiling.{tilingFrom, withinFrom}
+use Rattle.verdict.specs.Verdicts.{andThen, sized}
+use Rattle.verdict.specs.Points.{pointsFrom}
+use Rattle.sizes.specs.Texts.{total, runText}
+use Rattle.shapes.specs.Shapes.{runGood, recordsFrom}
+use Rattle.shapes.specs.Tiling.{tilingFrom, withinFrom}
 use Rattle.checks.specs.Lists.{listsVerdict}
 use Rattle.merging.specs.Sheets.{sheets}
 use Rattle.merging.proofs.Sheets.{sheets-hold as merges-hold}

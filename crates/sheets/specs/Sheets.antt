@@ -5,8 +5,8 @@ use lib.ListN.{length}
 use Rattle.overlap.specs.Overlap.{answerOf}
 use Rattle.overlap.specs.Sheets as overlaps
 use Rattle.diff.specs.Sheets as replays
-use Rattle.checks.specs.declared.Verdict.the-variants.{Accepted}
-use Rattle.checks.specs.Sizes.{merging}
+use Rattle.verdict.specs.declared.Verdict.the-variants.{Accepted}
+use Rattle.sizes.specs.Sizes.{merging}
 use Rattle.checks.specs.Lists.{listsVerdict}
 use Rattle.merging.specs.Sheets as merges
 use Rattle.apply.specs.Sheets as views
