@@ -21,7 +21,7 @@ use Rattle.sizes.specs.Texts.{total, claimedBy, insertedBy, retainedBy, textLen
 use Rattle.sizes.specs.Sizes.{Small, lentFits}
 use Rattle.shapes.specs.Shapes.{isRecord}
 use Rattle.shapes.specs.Tiling.{withinFrom}
-use Rattle.checks.specs.Lists.{listsVerdict}
+use Rattle.checks.specs.Lists.{listVerdict, listsVerdict}
 use Rattle.checks.specs.Passing.{Summed, Good}
 use Rattle.sizes.proofs.Sums.{cap, cap-cap, Totals, totals-begin, totals-on, totals-end}
 use Rattle.shapes.proofs.Shapely.{Recording, records-begin, records-on, records-end}
@@ -98,6 +98,12 @@ then-none : (v : Verdict) → v ≡ andThen v Accepted
 unfolding andThen
 then-none Accepted = refl
 then-none (Refused r) = refl
+
+pub good-alone : (l : Limits) (original text spans keys : List ℕ) (os : List Operation) (cs : List Cursor) → lentFits original text ≡ true
+    → Good l (length original) (length text) spans keys os cs → pointsVerdict original text ≡ listVerdict l original text spans keys os cs
+unfolding listVerdict sized andThen
+good-alone l original text spans keys os cs f g =
+    rw (f, g .fits, g .records, g .tiles, g .within) (then-none (pointsVerdict original text))
 
 pub good-lists : (l : Limits) (original text spans keys : List ℕ) (left right : List Operation) (cs ds : List Cursor) → lentFits original text ≡ true
     → Good l (length original) (length text) spans keys left cs → Good l (length original) (length text) spans keys right ds

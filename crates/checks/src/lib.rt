@@ -10,8 +10,8 @@ ghost use Rattle.sizes.specs.Sizes.{Small};
 ghost use Rattle.checks.specs.Lists.{listVerdict, listsVerdict};
 ghost use Rattle.checks.specs.Passing.{Summed, Good};
 
-// Refusals 3, 4, 1, 2 and 5 of one list, in this order.
-pub fn check_list(
+// Refusals 3, 4, 1, 2 and 5 of one list, in this order: check by check.
+fn judge_list(
     limits: Limits,
     original: &[u32],
     text: &[u32],
@@ -213,6 +213,30 @@ fn is_good(
         Verdict::Accepted => true,
         Verdict::Refused(refusal) => false,
     }
+}
+
+// Refusals 3, 4, 1, 2 and 5 of one list, in this order. One pass mostly shows that there is none.
+pub fn check_list(
+    limits: Limits,
+    original: &[u32],
+    text: &[u32],
+    spans: &[u32],
+    keys: &[u32],
+    operations: &[usize],
+    cursors: &[usize],
+) -> Verdict
+    requires { ⌜ Small limits ⌝ }
+    ensures { λ r. ⌜ r ≡ listVerdict limits (now (original .entry)) (now (text .entry)) (now (spans .entry)) (now (keys .entry)) (operationsOf (now (operations .entry))) (cursorsOf (now (cursors .entry))) ⌝ }
+{
+    let n = original.len();
+    let m = text.len();
+    if !sizes::lent_fits(original, text) {
+        return Verdict::Refused(refusal::Refusal::Size);
+    }
+    if !is_good(limits, n, m, spans, keys, operations, cursors) {
+        return judge_list(limits, original, text, spans, keys, operations, cursors);
+    }
+    verdict::check_texts(original, text)
 }
 
 // Refusals 3, 4, 1, 2 and 5 of the two lists of a merge, each on both before the next. One
