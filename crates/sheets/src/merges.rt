@@ -324,10 +324,11 @@ fn applies(
         apply::Applied::Refused(_) => false,
         apply::Applied::Counts {
             text: points,
-            cursors: _,
+            cursors: count,
         } => {
             points == spelt.len()
                 && vectors::same_u32(&out, spelt, points)
+                && count == cursors.len() / 2
                 && vectors::same_usize(&moved, cursors, cursors.len())
         }
     }
@@ -356,11 +357,12 @@ fn tells(
     ) {
         apply::WithHistory::Refused(_) => false,
         apply::WithHistory::Counts {
-            spans: _,
+            spans: count,
             text: points,
         } => {
             points == told.len()
                 && vectors::same_u32(&out, told, points)
+                && count == history.len() / 4
                 && vectors::same_usize(&spanned, history, history.len())
         }
     }
@@ -397,15 +399,17 @@ fn tells_all(
         apply::WithAll::Refused(_) => false,
         apply::WithAll::Counts {
             text: points,
-            cursors: _,
-            spans: _,
+            cursors: count,
+            spans: pieces,
             history_text: more,
         } => {
             points == spelt.len()
                 && vectors::same_u32(&out, spelt, points)
+                && count == cursors.len() / 2
                 && vectors::same_usize(&moved, cursors, cursors.len())
                 && more == told.len()
                 && vectors::same_u32(&words, told, more)
+                && pieces == history.len() / 4
                 && vectors::same_usize(&spanned, history, history.len())
         }
     }
