@@ -11,7 +11,11 @@ fn stored_vectors_are_the_generators() {
             stored == vectors.as_str(),
             "{name} differs: run the binary `vectors`"
         );
-        assert!(vectors.longest_line() <= accepted::LONGEST);
+        let longest = match name {
+            "overlap.txt" => accepted::LONGEST_OVERLAP,
+            _ => accepted::LONGEST,
+        };
+        assert!(vectors.longest_line() <= longest);
         bytes += vectors.len();
     }
     assert!(bytes < 700_000);

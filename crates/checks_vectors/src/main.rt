@@ -2,6 +2,7 @@
 // every position of small lists. A case is ten lines: 2 for the two lists of a merge or 1 for one list
 // otherwise, original, inserted text, spans, keys, left operations, right operations, left cursors,
 // right cursors, and the verdict: 0, or a refusal's number and values.
+use vectors::Due;
 use verdict::Verdict;
 
 fn main() {
@@ -11,26 +12,17 @@ fn main() {
 }
 
 fn replay(name: &[u8], bytes: &[u8]) {
-    let mut agree: u64 = 0;
-    let mut differ: u64 = 0;
+    let mut tally = vectors::no_cases();
     let mut at = 0;
     'cases: while at < bytes.len() {
         let case = case_at(bytes, at);
-        if case.agrees {
-            agree = one_more(agree);
-        } else {
-            differ = one_more(differ);
-        }
+        tally = tally.with(case.agrees);
         if case.next <= at {
             break 'cases;
         }
         at = case.next;
     }
-    vectors::report(name, agree, differ);
-}
-
-fn one_more(n: u64) -> u64 {
-    std::num::wrapping_add_u64(n, 1)
+    vectors::report(name, tally);
 }
 
 // Whether the check gives the case's verdict, and the offset behind the case.
@@ -78,7 +70,6 @@ fn lists_at(
     let mut right = [0usize; 64];
     let mut left_cursors = [0usize; 64];
     let mut right_cursors = [0usize; 64];
-    let mut answer = [0usize; 4];
     let left_line = vectors::numbers_usize(bytes, at, &mut left);
     let right_line = vectors::numbers_usize(bytes, left_line.next, &mut right);
     let left_cursors_line = vectors::numbers_usize(bytes, right_line.next, &mut left_cursors);
@@ -87,7 +78,7 @@ fn lists_at(
         left_cursors_line.next,
         &mut right_cursors,
     );
-    let answer_line = vectors::numbers_usize(bytes, right_cursors_line.next, &mut answer);
+    let answer = vectors::due_at(bytes, right_cursors_line.next);
     let l = left_line.count;
     let r = right_line.count;
     let m = left_cursors_line.count;
@@ -104,8 +95,8 @@ fn lists_at(
         &right_cursors[..n],
     );
     Case {
-        agrees: is_due(verdict, &answer),
-        next: answer_line.next,
+        agrees: is_due(verdict, answer.due),
+        next: answer.next,
     }
 }
 
@@ -144,17 +135,9 @@ fn verdict_on(
     )
 }
 
-fn is_due(verdict: Verdict, answer: &[usize; 4]) -> bool {
+fn is_due(verdict: Verdict, due: Due) -> bool {
     match verdict {
-        Verdict::Accepted => answer[0] == 0,
-        Verdict::Refused(why) => is_why(why, answer),
+        Verdict::Accepted => due.number == 0,
+        Verdict::Refused(why) => vectors::is_refusal(why, due),
     }
-}
-
-fn is_why(why: refusal::Refusal, answer: &[usize; 4]) -> bool {
-    let values = refusal::values_of(why);
-    refusal::number_of(why) == answer[0]
-        && values.first == answer[1] as u64
-        && values.second == answer[2] as u64
-        && values.third == answer[3] as u64
 }

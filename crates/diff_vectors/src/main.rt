@@ -4,7 +4,7 @@ use diff::replay::from_covering_diff;
 use diff::replay::from_covering_diff_length;
 use diff::replay::from_diff;
 use diff::replay::from_diff_length;
-use refusal::Counted;
+use vectors::Due;
 
 fn main() {
     let mut space = io::large_buffer();
@@ -16,14 +16,8 @@ fn run(bytes: &[u8]) {
     let mut original = [0u32; 1024];
     let mut items = [0i64; 1024];
     let mut text = [0u32; 1024];
-    let mut plain = Tally {
-        agree: 0,
-        differ: 0,
-    };
-    let mut covering = Tally {
-        agree: 0,
-        differ: 0,
-    };
+    let mut plain = vectors::no_cases();
+    let mut covering = vectors::no_cases();
     let mut at = 0;
     'cases: while at < bytes.len() {
         let case = case_at(bytes, at, &mut original, &mut items, &mut text);
@@ -34,33 +28,8 @@ fn run(bytes: &[u8]) {
         }
         at = case.next;
     }
-    tell(plain, covering);
-}
-
-fn tell(plain: Tally, covering: Tally) {
-    vectors::report(b"replay", plain.agree, plain.differ);
-    vectors::report(b"covering replay", covering.agree, covering.differ);
-}
-
-struct Tally {
-    agree: u64,
-    differ: u64,
-}
-
-impl Tally {
-    fn with(self, agrees: bool) -> Tally {
-        if agrees {
-            Tally {
-                agree: std::num::wrapping_add_u64(self.agree, 1),
-                differ: self.differ,
-            }
-        } else {
-            Tally {
-                agree: self.agree,
-                differ: std::num::wrapping_add_u64(self.differ, 1),
-            }
-        }
-    }
+    vectors::report(b"replay", plain);
+    vectors::report(b"covering replay", covering);
 }
 
 // Whether both calls give the case's answers, and the offset behind the case.
@@ -116,14 +85,13 @@ fn half_at(
     text: &[u32],
     covering: bool,
 ) -> Half {
-    let mut answer = [0usize; 4];
-    let answer_line = vectors::numbers_usize(bytes, at, &mut answer);
+    let answer = vectors::due_at(bytes, at);
     let mut want = [0u32; 2048];
-    let want_line = vectors::numbers_u32(bytes, answer_line.next, &mut want);
+    let want_line = vectors::numbers_u32(bytes, answer.next, &mut want);
     let agrees = if covering {
-        covering_agrees(original, items, text, &answer, &want, want_line.count)
+        covering_agrees(original, items, text, answer.due, &want, want_line.count)
     } else {
-        plain_agrees(original, items, text, &answer, &want, want_line.count)
+        plain_agrees(original, items, text, answer.due, &want, want_line.count)
     };
     Half {
         agrees,
@@ -135,40 +103,30 @@ fn plain_agrees(
     original: &[u32],
     items: &[i64],
     text: &[u32],
-    answer: &[usize; 4],
+    due: Due,
     want: &[u32],
     count: usize,
 ) -> bool {
     let mut out = [0u32; 2048];
     let length = from_diff_length(original, items, text);
     let answered = from_diff(original, items, text, &mut out);
-    is(length, answer) && is(answered, answer) && vectors::same_u32(&out, want, count)
+    vectors::is_counted(length, due)
+        && vectors::is_counted(answered, due)
+        && vectors::same_u32(&out, want, count)
 }
 
 fn covering_agrees(
     original: &[u32],
     items: &[i64],
     text: &[u32],
-    answer: &[usize; 4],
+    due: Due,
     want: &[u32],
     count: usize,
 ) -> bool {
     let mut out = [0u32; 2048];
     let length = from_covering_diff_length(original, items, text);
     let answered = from_covering_diff(original, items, text, &mut out);
-    is(length, answer) && is(answered, answer) && vectors::same_u32(&out, want, count)
-}
-
-// Whether an answer is the one that a line says: 0 and the count, or the refusal's number and values.
-fn is(counted: Counted, answer: &[usize; 4]) -> bool {
-    match counted {
-        Counted::Count(n) => answer[0] == 0 && answer[1] == n,
-        Counted::Refused(refusal) => {
-            let values = refusal::values_of(refusal);
-            refusal::number_of(refusal) == answer[0]
-                && values.first == answer[1] as u64
-                && values.second == answer[2] as u64
-                && values.third == answer[3] as u64
-        }
-    }
+    vectors::is_counted(length, due)
+        && vectors::is_counted(answered, due)
+        && vectors::same_u32(&out, want, count)
 }

@@ -3,8 +3,8 @@
 // each with 1 where the file is believed for it and 0 where not; the line charged to each proper beginning of the file, and to the file with
 // each of its bits flipped, 0 where that is accepted. File, text and items are in pieces; the last two lines are empty in most cases.
 use edit_read::FileRead;
-use edit_vectors::Due;
-use edit_vectors::Tally;
+use vectors::Due;
+use vectors::Tally;
 
 fn main() {
     let mut space = [0u8; 262144];
@@ -25,10 +25,10 @@ fn run(bytes: &[u8]) {
     let mut text = [0u32; 131072];
     let mut items = [0i64; 327680];
     let mut tallies = Tallies {
-        read: edit_vectors::none(),
-        believed: edit_vectors::none(),
-        beginnings: edit_vectors::none(),
-        flips: edit_vectors::none(),
+        read: vectors::no_cases(),
+        believed: vectors::no_cases(),
+        beginnings: vectors::no_cases(),
+        flips: vectors::no_cases(),
     };
     let mut at = 0;
     'cases: while at < bytes.len() {
@@ -43,10 +43,10 @@ fn run(bytes: &[u8]) {
 }
 
 fn tell(tallies: Tallies) {
-    edit_vectors::report(b"edit files", tallies.read);
-    edit_vectors::report(b"believed", tallies.believed);
-    edit_vectors::report(b"beginnings", tallies.beginnings);
-    edit_vectors::report(b"flipped bits", tallies.flips);
+    vectors::report(b"edit files", tallies.read);
+    vectors::report(b"believed", tallies.believed);
+    vectors::report(b"beginnings", tallies.beginnings);
+    vectors::report(b"flipped bits", tallies.flips);
 }
 
 // The counts with a case's, and the offset behind it.
@@ -68,7 +68,7 @@ fn turn_at(
     let t = case.text;
     let i = case.items;
     let agrees = reads(&file[..f], case.due, &items[..i], &text[..t]);
-    let read = edit_vectors::with(tallies.read, agrees);
+    let read = tallies.read.with(agrees);
     more_at(bytes, case.next, tallies, read, &file[..f])
 }
 
@@ -119,11 +119,7 @@ fn reads(file: &[u8], due: Due, items: &[i64], text: &[u32]) -> bool {
     if due.number != 0 {
         return true;
     }
-    let short = Due {
-        number: 7,
-        first: 0,
-        second: 0,
-    };
+    let short = vectors::room_due();
     if i > 0 {
         if !leaves(file, i - 1, t, short, &items[..0], &text[..0]) {
             return false;
@@ -144,12 +140,12 @@ fn leaves(
     items: &[i64],
     text: &[u32],
 ) -> bool {
-    let mut items_room = [edit_vectors::MARK_I64; 24584];
-    let mut text_room = [edit_vectors::MARK_U32; 131080];
+    let mut items_room = [marked::MARK_I64; 24584];
+    let mut text_room = [marked::MARK_U32; 131080];
     let answer = lend(file, items_lent, text_lent, &mut items_room, &mut text_room);
     is_due(answer, due)
-        && edit_vectors::left_i64(&items_room, items)
-        && edit_vectors::left_u32(&text_room, text)
+        && marked::holds_i64(&items_room, items)
+        && marked::holds_u32(&text_room, text)
 }
 
 // Reading into the beginnings of rooms.
@@ -174,7 +170,7 @@ fn is_due(answer: FileRead, due: Due) -> bool {
         FileRead::Counts { items, text } => {
             due.number == 0 && due.first == items && due.second == text
         }
-        FileRead::Refused(why) => edit_vectors::is_refusal(why, due),
+        FileRead::Refused(why) => vectors::is_refusal(why, due),
     }
 }
 
@@ -183,7 +179,7 @@ fn believes(file: &[u8], lengths: &[usize], tally: Tally) -> Tally {
     let mut i = 0;
     'lengths: while i + 1 < lengths.len() {
         let believed = edit_read::believed(file, lengths[i]);
-        now = edit_vectors::with(now, believed == (lengths[i + 1] == 1));
+        now = now.with(believed == (lengths[i + 1] == 1));
         i += 2;
     }
     now
@@ -198,6 +194,7 @@ fn is_charged(file: &[u8], line: usize) -> bool {
         number: 8,
         first: line,
         second: 0,
+        third: 0,
     };
     reads(file, due, &[0i64; 0], &[0u32; 0])
 }
@@ -216,7 +213,7 @@ fn begins(file: &[u8], lines: &[usize], tally: Tally) -> Tally {
         if file.len() < i {
             return now;
         }
-        now = edit_vectors::with(now, is_charged(&file[..i], lines[i]));
+        now = now.with(is_charged(&file[..i], lines[i]));
         i += 1;
     }
     now
@@ -227,7 +224,7 @@ fn flips(file: &[u8], lines: &[usize], tally: Tally) -> Tally {
     let mut now = tally;
     let mut i = 0;
     'lines: while i < lines.len() {
-        now = edit_vectors::with(now, is_flipped(file, i, lines[i]));
+        now = now.with(is_flipped(file, i, lines[i]));
         i += 1;
     }
     now

@@ -1,8 +1,8 @@
 // Elongates the oracle's raw lists, which it reads from standard input: accepted ones, then refused
 // ones. A case is ten lines: raw operations, spans, keys, joins, text, the answer, and what the rooms
 // for operations, spans, keys and joins then begin with. The answer is `0 operations tokens`, or a
-// refusal's number and values. Past what is due a room keeps the number it was filled with.
-ghost use Prim.Native.Nat.{_≤_};
+// refusal's number and values. Past what is due a room keeps its marks.
+use vectors::Due;
 
 fn main() {
     let mut space = [0u8; 131072];
@@ -11,40 +11,23 @@ fn main() {
 }
 
 fn replay(name: &[u8], bytes: &[u8]) {
-    let mut agree: u64 = 0;
-    let mut differ: u64 = 0;
+    let mut tally = vectors::no_cases();
     let mut at = 0;
     'cases: while at < bytes.len() {
         let case = case_at(bytes, at);
-        if case.agrees {
-            agree = one_more(agree);
-        } else {
-            differ = one_more(differ);
-        }
+        tally = tally.with(case.agrees);
         if case.next <= at {
             break 'cases;
         }
         at = case.next;
     }
-    vectors::report(name, agree, differ);
-}
-
-fn one_more(n: u64) -> u64 {
-    std::num::wrapping_add_u64(n, 1)
+    vectors::report(name, tally);
 }
 
 // Whether the call gives the case's answer, and the offset behind the case.
 struct Case {
     agrees: bool,
     next: usize,
-}
-
-// An answer, as its line says it; 0 after the last number.
-struct Due {
-    number: usize,
-    first: usize,
-    second: usize,
-    third: usize,
 }
 
 // The lengths of the rooms that are lent.
@@ -91,17 +74,15 @@ fn answer_at(
     joins: &[u8],
     text: &[u32],
 ) -> Case {
-    let mut answer = [0usize; 4];
     let mut operations_due = [0usize; 1024];
     let mut spans_due = [0u32; 1024];
     let mut keys_due = [0u32; 1024];
     let mut joins_due = [0u8; 1024];
-    let answer_line = vectors::numbers_usize(bytes, at, &mut answer);
-    let operations_line = vectors::numbers_usize(bytes, answer_line.next, &mut operations_due);
+    let answer = vectors::due_at(bytes, at);
+    let operations_line = vectors::numbers_usize(bytes, answer.next, &mut operations_due);
     let spans_line = vectors::numbers_u32(bytes, operations_line.next, &mut spans_due);
     let keys_line = vectors::numbers_u32(bytes, spans_line.next, &mut keys_due);
     let joins_line = vectors::numbers_u8(bytes, keys_line.next, &mut joins_due);
-    let due = due_of(&answer);
     let o = operations_line.count;
     let s = spans_line.count;
     let k = keys_line.count;
@@ -112,7 +93,7 @@ fn answer_at(
         keys,
         joins,
         text,
-        due,
+        answer.due,
         &operations_due[..o],
         &spans_due[..s],
         &keys_due[..k],
@@ -121,15 +102,6 @@ fn answer_at(
     Case {
         agrees,
         next: joins_line.next,
-    }
-}
-
-fn due_of(answer: &[usize; 4]) -> Due {
-    Due {
-        number: answer[0],
-        first: answer[1],
-        second: answer[2],
-        third: answer[3],
     }
 }
 
@@ -200,8 +172,8 @@ fn asked_by(raw: &[usize], due: Due) -> Rooms {
             joins: 0,
         };
     }
-    let operations = at_most(raw.len() / 3, 341);
-    let tokens = at_most(due.second, 1024);
+    let operations = marked::at_most(raw.len() / 3, 341);
+    let tokens = marked::at_most(due.second, 1024);
     Rooms {
         operations: operations * 6,
         spans: tokens * 2,
@@ -229,7 +201,7 @@ fn refuses_short(
         joins,
         text,
         Rooms {
-            operations: one_less(asked.operations),
+            operations: marked::one_less(asked.operations),
             spans: asked.spans,
             keys: asked.keys,
             joins: asked.joins,
@@ -243,7 +215,7 @@ fn refuses_short(
             text,
             Rooms {
                 operations: asked.operations,
-                spans: one_less(asked.spans),
+                spans: marked::one_less(asked.spans),
                 keys: asked.keys,
                 joins: asked.joins,
             },
@@ -257,7 +229,7 @@ fn refuses_short(
             Rooms {
                 operations: asked.operations,
                 spans: asked.spans,
-                keys: one_less(asked.keys),
+                keys: marked::one_less(asked.keys),
                 joins: asked.joins,
             },
         )
@@ -271,13 +243,9 @@ fn refuses_short(
                 operations: asked.operations,
                 spans: asked.spans,
                 keys: asked.keys,
-                joins: one_less(asked.joins),
+                joins: marked::one_less(asked.joins),
             },
         )
-}
-
-fn one_less(n: usize) -> usize {
-    if n == 0 { 0 } else { n - 1 }
 }
 
 fn refuses(
@@ -288,12 +256,6 @@ fn refuses(
     text: &[u32],
     rooms: Rooms,
 ) -> bool {
-    let due = Due {
-        number: 7,
-        first: 0,
-        second: 0,
-        third: 0,
-    };
     let operations_due = [0usize; 0];
     let tokens_due = [0u32; 0];
     let joins_due = [0u8; 0];
@@ -304,18 +266,12 @@ fn refuses(
         joins,
         text,
         rooms,
-        due,
+        vectors::room_due(),
         &operations_due,
         &tokens_due,
         &tokens_due,
         &joins_due,
     )
-}
-
-fn at_most(n: usize, most: usize) -> usize
-    ensures { λ r. ⌜ r ≤ most ⌝ }
-{
-    if n < most { n } else { most }
 }
 
 // Whether the call in rooms of these lengths gives what is due.
@@ -332,14 +288,14 @@ fn gives(
     keys_due: &[u32],
     joins_due: &[u8],
 ) -> bool {
-    let mut operations = [165usize; 2048];
-    let mut spanned = [165u32; 2048];
-    let mut keyed = [165u32; 1024];
-    let mut joined = [165u8; 1024];
-    let o = at_most(rooms.operations, 2048);
-    let s = at_most(rooms.spans, 2048);
-    let k = at_most(rooms.keys, 1024);
-    let j = at_most(rooms.joins, 1024);
+    let mut operations = [marked::MARK_USIZE; 2048];
+    let mut spanned = [marked::MARK_U32; 2048];
+    let mut keyed = [marked::MARK_U32; 1024];
+    let mut joined = [marked::MARK_U8; 1024];
+    let o = marked::at_most(rooms.operations, 2048);
+    let s = marked::at_most(rooms.spans, 2048);
+    let k = marked::at_most(rooms.keys, 1024);
+    let j = marked::at_most(rooms.joins, 1024);
     gives_in(
         raw,
         spans,
@@ -386,10 +342,10 @@ fn gives_in(
         joined,
     );
     is_due(answer, due)
-        && holds_usize(operations, operations_due)
-        && holds_u32(spanned, spans_due)
-        && holds_u32(keyed, keys_due)
-        && holds_u8(joined, joins_due)
+        && marked::holds_usize(operations, operations_due)
+        && marked::holds_u32(spanned, spans_due)
+        && marked::holds_u32(keyed, keys_due)
+        && marked::holds_u8(joined, joins_due)
 }
 
 fn is_due(answer: elongate::Answer, due: Due) -> bool {
@@ -397,57 +353,6 @@ fn is_due(answer: elongate::Answer, due: Due) -> bool {
         elongate::Answer::Counts(written) => {
             due.number == 0 && due.first == written.operations && due.second == written.tokens
         }
-        elongate::Answer::Refused(why) => is_why(why, due),
+        elongate::Answer::Refused(why) => vectors::is_refusal(why, due),
     }
-}
-
-fn is_why(why: refusal::Refusal, due: Due) -> bool {
-    let values = refusal::values_of(why);
-    refusal::number_of(why) == due.number
-        && values.first == due.first as u64
-        && values.second == due.second as u64
-        && values.third == due.third as u64
-}
-
-// Whether a room begins with what is due and is else as it was filled.
-fn holds_usize(room: &[usize], due: &[usize]) -> bool {
-    if !vectors::same_usize(room, due, due.len()) {
-        return false;
-    }
-    let mut i = due.len();
-    'rest: while i < room.len() {
-        if room[i] != 165 {
-            return false;
-        }
-        i += 1;
-    }
-    true
-}
-
-fn holds_u32(room: &[u32], due: &[u32]) -> bool {
-    if !vectors::same_u32(room, due, due.len()) {
-        return false;
-    }
-    let mut i = due.len();
-    'rest: while i < room.len() {
-        if room[i] != 165 {
-            return false;
-        }
-        i += 1;
-    }
-    true
-}
-
-fn holds_u8(room: &[u8], due: &[u8]) -> bool {
-    if !vectors::same_u8(room, due, due.len()) {
-        return false;
-    }
-    let mut i = due.len();
-    'rest: while i < room.len() {
-        if room[i] != 165 {
-            return false;
-        }
-        i += 1;
-    }
-    true
 }

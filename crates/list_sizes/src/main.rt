@@ -4,44 +4,20 @@
 // of ones is an insert.
 use verdict::Verdict;
 ghost use Prim.Native.Nat.{_≤_};
+use vectors::Tally;
 
 fn main() {
     let points = [1u32; 131071];
     let ones = [1usize; 49158];
     let joins = [1u8; 16385];
-    let tally = Tally {
-        agree: 0,
-        differ: 0,
-    };
+    let tally = vectors::no_cases();
     let one = lists(tally, Setting::One, other_sizes(), &points, &ones);
     let both = lists(one, Setting::Both, merging_sizes(), &points, &ones);
     let left = lists(both, Setting::Left, merging_sizes(), &points, &ones);
     let right = lists(left, Setting::Right, merging_sizes(), &points, &ones);
-    vectors::report(b"sizes of lists", right.agree, right.differ);
+    vectors::report(b"sizes of lists", right);
     let raw = raws(tally, &points, &ones, &joins);
-    vectors::report(b"sizes of raw lists", raw.agree, raw.differ);
-}
-
-struct Tally {
-    agree: u64,
-    differ: u64,
-}
-
-impl Tally {
-    // One more number that was given, and the number that is due.
-    fn with(self, given: usize, due: usize) -> Tally {
-        if given == due {
-            Tally {
-                agree: std::num::wrapping_add_u64(self.agree, 1),
-                differ: self.differ,
-            }
-        } else {
-            Tally {
-                agree: self.agree,
-                differ: std::num::wrapping_add_u64(self.differ, 1),
-            }
-        }
-    }
+    vectors::report(b"sizes of raw lists", raw);
 }
 
 // One list otherwise than for merging; a list on both sides of a merge, or on one.
@@ -130,8 +106,8 @@ fn inserts(tally: Tally, setting: Setting, sizes: Sizes, points: &[u32], ones: &
                 ones,
                 sizes.operations,
                 ones,
-            ),
-            0,
+            )
+                == 0,
         )
         .with(
             number(
@@ -142,14 +118,11 @@ fn inserts(tally: Tally, setting: Setting, sizes: Sizes, points: &[u32], ones: &
                 ones,
                 sizes.operations_past,
                 ones,
-            ),
-            3,
+            )
+                == 3,
         )
-        .with(number(setting, cursors, points, points, ones, 6, ones), 0)
-        .with(
-            number(setting, cursors_past, points, points, ones, 6, ones),
-            3,
-        )
+        .with(number(setting, cursors, points, points, ones, 6, ones) == 0)
+        .with(number(setting, cursors_past, points, points, ones, 6, ones) == 3)
 }
 
 // The tokens that are claimed. A kind that is unknown claims none.
@@ -160,18 +133,9 @@ fn claims(tally: Tally, setting: Setting, sizes: Sizes, points: &[u32], ones: &[
         cursors: 0,
     };
     tally
-        .with(
-            alone(setting, lent, points, points, ones, 1, 0, sizes.tokens),
-            0,
-        )
-        .with(
-            alone(setting, lent, points, points, ones, 1, 0, sizes.tokens_past),
-            3,
-        )
-        .with(
-            alone(setting, lent, points, points, ones, 1, 0, 4294967296),
-            3,
-        )
+        .with(alone(setting, lent, points, points, ones, 1, 0, sizes.tokens) == 0)
+        .with(alone(setting, lent, points, points, ones, 1, 0, sizes.tokens_past) == 3)
+        .with(alone(setting, lent, points, points, ones, 1, 0, 4294967296) == 3)
         .with(
             alone(
                 setting,
@@ -182,8 +146,8 @@ fn claims(tally: Tally, setting: Setting, sizes: Sizes, points: &[u32], ones: &[
                 1,
                 0,
                 18446744073709551615,
-            ),
-            3,
+            )
+                == 3,
         )
         .with(
             alone(
@@ -195,8 +159,8 @@ fn claims(tally: Tally, setting: Setting, sizes: Sizes, points: &[u32], ones: &[
                 3,
                 0,
                 18446744073709551615,
-            ),
-            1,
+            )
+                == 1,
         )
 }
 
@@ -214,10 +178,10 @@ fn texts(tally: Tally, setting: Setting, sizes: Sizes, points: &[u32], ones: &[u
     };
     let spans = [0u32, sizes.text, 0, 1];
     tally
-        .with(alone(setting, lent, points, &spans, ones, 1, 0, 1), 0)
-        .with(alone(setting, lent, points, &spans, ones, 1, 0, 2), 3)
-        .with(number(setting, lent, points, points, ones, 0, ones), 0)
-        .with(number(setting, lent_past, points, points, ones, 0, ones), 3)
+        .with(alone(setting, lent, points, &spans, ones, 1, 0, 1) == 0)
+        .with(alone(setting, lent, points, &spans, ones, 1, 0, 2) == 3)
+        .with(number(setting, lent, points, points, ones, 0, ones) == 0)
+        .with(number(setting, lent_past, points, points, ones, 0, ones) == 3)
 }
 
 // The original, and what is claimed of it.
@@ -233,16 +197,10 @@ fn originals(tally: Tally, setting: Setting, points: &[u32], ones: &[usize]) -> 
         cursors: 0,
     };
     tally
-        .with(alone(setting, lent, points, points, ones, 2, 65535, 0), 0)
-        .with(
-            alone(setting, lent_past, points, points, ones, 2, 65536, 0),
-            3,
-        )
-        .with(alone(setting, lent, points, points, ones, 2, 65536, 0), 2)
-        .with(
-            alone(setting, lent, points, points, ones, 0, 4294967296, 0),
-            2,
-        )
+        .with(alone(setting, lent, points, points, ones, 2, 65535, 0) == 0)
+        .with(alone(setting, lent_past, points, points, ones, 2, 65536, 0) == 3)
+        .with(alone(setting, lent, points, points, ones, 2, 65536, 0) == 2)
+        .with(alone(setting, lent, points, points, ones, 0, 4294967296, 0) == 2)
         .with(
             alone(
                 setting,
@@ -253,8 +211,8 @@ fn originals(tally: Tally, setting: Setting, points: &[u32], ones: &[usize]) -> 
                 0,
                 18446744073709551615,
                 0,
-            ),
-            2,
+            )
+                == 2,
         )
 }
 
@@ -273,12 +231,6 @@ fn alone(
     number(setting, lent, points, spans, &operations, 6, ones)
 }
 
-fn at_most(n: usize, most: usize) -> usize
-    ensures { λ r. ⌜ r ≤ most ⌝ }
-{
-    if n < most { n } else { most }
-}
-
 // The number of the verdict on the list of the first `count` numbers; 0 if it is accepted.
 fn number(
     setting: Setting,
@@ -289,10 +241,10 @@ fn number(
     count: usize,
     ones: &[usize],
 ) -> usize {
-    let o = at_most(lent.original, points.len());
-    let t = at_most(lent.text, points.len());
-    let n = at_most(count, operations.len());
-    let c = at_most(lent.cursors, ones.len());
+    let o = marked::at_most(lent.original, points.len());
+    let t = marked::at_most(lent.text, points.len());
+    let n = marked::at_most(count, operations.len());
+    let c = marked::at_most(lent.cursors, ones.len());
     let verdict = verdict_on(
         setting,
         &points[..o],
@@ -378,16 +330,16 @@ fn verdict_on(
 fn raws(tally: Tally, points: &[u32], ones: &[usize], joins: &[u8]) -> Tally {
     let spans = [0u32, 131070, 0, 1];
     tally
-        .with(raw_number(points, points, joins, 2, ones, 24576), 7)
-        .with(raw_number(points, points, joins, 2, ones, 24579), 3)
-        .with(raw_alone(points, points, joins, 2, 16384), 7)
-        .with(raw_alone(points, points, joins, 2, 16385), 3)
-        .with(raw_alone(points, points, joins, 2, 4294967296), 3)
-        .with(raw_alone(points, points, joins, 2, 18446744073709551615), 3)
-        .with(raw_alone(points, &spans, joins, 131070, 1), 7)
-        .with(raw_alone(points, &spans, joins, 131070, 2), 3)
-        .with(raw_alone(points, points, joins, 131070, 1), 7)
-        .with(raw_alone(points, points, joins, 131071, 1), 3)
+        .with(raw_number(points, points, joins, 2, ones, 24576) == 7)
+        .with(raw_number(points, points, joins, 2, ones, 24579) == 3)
+        .with(raw_alone(points, points, joins, 2, 16384) == 7)
+        .with(raw_alone(points, points, joins, 2, 16385) == 3)
+        .with(raw_alone(points, points, joins, 2, 4294967296) == 3)
+        .with(raw_alone(points, points, joins, 2, 18446744073709551615) == 3)
+        .with(raw_alone(points, &spans, joins, 131070, 1) == 7)
+        .with(raw_alone(points, &spans, joins, 131070, 2) == 3)
+        .with(raw_alone(points, points, joins, 131070, 1) == 7)
+        .with(raw_alone(points, points, joins, 131071, 1) == 3)
 }
 
 // The number of the answer to a raw list of one delete.
@@ -404,8 +356,8 @@ fn raw_number(
     raw: &[usize],
     count: usize,
 ) -> usize {
-    let t = at_most(text, points.len());
-    let n = at_most(count, raw.len());
+    let t = marked::at_most(text, points.len());
+    let n = marked::at_most(count, raw.len());
     let mut operations = [0usize; 0];
     let mut spanned = [0u32; 0];
     let mut keyed = [0u32; 0];

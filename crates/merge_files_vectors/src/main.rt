@@ -15,8 +15,7 @@ fn replay(name: &[u8], bytes: &[u8]) {
     let mut right = [0u8; 4096];
     let mut due = [0u8; 4096];
     let mut out = [0u8; 4096];
-    let mut agree: u64 = 0;
-    let mut differ: u64 = 0;
+    let mut tally = vectors::no_cases();
     let mut at = 0;
     'cases: while at < bytes.len() {
         let case = case_at(
@@ -28,21 +27,13 @@ fn replay(name: &[u8], bytes: &[u8]) {
             &mut due,
             &mut out,
         );
-        if case.agrees {
-            agree = one_more(agree);
-        } else {
-            differ = one_more(differ);
-        }
+        tally = tally.with(case.agrees);
         if case.next <= at {
             break 'cases;
         }
         at = case.next;
     }
-    vectors::report(name, agree, differ);
-}
-
-fn one_more(n: u64) -> u64 {
-    std::num::wrapping_add_u64(n, 1)
+    vectors::report(name, tally);
 }
 
 // Whether the call gives the case's bytes, and the offset behind the case.

@@ -1,55 +1,33 @@
-// Merges the oracle's lists, which it reads from standard input: accepted ones, then refused ones. The
-// first line is the answer for a pair of lists at their limits, which `limits` builds. Each further case
+// Merges the oracle's lists, which it reads from standard input: accepted ones, then refused ones. A case
 // is eleven lines: original, inserted text, spans, keys, left operations, right operations, left cursors,
 // right cursors, the answer, and what the rooms for operations and cursors then begin with. The answer is
-// `0 operations cursors`, or a refusal's number and values. Past what is due a room keeps the number it
-// was filled with.
-mod limits;
+// `0 operations cursors`, or a refusal's number and values. Past what is due a room keeps its marks.
 mod rooms;
 
 fn main() {
     let mut space = [0u8; 393216];
     let n = io::read_full(0, &mut space);
-    run(&space[..n]);
+    replay(&space[..n]);
 }
 
-fn run(bytes: &[u8]) {
-    let first = limits::limits_at(bytes);
-    if first.agrees {
-        vectors::report(b"merge at the limits", 1, 0);
-    } else {
-        vectors::report(b"merge at the limits", 0, 1);
-    }
-    replay(bytes, first.next);
-}
-
-fn replay(bytes: &[u8], start: usize) {
-    let mut agree: u64 = 0;
-    let mut differ: u64 = 0;
-    let mut at = start;
+fn replay(bytes: &[u8]) {
+    let mut tally = vectors::no_cases();
+    let mut at = 0;
     'cases: while at < bytes.len() {
         let case = case_at(bytes, at);
-        if case.agrees {
-            agree = one_more(agree);
-        } else {
-            differ = one_more(differ);
-        }
+        tally = tally.with(case.agrees);
         if case.next <= at {
             break 'cases;
         }
         at = case.next;
     }
-    vectors::report(b"merge", agree, differ);
-}
-
-fn one_more(n: u64) -> u64 {
-    std::num::wrapping_add_u64(n, 1)
+    vectors::report(b"merge", tally);
 }
 
 // Whether the call gives the case's answer, and the offset behind the case.
-pub struct Case {
-    pub agrees: bool,
-    pub next: usize,
+struct Case {
+    agrees: bool,
+    next: usize,
 }
 
 fn case_at(bytes: &[u8], at: usize) -> Case {
@@ -125,13 +103,11 @@ fn answer_at(
     left_cursors: &[usize],
     right_cursors: &[usize],
 ) -> Case {
-    let mut answer = [0usize; 4];
     let mut operations = [0usize; 2048];
     let mut cursors = [0usize; 1024];
-    let answer_line = vectors::numbers_usize(bytes, at, &mut answer);
-    let operations_line = vectors::numbers_usize(bytes, answer_line.next, &mut operations);
+    let answer = vectors::due_at(bytes, at);
+    let operations_line = vectors::numbers_usize(bytes, answer.next, &mut operations);
     let cursors_line = vectors::numbers_usize(bytes, operations_line.next, &mut cursors);
-    let due = due_of(&answer);
     let o = operations_line.count;
     let c = cursors_line.count;
     Case {
@@ -144,19 +120,10 @@ fn answer_at(
             right,
             left_cursors,
             right_cursors,
-            due,
+            answer.due,
             &operations[..o],
             &cursors[..c],
         ),
         next: cursors_line.next,
-    }
-}
-
-fn due_of(answer: &[usize; 4]) -> rooms::Due {
-    rooms::Due {
-        number: answer[0],
-        first: answer[1],
-        second: answer[2],
-        third: answer[3],
     }
 }

@@ -1,14 +1,6 @@
 // One pair of lists, merged in rooms of several lengths: ample ones, those asked, and those asked with
 // one of them a number too short.
-ghost use Prim.Native.Nat.{_≤_};
-
-// An answer, as its line says it; 0 after the last number.
-pub struct Due {
-    pub number: usize,
-    pub first: usize,
-    pub second: usize,
-    pub third: usize,
-}
+use vectors::Due;
 
 // The lengths of the rooms that are lent.
 pub struct Rooms {
@@ -101,20 +93,16 @@ fn asked_by(
             work: 0,
         };
     }
-    let operations = at_most(left.len() / 6, 170) + at_most(right.len() / 6, 170);
-    let cursors = at_most(left_cursors.len() / 2, 512) + at_most(right_cursors.len() / 2, 512);
-    let tokens = at_most(insert_tokens(left), 512) + at_most(insert_tokens(right), 512);
+    let operations = marked::at_most(left.len() / 6, 170) + marked::at_most(right.len() / 6, 170);
+    let cursors = marked::at_most(left_cursors.len() / 2, 512)
+        + marked::at_most(right_cursors.len() / 2, 512);
+    let tokens = marked::at_most(insert_tokens(left), 512)
+        + marked::at_most(insert_tokens(right), 512);
     Rooms {
         operations: operations * 6,
         cursors: cursors * 2,
         work: tokens * 2,
     }
-}
-
-fn at_most(n: usize, most: usize) -> usize
-    ensures { λ r. ⌜ r ≤ most ⌝ }
-{
-    if n < most { n } else { most }
 }
 
 // The insert tokens of a list.
@@ -146,7 +134,7 @@ fn refuses_short(
 ) -> bool {
     if asked.operations != 0 {
         let short = Rooms {
-            operations: one_less(asked.operations),
+            operations: marked::one_less(asked.operations),
             cursors: asked.cursors,
             work: asked.work,
         };
@@ -167,7 +155,7 @@ fn refuses_short(
     if asked.cursors != 0 {
         let short = Rooms {
             operations: asked.operations,
-            cursors: one_less(asked.cursors),
+            cursors: marked::one_less(asked.cursors),
             work: asked.work,
         };
         if !refuses(
@@ -190,7 +178,7 @@ fn refuses_short(
     let short = Rooms {
         operations: asked.operations,
         cursors: asked.cursors,
-        work: one_less(asked.work),
+        work: marked::one_less(asked.work),
     };
     refuses(
         original,
@@ -205,10 +193,6 @@ fn refuses_short(
     )
 }
 
-fn one_less(n: usize) -> usize {
-    if n == 0 { 0 } else { n - 1 }
-}
-
 fn refuses(
     original: &[u32],
     text: &[u32],
@@ -220,12 +204,6 @@ fn refuses(
     right_cursors: &[usize],
     rooms: Rooms,
 ) -> bool {
-    let due = Due {
-        number: 7,
-        first: 0,
-        second: 0,
-        third: 0,
-    };
     let nothing = [0usize; 0];
     gives(
         original,
@@ -237,7 +215,7 @@ fn refuses(
         left_cursors,
         right_cursors,
         rooms,
-        due,
+        vectors::room_due(),
         &nothing,
         &nothing,
     )
@@ -258,12 +236,12 @@ fn gives(
     operations: &[usize],
     cursors: &[usize],
 ) -> bool {
-    let mut operation_room = [165usize; 2048];
-    let mut cursor_room = [165usize; 2048];
-    let mut work_room = [165u32; 2048];
-    let o = at_most(rooms.operations, 2048);
-    let c = at_most(rooms.cursors, 2048);
-    let w = at_most(rooms.work, 2048);
+    let mut operation_room = [marked::MARK_USIZE; 2048];
+    let mut cursor_room = [marked::MARK_USIZE; 2048];
+    let mut work_room = [marked::MARK_U32; 2048];
+    let o = marked::at_most(rooms.operations, 2048);
+    let c = marked::at_most(rooms.cursors, 2048);
+    let w = marked::at_most(rooms.work, 2048);
     gives_in(
         original,
         text,
@@ -313,9 +291,9 @@ fn gives_in(
         work_room,
     );
     is_due(answer, due)
-        && holds(operation_room, operations)
-        && holds(cursor_room, cursors)
-        && (due.number == 0 || untouched(work_room))
+        && marked::holds_usize(operation_room, operations)
+        && marked::holds_usize(cursor_room, cursors)
+        && (due.number == 0 || marked::holds_u32(work_room, &[0u32; 0]))
 }
 
 fn is_due(answer: edited_text::Answer, due: Due) -> bool {
@@ -323,40 +301,6 @@ fn is_due(answer: edited_text::Answer, due: Due) -> bool {
         edited_text::Answer::Counts(counts) => {
             due.number == 0 && due.first == counts.operations && due.second == counts.cursors
         }
-        edited_text::Answer::Refused(why) => is_why(why, due),
+        edited_text::Answer::Refused(why) => vectors::is_refusal(why, due),
     }
-}
-
-fn is_why(why: refusal::Refusal, due: Due) -> bool {
-    let values = refusal::values_of(why);
-    refusal::number_of(why) == due.number
-        && values.first == due.first as u64
-        && values.second == due.second as u64
-        && values.third == due.third as u64
-}
-
-// Whether a room begins with what is due and is else as it was filled.
-fn holds(room: &[usize], due: &[usize]) -> bool {
-    if !vectors::same_usize(room, due, due.len()) {
-        return false;
-    }
-    let mut i = due.len();
-    'rest: while i < room.len() {
-        if room[i] != 165 {
-            return false;
-        }
-        i += 1;
-    }
-    true
-}
-
-fn untouched(room: &[u32]) -> bool {
-    let mut i = 0;
-    'rest: while i < room.len() {
-        if room[i] != 165 {
-            return false;
-        }
-        i += 1;
-    }
-    true
 }

@@ -1,7 +1,9 @@
-// Runs the bench sheets of the overlap and the oracle's overlaps, which it reads from standard input.
-// A case is three lines: old keys, new keys, and the answer `0 start end`.
+// Runs the bench sheets of the overlap and the oracle's overlaps, which it reads from standard input: accepted ones, then refused ones. A
+// case is three lines: old keys, new keys, and the answer, `0 start end` or a refusal's number. Each is run with a work room that is
+// ample, with the one asked, and with one a number too short.
 use overlap::Found;
 use overlap::find_longest_prefix_contained_within::find_longest_prefix_contained_within;
+use vectors::Due;
 
 fn main() {
     replay(
@@ -14,29 +16,17 @@ fn main() {
 }
 
 fn replay(name: &[u8], bytes: &[u8]) {
-    let mut old = [0u32; 1024];
-    let mut new = [0u32; 1024];
-    let mut work = [0u32; 1024];
-    let mut agree: u64 = 0;
-    let mut differ: u64 = 0;
+    let mut tally = vectors::no_cases();
     let mut at = 0;
     'cases: while at < bytes.len() {
-        let case = case_at(bytes, at, &mut old, &mut new, &mut work);
-        if case.agrees {
-            agree = one_more(agree);
-        } else {
-            differ = one_more(differ);
-        }
+        let case = case_at(bytes, at);
+        tally = tally.with(case.agrees);
         if case.next <= at {
             break 'cases;
         }
         at = case.next;
     }
-    vectors::report(name, agree, differ);
-}
-
-fn one_more(n: u64) -> u64 {
-    std::num::wrapping_add_u64(n, 1)
+    vectors::report(name, tally);
 }
 
 // Whether the call gives the case's answer, and the offset behind the case.
@@ -45,22 +35,51 @@ struct Case {
     next: usize,
 }
 
-fn case_at(bytes: &[u8], at: usize, old: &mut [u32], new: &mut [u32], work: &mut [u32]) -> Case {
-    let old_line = vectors::numbers_u32(bytes, at, old);
-    let new_line = vectors::numbers_u32(bytes, old_line.next, new);
-    let mut answer = [9usize; 4];
-    let answer_line = vectors::numbers_usize(bytes, new_line.next, &mut answer);
-    let old_count = old_line.count;
-    let new_count = new_line.count;
-    let next = answer_line.next;
-    match find_longest_prefix_contained_within(&old[..old_count], &new[..new_count], work) {
-        Found::Range { start, end } => Case {
-            agrees: answer[0] == 0 && answer[1] == start && answer[2] == end,
-            next,
-        },
-        Found::Refused(_) => Case {
-            agrees: false,
-            next,
-        },
+// The rooms have one key more than a refused case.
+fn case_at(bytes: &[u8], at: usize) -> Case {
+    let mut old = [0u32; 8194];
+    let mut new = [0u32; 8194];
+    let old_line = vectors::numbers_u32(bytes, at, &mut old);
+    let new_line = vectors::numbers_u32(bytes, old_line.next, &mut new);
+    let answer = vectors::due_at(bytes, new_line.next);
+    let o = old_line.count;
+    let n = new_line.count;
+    Case {
+        agrees: agrees(&old[..o], &new[..n], answer.due),
+        next: answer.next,
+    }
+}
+
+// Refusal 3 comes with a work room of any length, refusal 7 with one that is a number too short, and one as long as new is enough.
+fn agrees(old: &[u32], new: &[u32], due: Due) -> bool {
+    if !gives(old, new, 8194, due) {
+        return false;
+    }
+    if due.number != 0 {
+        return gives(old, new, 0, due);
+    }
+    if !gives(old, new, new.len(), due) {
+        return false;
+    }
+    new.len() == 0 || gives(old, new, marked::one_less(new.len()), vectors::room_due())
+}
+
+// Whether the call with a work room of this length gives what is due.
+fn gives(old: &[u32], new: &[u32], lent: usize, due: Due) -> bool {
+    let mut work = [marked::MARK_U32; 8194];
+    let w = marked::at_most(lent, 8194);
+    gives_in(old, new, due, &mut work[..w])
+}
+
+// Of the work room only a refusal promises what it holds.
+fn gives_in(old: &[u32], new: &[u32], due: Due, work: &mut [u32]) -> bool {
+    let found = find_longest_prefix_contained_within(old, new, work);
+    is_due(found, due) && (due.number == 0 || marked::holds_u32(work, &[0u32; 0]))
+}
+
+fn is_due(found: Found, due: Due) -> bool {
+    match found {
+        Found::Range { start, end } => due.number == 0 && due.first == start && due.second == end,
+        Found::Refused(why) => vectors::is_refusal(why, due),
     }
 }

@@ -1,10 +1,11 @@
 // Runs the oracle's diffs of lists, which it reads from standard input: accepted lists, lent and merged, and every refusal at every
 // position of small lists. A case is fifteen lines: original, inserted text, spans, keys, operations; seven on cursors, text and
-// history, which are passed over; the answer of `to_diff`, its items and their text.
-use refusal::Refusal;
+// history, which are passed over; the answer of `to_diff`, its items and their text. Each is run in rooms that are ample, in those
+// asked, and in those asked with one of them a number too short.
 use to_diff::Diffed;
 use to_diff::to_diff;
 use to_diff::to_diff_lengths;
+use vectors::Due;
 
 fn main() {
     let mut space = [0u8; 196608];
@@ -13,26 +14,17 @@ fn main() {
 }
 
 fn run(bytes: &[u8]) {
-    let mut agree: u64 = 0;
-    let mut differ: u64 = 0;
+    let mut tally = vectors::no_cases();
     let mut at = 0;
     'cases: while at < bytes.len() {
         let case = case_at(bytes, at);
-        if case.agrees {
-            agree = one_more(agree);
-        } else {
-            differ = one_more(differ);
-        }
+        tally = tally.with(case.agrees);
         if case.next <= at {
             break 'cases;
         }
         at = case.next;
     }
-    vectors::report(b"to_diff", agree, differ);
-}
-
-fn one_more(n: u64) -> u64 {
-    std::num::wrapping_add_u64(n, 1)
+    vectors::report(b"to_diff", tally);
 }
 
 // Whether both calls give the case's answer, and the offset behind the case.
@@ -81,26 +73,13 @@ fn list_at(
     let n = line.count;
     answer_at(
         bytes,
-        behind_seven(bytes, line.next),
+        vectors::behind(bytes, line.next, 7),
         original,
         text,
         spans,
         keys,
         &operations[..n],
     )
-}
-
-// The offset behind seven lines.
-fn behind_seven(bytes: &[u8], at: usize) -> usize {
-    let third = behind(bytes, behind(bytes, behind(bytes, at)));
-    let sixth = behind(bytes, behind(bytes, behind(bytes, third)));
-    behind(bytes, sixth)
-}
-
-// The offset behind a line.
-fn behind(bytes: &[u8], at: usize) -> usize {
-    let mut numbers = [0usize; 1];
-    vectors::numbers_usize(bytes, at, &mut numbers).next
 }
 
 fn answer_at(
@@ -112,37 +91,177 @@ fn answer_at(
     keys: &[u32],
     operations: &[usize],
 ) -> Case {
-    let mut answer = [0usize; 4];
     let mut items = [0i64; 1024];
     let mut words = [0u32; 2048];
-    let answer_line = vectors::numbers_usize(bytes, at, &mut answer);
-    let items_line = vectors::numbers_i64(bytes, answer_line.next, &mut items);
+    let answer = vectors::due_at(bytes, at);
+    let items_line = vectors::numbers_i64(bytes, answer.next, &mut items);
     let words_line = vectors::numbers_u32(bytes, items_line.next, &mut words);
-    let mut room = [0i64; 1024];
-    let mut out = [0u32; 2048];
-    let lengths = to_diff_lengths(original, text, spans, keys, operations);
-    let diffed = to_diff(original, text, spans, keys, operations, &mut room, &mut out);
+    let i = items_line.count;
+    let w = words_line.count;
     Case {
-        agrees: is(lengths, &answer)
-            && is(diffed, &answer)
-            && vectors::same_i64(&room, &items, items_line.count)
-            && vectors::same_u32(&out, &words, words_line.count),
+        agrees: agrees(
+            original,
+            text,
+            spans,
+            keys,
+            operations,
+            answer.due,
+            &items[..i],
+            &words[..w],
+        ),
         next: words_line.next,
     }
 }
 
-// Whether an answer is the one that a line says: 0 and the counts, or the refusal's number and values.
-fn is(diffed: Diffed, answer: &[usize; 4]) -> bool {
-    match diffed {
-        Diffed::Counts { items, text } => answer[0] == 0 && answer[1] == items && answer[2] == text,
-        Diffed::Refused(refusal) => is_refusal(refusal, answer),
-    }
+// Refusals 3, 4, 1 and 2 come with rooms of any length, refusal 7 with a room that is one number too short, and rooms of the lengths
+// asked are enough. A refused case asks none.
+fn agrees(
+    original: &[u32],
+    text: &[u32],
+    spans: &[u32],
+    keys: &[u32],
+    operations: &[usize],
+    due: Due,
+    items: &[i64],
+    words: &[u32],
+) -> bool {
+    let i = items.len();
+    let w = words.len();
+    is_due(
+        to_diff_lengths(original, text, spans, keys, operations),
+        due,
+    )
+        && gives(
+            original,
+            text,
+            spans,
+            keys,
+            operations,
+            2048,
+            2048,
+            due,
+            items,
+            words,
+        )
+        && gives(
+            original,
+            text,
+            spans,
+            keys,
+            operations,
+            i,
+            w,
+            due,
+            items,
+            words,
+        )
+        && (i == 0
+            || refuses(
+                original,
+                text,
+                spans,
+                keys,
+                operations,
+                marked::one_less(i),
+                w,
+            ))
+        && (w == 0
+            || refuses(
+                original,
+                text,
+                spans,
+                keys,
+                operations,
+                i,
+                marked::one_less(w),
+            ))
 }
 
-fn is_refusal(refusal: Refusal, answer: &[usize; 4]) -> bool {
-    let values = refusal::values_of(refusal);
-    refusal::number_of(refusal) == answer[0]
-        && values.first == answer[1] as u64
-        && values.second == answer[2] as u64
-        && values.third == answer[3] as u64
+fn refuses(
+    original: &[u32],
+    text: &[u32],
+    spans: &[u32],
+    keys: &[u32],
+    operations: &[usize],
+    items_lent: usize,
+    words_lent: usize,
+) -> bool {
+    gives(
+        original,
+        text,
+        spans,
+        keys,
+        operations,
+        items_lent,
+        words_lent,
+        vectors::room_due(),
+        &[0i64; 0],
+        &[0u32; 0],
+    )
+}
+
+// Whether the call in rooms of these lengths gives what is due.
+fn gives(
+    original: &[u32],
+    text: &[u32],
+    spans: &[u32],
+    keys: &[u32],
+    operations: &[usize],
+    items_lent: usize,
+    words_lent: usize,
+    due: Due,
+    items: &[i64],
+    words: &[u32],
+) -> bool {
+    let mut items_room = [marked::MARK_I64; 2048];
+    let mut words_room = [marked::MARK_U32; 2048];
+    let i = marked::at_most(items_lent, 2048);
+    let w = marked::at_most(words_lent, 2048);
+    gives_in(
+        original,
+        text,
+        spans,
+        keys,
+        operations,
+        due,
+        items,
+        words,
+        &mut items_room[..i],
+        &mut words_room[..w],
+    )
+}
+
+fn gives_in(
+    original: &[u32],
+    text: &[u32],
+    spans: &[u32],
+    keys: &[u32],
+    operations: &[usize],
+    due: Due,
+    items: &[i64],
+    words: &[u32],
+    items_room: &mut [i64],
+    words_room: &mut [u32],
+) -> bool {
+    let diffed = to_diff(
+        original,
+        text,
+        spans,
+        keys,
+        operations,
+        items_room,
+        words_room,
+    );
+    is_due(diffed, due)
+        && marked::holds_i64(items_room, items)
+        && marked::holds_u32(words_room, words)
+}
+
+fn is_due(diffed: Diffed, due: Due) -> bool {
+    match diffed {
+        Diffed::Counts { items, text } => due.number == 0
+            && due.first == items
+            && due.second == text,
+        Diffed::Refused(why) => vectors::is_refusal(why, due),
+    }
 }

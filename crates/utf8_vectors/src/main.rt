@@ -1,9 +1,6 @@
 // Reads the oracle's UTF-8, from standard input: RFC 3629's examples, each boundary, the kinds of Markus
 // Kuhn's stress test, bad sequences in each place of a block. A case is three lines: bytes, the answer
 // `0 count` or `10 offset`, and the code points.
-use refusal::Counted;
-use refusal::Refusal;
-
 fn main() {
     let mut space = io::large_buffer();
     let n = io::read_full(0, &mut space);
@@ -14,26 +11,17 @@ fn replay(name: &[u8], bytes: &[u8]) {
     let mut text = [0u8; 1024];
     let mut points = [0u32; 1024];
     let mut room = [0u32; 1024];
-    let mut agree: u64 = 0;
-    let mut differ: u64 = 0;
+    let mut tally = vectors::no_cases();
     let mut at = 0;
     'cases: while at < bytes.len() {
         let case = case_at(bytes, at, &mut text, &mut points, &mut room);
-        if case.agrees {
-            agree = one_more(agree);
-        } else {
-            differ = one_more(differ);
-        }
+        tally = tally.with(case.agrees);
         if case.next <= at {
             break 'cases;
         }
         at = case.next;
     }
-    vectors::report(name, agree, differ);
-}
-
-fn one_more(n: u64) -> u64 {
-    std::num::wrapping_add_u64(n, 1)
+    vectors::report(name, tally);
 }
 
 // Whether the calls give the case's answer, and the offset behind the case.
@@ -44,21 +32,18 @@ struct Case {
 
 fn case_at(bytes: &[u8], at: usize, text: &mut [u8], points: &mut [u32], room: &mut [u32]) -> Case {
     let text_line = vectors::numbers_u8(bytes, at, text);
-    let mut answer = [9usize; 4];
-    let answer_line = vectors::numbers_usize(bytes, text_line.next, &mut answer);
-    let points_line = vectors::numbers_u32(bytes, answer_line.next, points);
+    let answer = vectors::due_at(bytes, text_line.next);
+    let points_line = vectors::numbers_u32(bytes, answer.next, points);
     let text_count = text_line.count;
     let points_count = points_line.count;
     let next = points_line.next;
-    let number = answer[0];
-    let value = answer[1];
-    if !is_due(utf8::read_length(&text[..text_count]), number, value) {
+    if !vectors::is_counted(utf8::read_length(&text[..text_count]), answer.due) {
         return Case {
             agrees: false,
             next,
         };
     }
-    if !is_due(utf8::read(&text[..text_count], room), number, value) {
+    if !vectors::is_counted(utf8::read(&text[..text_count], room), answer.due) {
         return Case {
             agrees: false,
             next,
@@ -68,17 +53,4 @@ fn case_at(bytes: &[u8], at: usize, text: &mut [u8], points: &mut [u32], room: &
         agrees: vectors::same_u32(room, points, points_count),
         next,
     }
-}
-
-// Whether an answer is the count of number 0, or the refusal of another with the value that it carries.
-fn is_due(answer: Counted, number: usize, value: usize) -> bool {
-    match answer {
-        Counted::Count(n) => number == 0 && n == value,
-        Counted::Refused(why) => is_why(why, number, value),
-    }
-}
-
-fn is_why(why: Refusal, number: usize, value: usize) -> bool {
-    let values = refusal::values_of(why);
-    refusal::number_of(why) == number && values.first == value as u64
 }

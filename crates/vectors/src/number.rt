@@ -164,3 +164,15 @@ pub fn numbers_i64(bytes: &[u8], at: usize, room: &mut [i64]) -> Line
     }
     Line { count: n, next: i }
 }
+
+// The offset behind so many lines.
+pub fn behind(bytes: &[u8], at: usize, lines: usize) -> usize {
+    let mut next = at;
+    let mut i = 0;
+    'lines: while i < lines {
+        let mut numbers = [0usize; 0];
+        next = numbers_usize(bytes, next, &mut numbers).next;
+        i += 1;
+    }
+    next
+}

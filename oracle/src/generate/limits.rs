@@ -1,5 +1,5 @@
 //! Lists at document 01's size limits. They are not stored as vectors; the tests run them, and
-//! `built` is built again by the program that replays the merges.
+//! `built` is built again by a program.
 
 use crate::{
     flat::{DELETE, INSERT, OPERATION_STRIDE, RETAIN},

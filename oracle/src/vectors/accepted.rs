@@ -1,6 +1,6 @@
 //! Accepted cases of the Rust's calls, with document 01's rules: small ones mostly, a few of
-//! middle size. Limit cases are not stored. Behind the raw lists and the merges stand the refused
-//! ones, so that one program replays both.
+//! middle size. Limit cases are not stored. Behind the overlaps, the raw lists and the merges stand
+//! the refused ones, so that one program replays both.
 
 use crate::{
     completed::Completed,
@@ -11,25 +11,28 @@ use crate::{
         lists::{self, DEEP, MIDDLE, SMALL, Shape},
     },
     notation,
-    paper::cases::lists::{elongate_refused, merge_refused},
+    paper::cases::lists::{elongate_refused, merge_refused, overlap_refused},
     random::Random,
     vectors::Vectors,
 };
 
-/// The numbers a line may have.
+/// The numbers a line may have; a refused overlap's, one more than a side may have.
 pub const LONGEST: usize = 1_000;
+pub const LONGEST_OVERLAP: usize = 8_193;
 
 /// All files of this module, by name.
-pub fn files() -> [(&'static str, Vectors); 4] {
+pub fn files() -> [(&'static str, Vectors); 5] {
     [
         ("overlap.txt", overlap()),
         ("elongate.txt", elongate()),
         ("merge.txt", merge()),
+        ("merge_limits.txt", merge_at_the_limits()),
         ("outputs.txt", outputs()),
     ]
 }
 
-/// All pairs of up to three of two keys, random pairs, long runs with much falling back.
+/// All pairs of up to three of two keys, random pairs, long runs with much falling back; then
+/// refused pairs.
 fn overlap() -> Vectors {
     let mut random = Random::new(10);
     let mut vectors = Vectors::new();
@@ -69,6 +72,7 @@ fn overlap() -> Vectors {
         case(&old, &new);
         case(&new, &old);
     }
+    vectors.append(&overlap_refused());
 
     vectors
 }
@@ -143,11 +147,10 @@ const WRITTEN: [[&str; 3]; 17] = [
     ["A", "I[a] R1", "D1"],
 ];
 
-/// The answer for the pair at the limits, accepted pairs, then refused ones.
+/// Accepted pairs, then refused ones.
 fn merge() -> Vectors {
     let mut random = Random::new(12);
     let mut vectors = Vectors::new();
-    merge_at_the_limits(&mut vectors);
     for [original, left, right] in WRITTEN {
         let mut case = notation::merge(original, left, right);
         merge_case(&case, &mut vectors);
@@ -180,8 +183,9 @@ fn leave_rests(case: &mut Merge) {
 /// What the replaying program fills its rooms with.
 const FILLED: usize = 165;
 
-/// One line: the counts, and a sum over each room.
-fn merge_at_the_limits(vectors: &mut Vectors) {
+/// One line for the pair at the limits: the counts, and a sum over each room.
+fn merge_at_the_limits() -> Vectors {
+    let mut vectors = Vectors::new();
     let case = limits::built();
     let answer = case.merged::<Completed>();
     let sum = |answer: &[usize], room: usize| {
@@ -200,6 +204,8 @@ fn merge_at_the_limits(vectors: &mut Vectors) {
         ),
         sum(&answer.cursors, 2 * CURSOR_STRIDE * MERGING.cursors),
     ]);
+
+    vectors
 }
 
 fn merge_case(case: &Merge, vectors: &mut Vectors) {

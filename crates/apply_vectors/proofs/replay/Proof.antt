@@ -12,6 +12,15 @@ Inv-cases bytes text₀ history₀ all₀ at₀ t7 t8 t9 text history all at = U
 abbrev μ-cases : tie.MeasureT-cases
 μ-cases bytes text₀ history₀ all₀ at₀ t7 t8 t9 text history all at = length bytes - at
 
+no-cases-requires : tie.Need-no-cases-requires Inv-cases μ-cases
+no-cases-requires c κs = search needs
+
+no-cases-requires-2 : tie.Need-no-cases-requires-2 Inv-cases μ-cases
+no-cases-requires-2 c κs = search needs
+
+no-cases-requires-3 : tie.Need-no-cases-requires-3 Inv-cases μ-cases
+no-cases-requires-3 c κs = search needs
+
 cases-holds : tie.Need-cases-holds Inv-cases μ-cases
 cases-holds c = search needs
 
@@ -60,6 +69,9 @@ replay-spec =
     (tie.spec
     Inv-cases
     μ-cases
+    no-cases-requires
+    no-cases-requires-2
+    no-cases-requires-3
     cases-holds
     case-at-requires
     with-requires

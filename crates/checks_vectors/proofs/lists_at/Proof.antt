@@ -30,35 +30,32 @@ slice-aggregate-numbers-usize-4 c = search needs
 numbers-usize-requires-4 : tie.Need-numbers-usize-requires-4
 numbers-usize-requires-4 c κs = search needs
 
-slice-aggregate-numbers-usize-5 : tie.Need-slice-aggregate-numbers-usize-5
-slice-aggregate-numbers-usize-5 c = search needs
-
-numbers-usize-requires-5 : tie.Need-numbers-usize-requires-5
-numbers-usize-requires-5 c κs = search needs
+due-at-requires : tie.Need-due-at-requires
+due-at-requires c κs = search needs
 
 array-share-prefix-left : tie.Need-array-share-prefix-left
 array-share-prefix-left c = search needs
 
 slice-aggregate-verdict-on : tie.Need-slice-aggregate-verdict-on
-slice-aggregate-verdict-on c = sym (length-take-le _ _ (c .before .before .before .before .before .before .before .before .before .before .before .before .before .before .numbers-usize .ensures .fits))
+slice-aggregate-verdict-on c = sym (length-take-le _ _ (c .before .before .before .before .before .before .before .before .before .before .before .before .numbers-usize .ensures .fits))
 
 array-share-prefix-right : tie.Need-array-share-prefix-right
 array-share-prefix-right c = search needs
 
 slice-aggregate-verdict-on-2 : tie.Need-slice-aggregate-verdict-on-2
-slice-aggregate-verdict-on-2 c = sym (length-take-le _ _ (c .before .before .before .before .before .before .before .before .before .before .before .before .numbers-usize2 .ensures .fits))
+slice-aggregate-verdict-on-2 c = sym (length-take-le _ _ (c .before .before .before .before .before .before .before .before .before .before .numbers-usize2 .ensures .fits))
 
 array-share-prefix-left-cursors : tie.Need-array-share-prefix-left-cursors
 array-share-prefix-left-cursors c = search needs
 
 slice-aggregate-verdict-on-3 : tie.Need-slice-aggregate-verdict-on-3
-slice-aggregate-verdict-on-3 c = sym (length-take-le _ _ (c .before .before .before .before .before .before .before .before .before .before .numbers-usize3 .ensures .fits))
+slice-aggregate-verdict-on-3 c = sym (length-take-le _ _ (c .before .before .before .before .before .before .before .before .numbers-usize3 .ensures .fits))
 
 array-share-prefix-right-cursors : tie.Need-array-share-prefix-right-cursors
 array-share-prefix-right-cursors c = search needs
 
 slice-aggregate-verdict-on-4 : tie.Need-slice-aggregate-verdict-on-4
-slice-aggregate-verdict-on-4 c = sym (length-take-le _ _ (c .before .before .before .before .before .before .before .before .numbers-usize4 .ensures .fits))
+slice-aggregate-verdict-on-4 c = sym (length-take-le _ _ (c .before .before .before .before .before .before .numbers-usize4 .ensures .fits))
 
 verdict-on-requires : tie.Need-verdict-on-requires
 verdict-on-requires c κs = search needs
@@ -81,8 +78,7 @@ lists-at-spec =
     numbers-usize-requires-3
     slice-aggregate-numbers-usize-4
     numbers-usize-requires-4
-    slice-aggregate-numbers-usize-5
-    numbers-usize-requires-5
+    due-at-requires
     array-share-prefix-left
     slice-aggregate-verdict-on
     array-share-prefix-right

@@ -8,11 +8,17 @@ use Rattle.diff_vectors.proofs.run.Statement.{statement}
 use Rattle.diff_vectors.proofs.run.Tie as tie
 
 abbrev Inv-cases : tie.InvT-cases
-Inv-cases bytes original₀ items₀ text₀ plain₀ covering₀ at₀ original items text plain covering at = (length original ≡ 1024) ×
+Inv-cases bytes original₀ items₀ text₀ plain₀ covering₀ at₀ t1 t2 original items text plain covering at = (length original ≡ 1024) ×
     (length items ≡ 1024) × (length text ≡ 1024)
 
 abbrev μ-cases : tie.MeasureT-cases
-μ-cases bytes original₀ items₀ text₀ plain₀ covering₀ at₀ original items text plain covering at = length bytes - at
+μ-cases bytes original₀ items₀ text₀ plain₀ covering₀ at₀ t1 t2 original items text plain covering at = length bytes - at
+
+no-cases-requires : tie.Need-no-cases-requires Inv-cases μ-cases
+no-cases-requires c κs = search needs
+
+no-cases-requires-2 : tie.Need-no-cases-requires-2 Inv-cases μ-cases
+no-cases-requires-2 c κs = search needs
 
 cases-holds : tie.Need-cases-holds Inv-cases μ-cases
 cases-holds c = search needs
@@ -41,8 +47,17 @@ cases-less c = search needs
 cases-again : tie.Need-cases-again Inv-cases μ-cases
 cases-again c = search needs
 
-tell-requires : tie.Need-tell-requires Inv-cases μ-cases
-tell-requires c κs = search needs
+slice-aggregate-report : tie.Need-slice-aggregate-report Inv-cases μ-cases
+slice-aggregate-report c = search needs
+
+report-requires : tie.Need-report-requires Inv-cases μ-cases
+report-requires c κs = search needs
+
+slice-aggregate-report-2 : tie.Need-slice-aggregate-report-2 Inv-cases μ-cases
+slice-aggregate-report-2 c = search needs
+
+report-requires-2 : tie.Need-report-requires-2 Inv-cases μ-cases
+report-requires-2 c κs = search needs
 
 returns : tie.Need-returns Inv-cases μ-cases
 returns c = search needs
@@ -53,6 +68,8 @@ run-spec =
     (tie.spec
     Inv-cases
     μ-cases
+    no-cases-requires
+    no-cases-requires-2
     cases-holds
     slice-aggregate-case-at
     slice-aggregate-case-at-2
@@ -62,5 +79,8 @@ run-spec =
     with-requires-2
     cases-less
     cases-again
-    tell-requires
+    slice-aggregate-report
+    report-requires
+    slice-aggregate-report-2
+    report-requires-2
     returns)

@@ -13,17 +13,17 @@ Inv-cases bytes file₀ text₀ items₀ tallies₀ at₀ file text items tallie
 abbrev μ-cases : tie.MeasureT-cases
 μ-cases bytes file₀ text₀ items₀ tallies₀ at₀ file text items tallies at = length bytes - at
 
-none-requires : tie.Need-none-requires Inv-cases μ-cases
-none-requires c κs = search needs
+no-cases-requires : tie.Need-no-cases-requires Inv-cases μ-cases
+no-cases-requires c κs = search needs
 
-none-requires-2 : tie.Need-none-requires-2 Inv-cases μ-cases
-none-requires-2 c κs = search needs
+no-cases-requires-2 : tie.Need-no-cases-requires-2 Inv-cases μ-cases
+no-cases-requires-2 c κs = search needs
 
-none-requires-3 : tie.Need-none-requires-3 Inv-cases μ-cases
-none-requires-3 c κs = search needs
+no-cases-requires-3 : tie.Need-no-cases-requires-3 Inv-cases μ-cases
+no-cases-requires-3 c κs = search needs
 
-none-requires-4 : tie.Need-none-requires-4 Inv-cases μ-cases
-none-requires-4 c κs = search needs
+no-cases-requires-4 : tie.Need-no-cases-requires-4 Inv-cases μ-cases
+no-cases-requires-4 c κs = search needs
 
 cases-holds : tie.Need-cases-holds Inv-cases μ-cases
 cases-holds c = (refl, refl, refl)
@@ -58,10 +58,10 @@ run-spec =
     (tie.spec
     Inv-cases
     μ-cases
-    none-requires
-    none-requires-2
-    none-requires-3
-    none-requires-4
+    no-cases-requires
+    no-cases-requires-2
+    no-cases-requires-3
+    no-cases-requires-4
     cases-holds
     slice-aggregate-turn-at
     slice-aggregate-turn-at-2

@@ -18,11 +18,8 @@ slice-aggregate-to-u8 c = sym (length-take-le _ _ (c .before .before .spread-at 
 to-u8-requires : tie.Need-to-u8-requires
 to-u8-requires c κs = search needs
 
-slice-aggregate-numbers-usize : tie.Need-slice-aggregate-numbers-usize
-slice-aggregate-numbers-usize c = search needs
-
-numbers-usize-requires : tie.Need-numbers-usize-requires
-numbers-usize-requires c κs = search needs
+due-at-requires : tie.Need-due-at-requires
+due-at-requires c κs = search needs
 
 spread-at-requires-2 : tie.Need-spread-at-requires-2
 spread-at-requires-2 c κs = search needs
@@ -38,15 +35,6 @@ to-u32-requires c κs = search needs
 
 spread-at-requires-3 : tie.Need-spread-at-requires-3
 spread-at-requires-3 c κs = search needs
-
-array-read-t34 : tie.Need-array-read-t34
-array-read-t34 c = search needs
-
-array-read-t37 : tie.Need-array-read-t37
-array-read-t37 c = search needs
-
-array-read-t40 : tie.Need-array-read-t40
-array-read-t40 c = search needs
 
 same-length : tie.Need-same-length
 same-length c = search needs
@@ -68,16 +56,12 @@ case-at-spec =
     slice-reshare-prefix-to-u8
     slice-aggregate-to-u8
     to-u8-requires
-    slice-aggregate-numbers-usize
-    numbers-usize-requires
+    due-at-requires
     spread-at-requires-2
     slice-reshare-prefix-to-u32
     slice-aggregate-to-u32
     to-u32-requires
     spread-at-requires-3
-    array-read-t34
-    array-read-t37
-    array-read-t40
     same-length
     same-length-2
     same-length-3

@@ -13,8 +13,8 @@ Inv-cases bytes file₀ text₀ items₀ tally₀ at₀ t8 file text items tally
 abbrev μ-cases : tie.MeasureT-cases
 μ-cases bytes file₀ text₀ items₀ tally₀ at₀ t8 file text items tally at = length bytes - at
 
-none-requires : tie.Need-none-requires Inv-cases μ-cases
-none-requires c κs = search needs
+no-cases-requires : tie.Need-no-cases-requires Inv-cases μ-cases
+no-cases-requires c κs = search needs
 
 cases-holds : tie.Need-cases-holds Inv-cases μ-cases
 cases-holds c = (refl, refl, refl)
@@ -55,7 +55,7 @@ run-spec =
     (tie.spec
     Inv-cases
     μ-cases
-    none-requires
+    no-cases-requires
     cases-holds
     slice-aggregate-turn-at
     slice-aggregate-turn-at-2

@@ -8,11 +8,14 @@ use Rattle.merge_files_vectors.proofs.replay.Statement.{statement}
 use Rattle.merge_files_vectors.proofs.replay.Tie as tie
 
 abbrev Inv-cases : tie.InvT-cases
-Inv-cases name bytes original₀ left₀ right₀ due₀ out₀ agree₀ differ₀ at₀ original left right due out agree differ at =
+Inv-cases name bytes original₀ left₀ right₀ due₀ out₀ tally₀ at₀ original left right due out tally at =
     (length original ≡ 4096) × (length left ≡ 4096) × (length right ≡ 4096) × (length due ≡ 4096) × (length out ≡ 4096)
 
 abbrev μ-cases : tie.MeasureT-cases
-μ-cases name bytes original₀ left₀ right₀ due₀ out₀ agree₀ differ₀ at₀ original left right due out agree differ at = length bytes - at
+μ-cases name bytes original₀ left₀ right₀ due₀ out₀ tally₀ at₀ original left right due out tally at = length bytes - at
+
+no-cases-requires : tie.Need-no-cases-requires Inv-cases μ-cases
+no-cases-requires c κs = search needs
 
 cases-holds : tie.Need-cases-holds Inv-cases μ-cases
 cases-holds c = search needs
@@ -35,11 +38,8 @@ slice-aggregate-case-at-5 c = search needs
 case-at-requires : tie.Need-case-at-requires Inv-cases μ-cases
 case-at-requires c κs = search needs
 
-one-more-requires : tie.Need-one-more-requires Inv-cases μ-cases
-one-more-requires c κs = search needs
-
-one-more-requires-2 : tie.Need-one-more-requires-2 Inv-cases μ-cases
-one-more-requires-2 c κs = search needs
+with-requires : tie.Need-with-requires Inv-cases μ-cases
+with-requires c κs = search needs
 
 cases-less : tie.Need-cases-less Inv-cases μ-cases
 cases-less c = search needs
@@ -59,6 +59,7 @@ replay-spec =
     (tie.spec
     Inv-cases
     μ-cases
+    no-cases-requires
     cases-holds
     slice-aggregate-case-at
     slice-aggregate-case-at-2
@@ -66,8 +67,7 @@ replay-spec =
     slice-aggregate-case-at-4
     slice-aggregate-case-at-5
     case-at-requires
-    one-more-requires
-    one-more-requires-2
+    with-requires
     cases-less
     cases-again
     report-requires

@@ -6,6 +6,9 @@ use borrow.Author.Needs.{needs}
 use Rattle.merge_vectors.proofs.answer_at.Statement.{statement}
 use Rattle.merge_vectors.proofs.answer_at.Tie as tie
 
+due-at-requires : tie.Need-due-at-requires
+due-at-requires c κs = search needs
+
 slice-aggregate-numbers-usize : tie.Need-slice-aggregate-numbers-usize
 slice-aggregate-numbers-usize c = search needs
 
@@ -18,26 +21,17 @@ slice-aggregate-numbers-usize-2 c = search needs
 numbers-usize-requires-2 : tie.Need-numbers-usize-requires-2
 numbers-usize-requires-2 c κs = search needs
 
-slice-aggregate-numbers-usize-3 : tie.Need-slice-aggregate-numbers-usize-3
-slice-aggregate-numbers-usize-3 c = search needs
-
-numbers-usize-requires-3 : tie.Need-numbers-usize-requires-3
-numbers-usize-requires-3 c κs = search needs
-
-due-of-requires : tie.Need-due-of-requires
-due-of-requires c κs = search needs
-
 array-share-prefix-operations : tie.Need-array-share-prefix-operations
 array-share-prefix-operations c = search needs
 
 slice-aggregate-agrees : tie.Need-slice-aggregate-agrees
-slice-aggregate-agrees c = sym (length-take-le _ _ (c .before .before .before .before .before .before .before .numbers-usize2 .ensures .fits))
+slice-aggregate-agrees c = sym (length-take-le _ _ (c .before .before .before .before .before .numbers-usize .ensures .fits))
 
 array-share-prefix-cursors : tie.Need-array-share-prefix-cursors
 array-share-prefix-cursors c = search needs
 
 slice-aggregate-agrees-2 : tie.Need-slice-aggregate-agrees-2
-slice-aggregate-agrees-2 c = sym (length-take-le _ _ (c .before .before .before .before .before .numbers-usize3 .ensures .fits))
+slice-aggregate-agrees-2 c = sym (length-take-le _ _ (c .before .before .before .numbers-usize2 .ensures .fits))
 
 agrees-requires : tie.Need-agrees-requires
 agrees-requires c κs = search needs
@@ -49,13 +43,11 @@ pub answer-at-spec : {M : Type 1} → statement M
 answer-at-spec =
     tie.close
     (tie.spec
+    due-at-requires
     slice-aggregate-numbers-usize
     numbers-usize-requires
     slice-aggregate-numbers-usize-2
     numbers-usize-requires-2
-    slice-aggregate-numbers-usize-3
-    numbers-usize-requires-3
-    due-of-requires
     array-share-prefix-operations
     slice-aggregate-agrees
     array-share-prefix-cursors

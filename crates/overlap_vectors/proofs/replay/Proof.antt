@@ -1,38 +1,28 @@
--- `replay` ends: each case moves the offset on. The invariant keeps the arrays' lengths.
+-- `replay` ends: each case moves the offset on.
 -- Assumes nothing.
 use Prim.Native.Nat.{_-_}
-use mathlib.Core.Path.{_≡_}
 use lib.ListN.{length}
 use borrow.Author.Needs.{needs}
 use Rattle.overlap_vectors.proofs.replay.Statement.{statement}
 use Rattle.overlap_vectors.proofs.replay.Tie as tie
 
 abbrev Inv-cases : tie.InvT-cases
-Inv-cases name bytes old₀ new₀ work₀ agree₀ differ₀ at₀ old new work agree differ at = (length old ≡ 1024) × (length new ≡ 1024) × (length work ≡ 1024)
+Inv-cases name bytes tally₀ at₀ tally at = Unit {0}
 
 abbrev μ-cases : tie.MeasureT-cases
-μ-cases name bytes old₀ new₀ work₀ agree₀ differ₀ at₀ old new work agree differ at = length bytes - at
+μ-cases name bytes tally₀ at₀ tally at = length bytes - at
+
+no-cases-requires : tie.Need-no-cases-requires Inv-cases μ-cases
+no-cases-requires c κs = search needs
 
 cases-holds : tie.Need-cases-holds Inv-cases μ-cases
 cases-holds c = search needs
 
-slice-aggregate-case-at : tie.Need-slice-aggregate-case-at Inv-cases μ-cases
-slice-aggregate-case-at c = search needs
-
-slice-aggregate-case-at-2 : tie.Need-slice-aggregate-case-at-2 Inv-cases μ-cases
-slice-aggregate-case-at-2 c = search needs
-
-slice-aggregate-case-at-3 : tie.Need-slice-aggregate-case-at-3 Inv-cases μ-cases
-slice-aggregate-case-at-3 c = search needs
-
 case-at-requires : tie.Need-case-at-requires Inv-cases μ-cases
 case-at-requires c κs = search needs
 
-one-more-requires : tie.Need-one-more-requires Inv-cases μ-cases
-one-more-requires c κs = search needs
-
-one-more-requires-2 : tie.Need-one-more-requires-2 Inv-cases μ-cases
-one-more-requires-2 c κs = search needs
+with-requires : tie.Need-with-requires Inv-cases μ-cases
+with-requires c κs = search needs
 
 cases-less : tie.Need-cases-less Inv-cases μ-cases
 cases-less c = search needs
@@ -52,13 +42,10 @@ replay-spec =
     (tie.spec
     Inv-cases
     μ-cases
+    no-cases-requires
     cases-holds
-    slice-aggregate-case-at
-    slice-aggregate-case-at-2
-    slice-aggregate-case-at-3
     case-at-requires
-    one-more-requires
-    one-more-requires-2
+    with-requires
     cases-less
     cases-again
     report-requires

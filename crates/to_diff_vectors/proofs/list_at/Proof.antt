@@ -12,8 +12,8 @@ slice-aggregate-numbers-usize c = search needs
 numbers-usize-requires : tie.Need-numbers-usize-requires
 numbers-usize-requires c κs = search needs
 
-behind-seven-requires : tie.Need-behind-seven-requires
-behind-seven-requires c κs = search needs
+behind-requires : tie.Need-behind-requires
+behind-requires c κs = search needs
 
 array-share-prefix-operations : tie.Need-array-share-prefix-operations
 array-share-prefix-operations c = search needs
@@ -33,7 +33,7 @@ list-at-spec =
     (tie.spec
     slice-aggregate-numbers-usize
     numbers-usize-requires
-    behind-seven-requires
+    behind-requires
     array-share-prefix-operations
     slice-aggregate-answer-at
     answer-at-requires

@@ -1,5 +1,5 @@
--- Shown: `run` is safe and ends.
--- How: each case moves the offset on.
+-- `run` ends: each case moves the offset on.
+-- Assumes nothing.
 use Prim.Native.Nat.{_-_}
 use lib.ListN.{length}
 use borrow.Author.Needs.{needs}
@@ -7,10 +7,13 @@ use Rattle.to_diff_vectors.proofs.run.Statement.{statement}
 use Rattle.to_diff_vectors.proofs.run.Tie as tie
 
 abbrev Inv-cases : tie.InvT-cases
-Inv-cases bytes agree₀ differ₀ at₀ t6 agree differ at = Unit {0}
+Inv-cases bytes tally₀ at₀ t5 tally at = Unit {0}
 
 abbrev μ-cases : tie.MeasureT-cases
-μ-cases bytes agree₀ differ₀ at₀ t6 agree differ at = length bytes - at
+μ-cases bytes tally₀ at₀ t5 tally at = length bytes - at
+
+no-cases-requires : tie.Need-no-cases-requires Inv-cases μ-cases
+no-cases-requires c κs = search needs
 
 cases-holds : tie.Need-cases-holds Inv-cases μ-cases
 cases-holds c = search needs
@@ -18,11 +21,8 @@ cases-holds c = search needs
 case-at-requires : tie.Need-case-at-requires Inv-cases μ-cases
 case-at-requires c κs = search needs
 
-one-more-requires : tie.Need-one-more-requires Inv-cases μ-cases
-one-more-requires c κs = search needs
-
-one-more-requires-2 : tie.Need-one-more-requires-2 Inv-cases μ-cases
-one-more-requires-2 c κs = search needs
+with-requires : tie.Need-with-requires Inv-cases μ-cases
+with-requires c κs = search needs
 
 cases-less : tie.Need-cases-less Inv-cases μ-cases
 cases-less c = search needs
@@ -45,10 +45,10 @@ run-spec =
     (tie.spec
     Inv-cases
     μ-cases
+    no-cases-requires
     cases-holds
     case-at-requires
-    one-more-requires
-    one-more-requires-2
+    with-requires
     cases-less
     cases-again
     slice-aggregate-report

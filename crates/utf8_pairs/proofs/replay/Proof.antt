@@ -7,22 +7,19 @@ use Rattle.utf8_pairs.proofs.replay.Statement.{statement}
 use Rattle.utf8_pairs.proofs.replay.Tie as tie
 
 abbrev Inv-runs : tie.InvT-runs
-Inv-runs name bytes agree₀ differ₀ index₀ at₀ agree differ index at = at₀ ≤ at
+Inv-runs name bytes tally₀ index₀ at₀ tally index at = at₀ ≤ at
 
 abbrev μ-runs : tie.MeasureT-runs
-μ-runs name bytes agree₀ differ₀ index₀ at₀ agree differ index at = length bytes - at
+μ-runs name bytes tally₀ index₀ at₀ tally index at = length bytes - at
+
+no-cases-requires : tie.Need-no-cases-requires Inv-runs μ-runs
+no-cases-requires c κs = search needs
 
 runs-holds : tie.Need-runs-holds Inv-runs μ-runs
 runs-holds c = search needs
 
 run-at-requires : tie.Need-run-at-requires Inv-runs μ-runs
 run-at-requires c κs = search needs
-
-wrapping-add-u64-requires : tie.Need-wrapping-add-u64-requires Inv-runs μ-runs
-wrapping-add-u64-requires c κs = search needs
-
-wrapping-add-u64-requires-2 : tie.Need-wrapping-add-u64-requires-2 Inv-runs μ-runs
-wrapping-add-u64-requires-2 c κs = search needs
 
 runs-less : tie.Need-runs-less Inv-runs μ-runs
 runs-less c = search needs
@@ -42,10 +39,9 @@ replay-spec =
     (tie.spec
     Inv-runs
     μ-runs
+    no-cases-requires
     runs-holds
     run-at-requires
-    wrapping-add-u64-requires
-    wrapping-add-u64-requires-2
     runs-less
     runs-again
     report-requires

@@ -12,11 +12,8 @@ slice-aggregate-numbers-usize c = search needs
 numbers-usize-requires : tie.Need-numbers-usize-requires
 numbers-usize-requires c κs = search needs
 
-slice-aggregate-numbers-usize-2 : tie.Need-slice-aggregate-numbers-usize-2
-slice-aggregate-numbers-usize-2 c = search needs
-
-numbers-usize-requires-2 : tie.Need-numbers-usize-requires-2
-numbers-usize-requires-2 c κs = search needs
+due-at-requires : tie.Need-due-at-requires
+due-at-requires c κs = search needs
 
 slice-aggregate-numbers-u32 : tie.Need-slice-aggregate-numbers-u32
 slice-aggregate-numbers-u32 c = search needs
@@ -26,12 +23,6 @@ numbers-u32-requires c κs = search needs
 
 array-read-run-of : tie.Need-array-read-run-of
 array-read-run-of c = search needs
-
-array-read-run-of-2 : tie.Need-array-read-run-of-2
-array-read-run-of-2 c = search needs
-
-array-read-run-of-3 : tie.Need-array-read-run-of-3
-array-read-run-of-3 c = search needs
 
 array-borrow-prefix-points : tie.Need-array-borrow-prefix-points
 array-borrow-prefix-points c = search needs
@@ -51,13 +42,10 @@ run-at-spec =
     (tie.spec
     slice-aggregate-numbers-usize
     numbers-usize-requires
-    slice-aggregate-numbers-usize-2
-    numbers-usize-requires-2
+    due-at-requires
     slice-aggregate-numbers-u32
     numbers-u32-requires
     array-read-run-of
-    array-read-run-of-2
-    array-read-run-of-3
     array-borrow-prefix-points
     slice-aggregate-run-of
     run-of-requires

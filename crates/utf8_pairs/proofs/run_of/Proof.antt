@@ -7,10 +7,10 @@ use Rattle.utf8_pairs.proofs.run_of.Statement.{statement}
 use Rattle.utf8_pairs.proofs.run_of.Tie as tie
 
 abbrev Inv-strings : tie.InvT-strings
-Inv-strings first strings number value points₀ next agree₀ differ₀ index₀ left₀ points agree differ index left = length points ≡ length points₀
+Inv-strings first strings due points₀ next tally₀ index₀ left₀ points tally index left = length points ≡ length points₀
 
 abbrev μ-strings : tie.MeasureT-strings
-μ-strings first strings number value points₀ next agree₀ differ₀ index₀ left₀ points agree differ index left = left
+μ-strings first strings due points₀ next tally₀ index₀ left₀ points tally index left = left
 
 strings-holds : tie.Need-strings-holds Inv-strings μ-strings
 strings-holds c = search needs
@@ -18,11 +18,8 @@ strings-holds c = search needs
 string-agrees-requires : tie.Need-string-agrees-requires Inv-strings μ-strings
 string-agrees-requires c κs = search needs
 
-wrapping-add-u64-requires : tie.Need-wrapping-add-u64-requires Inv-strings μ-strings
-wrapping-add-u64-requires c κs = search needs
-
-wrapping-add-u64-requires-2 : tie.Need-wrapping-add-u64-requires-2 Inv-strings μ-strings
-wrapping-add-u64-requires-2 c κs = search needs
+with-requires : tie.Need-with-requires Inv-strings μ-strings
+with-requires c κs = search needs
 
 raise-requires : tie.Need-raise-requires Inv-strings μ-strings
 raise-requires c κs = search needs
@@ -53,8 +50,7 @@ run-of-spec =
     μ-strings
     strings-holds
     string-agrees-requires
-    wrapping-add-u64-requires
-    wrapping-add-u64-requires-2
+    with-requires
     raise-requires
     wrapping-add-usize-requires
     sub-left

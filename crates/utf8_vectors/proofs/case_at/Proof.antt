@@ -9,32 +9,23 @@ use Rattle.utf8_vectors.proofs.case_at.Tie as tie
 numbers-u8-requires : tie.Need-numbers-u8-requires
 numbers-u8-requires c κs = search needs
 
-slice-aggregate-numbers-usize : tie.Need-slice-aggregate-numbers-usize
-slice-aggregate-numbers-usize c = search needs
-
-numbers-usize-requires : tie.Need-numbers-usize-requires
-numbers-usize-requires c κs = search needs
+due-at-requires : tie.Need-due-at-requires
+due-at-requires c κs = search needs
 
 numbers-u32-requires : tie.Need-numbers-u32-requires
 numbers-u32-requires c κs = search needs
-
-array-read-number : tie.Need-array-read-number
-array-read-number c = search needs
-
-array-read-value : tie.Need-array-read-value
-array-read-value c = search needs
 
 slice-reshare-prefix-read-length : tie.Need-slice-reshare-prefix-read-length
 slice-reshare-prefix-read-length c = search needs
 
 slice-aggregate-read-length : tie.Need-slice-aggregate-read-length
-slice-aggregate-read-length c = sym (length-take-le _ _ (c .before .before .before .before .before .before .before .before .before .before .numbers-u8 .ensures .fits))
+slice-aggregate-read-length c = sym (length-take-le _ _ (c .before .before .before .before .before .before .before .before .numbers-u8 .ensures .fits))
 
 read-length-requires : tie.Need-read-length-requires
 read-length-requires c κs = search needs
 
-is-due-requires : tie.Need-is-due-requires
-is-due-requires c κs = search needs
+is-counted-requires : tie.Need-is-counted-requires
+is-counted-requires c κs = search needs
 
 same-length : tie.Need-same-length
 same-length c = search needs
@@ -50,14 +41,14 @@ slice-reshare-prefix-read c = search needs
 
 slice-aggregate-read : tie.Need-slice-aggregate-read
 slice-aggregate-read c =
-    let c14 = c .before .before .before .before .before .before .before .before .before .before .before .before .before .before in
-    sym (length-take-le _ _ (c14 .numbers-u8 .ensures .fits))
+    let c12 = c .before .before .before .before .before .before .before .before .before .before .before .before in
+    sym (length-take-le _ _ (c12 .numbers-u8 .ensures .fits))
 
 read-requires : tie.Need-read-requires
 read-requires c κs = search needs
 
-is-due-requires-2 : tie.Need-is-due-requires-2
-is-due-requires-2 c κs = search needs
+is-counted-requires-2 : tie.Need-is-counted-requires-2
+is-counted-requires-2 c κs = search needs
 
 same-length-3 : tie.Need-same-length-3
 same-length-3 c = search needs
@@ -91,22 +82,19 @@ case-at-spec =
     tie.close
     (tie.spec
     numbers-u8-requires
-    slice-aggregate-numbers-usize
-    numbers-usize-requires
+    due-at-requires
     numbers-u32-requires
-    array-read-number
-    array-read-value
     slice-reshare-prefix-read-length
     slice-aggregate-read-length
     read-length-requires
-    is-due-requires
+    is-counted-requires
     same-length
     same-length-2
     returns
     slice-reshare-prefix-read
     slice-aggregate-read
     read-requires
-    is-due-requires-2
+    is-counted-requires-2
     same-length-3
     same-length-4
     same-length-5

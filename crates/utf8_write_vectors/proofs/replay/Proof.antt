@@ -8,10 +8,13 @@ use Rattle.utf8_write_vectors.proofs.replay.Statement.{statement}
 use Rattle.utf8_write_vectors.proofs.replay.Tie as tie
 
 abbrev Inv-cases : tie.InvT-cases
-Inv-cases name bytes text₀ written₀ room₀ agree₀ differ₀ at₀ text written room agree differ at = (length text ≡ 1024) × (length written ≡ 1024) × (length room ≡ 1024)
+Inv-cases name bytes text₀ written₀ room₀ tally₀ at₀ text written room tally at = (length text ≡ 1024) × (length written ≡ 1024) × (length room ≡ 1024)
 
 abbrev μ-cases : tie.MeasureT-cases
-μ-cases name bytes text₀ written₀ room₀ agree₀ differ₀ at₀ text written room agree differ at = length bytes - at
+μ-cases name bytes text₀ written₀ room₀ tally₀ at₀ text written room tally at = length bytes - at
+
+no-cases-requires : tie.Need-no-cases-requires Inv-cases μ-cases
+no-cases-requires c κs = search needs
 
 cases-holds : tie.Need-cases-holds Inv-cases μ-cases
 cases-holds c = search needs
@@ -28,11 +31,8 @@ slice-aggregate-case-at-3 c = search needs
 case-at-requires : tie.Need-case-at-requires Inv-cases μ-cases
 case-at-requires c κs = search needs
 
-one-more-requires : tie.Need-one-more-requires Inv-cases μ-cases
-one-more-requires c κs = search needs
-
-one-more-requires-2 : tie.Need-one-more-requires-2 Inv-cases μ-cases
-one-more-requires-2 c κs = search needs
+with-requires : tie.Need-with-requires Inv-cases μ-cases
+with-requires c κs = search needs
 
 cases-less : tie.Need-cases-less Inv-cases μ-cases
 cases-less c = search needs
@@ -52,13 +52,13 @@ replay-spec =
     (tie.spec
     Inv-cases
     μ-cases
+    no-cases-requires
     cases-holds
     slice-aggregate-case-at
     slice-aggregate-case-at-2
     slice-aggregate-case-at-3
     case-at-requires
-    one-more-requires
-    one-more-requires-2
+    with-requires
     cases-less
     cases-again
     report-requires

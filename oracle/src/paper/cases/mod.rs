@@ -31,7 +31,6 @@ pub fn files() -> Vec<(&'static str, Vectors)> {
         ("merge_files.txt", programs::merge_files()),
         ("outputs_refused.txt", lists::outputs_refused()),
         ("checks.txt", lists::checks()),
-        ("overlap_refused.txt", lists::overlap_refused()),
     ]
 }
 
