@@ -8,7 +8,7 @@ use lib.IntN.{ℤ}
 use Rattle.refusal.specs.declared.Counted.{Counted}
 use Rattle.records.specs.declared.Operation.{Operation}
 use Rattle.records.specs.declared.Cursor.{Cursor}
-use Rattle.checks.specs.declared.Verdict.{Verdict}
+use Rattle.verdict.specs.declared.Verdict.{Verdict}
 use Rattle.merging.specs.Lent.{Lent}
 use Rattle.utf8.specs.Answers.{Answered as Coded}
 use Rattle.utf8.proofs.Ways.{only-answer as only-coded}

@@ -5,7 +5,7 @@ ghost use Rattle.diff.specs.Answers.{Replayed, covering, diff, lengthOf, plain}
 ghost use Rattle.records.specs.Operations.{operationsOf};
 ghost use Rattle.refusal.specs.declared.Counted.{Counted};
 ghost use Rattle.to_diff.specs.Answers.{Diffs, lengthsOf};
-ghost use Rattle.to_diff.specs.Items.{lentOf};
+ghost use Rattle.merging.specs.Lent.{lentOf};
 ghost use mathlib.Core.Path.{_≡_};
 
 // How many items and code points the diff of a list has: what `to_diff` must be lent.

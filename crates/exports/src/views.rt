@@ -2,7 +2,7 @@
 use answer::Answer;
 ghost use Rattle.answer.specs.Tellings.{ToldBy, tellAll, tellApplied, tellHistory};
 ghost use Rattle.apply.specs.Answers.{Applies, AppliesAll, Tells, applied, historyOn, textOn, told, toldAll, verdictOn};
-ghost use Rattle.apply.specs.Parts.{lentOf};
+ghost use Rattle.merging.specs.Lent.{lentOf};
 ghost use Rattle.cursors.specs.Sorted.{sorted};
 ghost use Rattle.merging.specs.Outputs.{historyText};
 ghost use Rattle.records.specs.Cursors.{cursorsOf};
