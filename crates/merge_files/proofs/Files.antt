@@ -40,7 +40,7 @@ few-points (b ∷ s) zero = go (utf8-char (b ∷ s)) (λ j. few-points s j)
     go (suc j) h = omega (arith, h j)
 
 -- zeros are code points
-zeros-fine : (n i : ℕ) → pointsFrom (replicate n 0) i ≡ W.Accepted
+pub zeros-fine : (n i : ℕ) → pointsFrom (replicate n 0) i ≡ W.Accepted
 unfolding pointsFrom
 zeros-fine zero i = refl
 zeros-fine (suc n) i = zeros-fine n (i + 1)

@@ -1,12 +1,12 @@
 -- Shown: for the bytes of the sheets' files the program writes exactly the sheets' lines.
 -- How: by computation, with what stands behind the added text left open: the checks see only how long it is and that it holds code points.
-use Prim.Native.Nat.{ℕ, zero, suc, _+_}
+use Prim.Native.Nat.{ℕ}
 use mathlib.Core.Path.{_≡_, refl, _∙_}
 use mathlib.Core.Bool.{_&&_}
 use mathlib.Core.List.{List, [], _∷_}
 use native.Mathlib.Omega.{arith}
 use lib.Dec.{leb}
-use lib.ListN.{length, drop, replicate, length-replicate}
+use lib.ListN.{length, drop, length-replicate}
 use Rattle.room.proofs.Answers.{same-room}
 use Rattle.overlap.specs.Overlap.{overlapOf, longest, first}
 use Rattle.records.specs.declared.Operation.{Operation}
@@ -38,6 +38,7 @@ use Rattle.edit_format.specs.Records.{size}
 use Rattle.to_diff.specs.Items.{itemOf, itemsOf, diffOf}
 use Rattle.edit_list.specs.Raws.{pointTokens, runOf, runsOf, listOf}
 use Rattle.merge_files.specs.Program.{merged, padding, textOf, tokensOf, lentOf, leftOf, rightOf, verdictOf, fileOf, judged, mergedOf}
+use Rattle.merge_files.proofs.Files.{zeros-fine}
 use Rattle.sheets.specs.Ascii.{ascii, lines}
 use Rattle.sheets.specs.Lines.{abcdef, nothing, sheets, Hold}
 use Rattle.sheets.proofs.Opening.{letters, lefts, rights, opens-abcdef, opens-nothing}
@@ -58,19 +59,13 @@ verdict-is : (lent : Lent) (left right : List Operation)
 unfolding measured verdictOf listsVerdict
 verdict-is lent left right = refl
 
--- zeros are code points
-zeros : (n i : ℕ) → pointsFrom (replicate n 0) i ≡ W.Accepted
-unfolding pointsFrom
-zeros zero i = refl
-zeros (suc n) i = zeros n (i + 1)
-
 long : length padding ≡ 67583
 unfolding padding
 long = length-replicate {A = ℕ} 67583 0
 
 points-behind : pointsFrom (drop 2 padding) 2 ≡ W.Accepted
 unfolding padding
-points-behind = zeros 67581 2
+points-behind = zeros-fine 67581 2
 
 accepts-abcdef : measured 67583 W.Accepted letters (flatSpans (tokensOf lefts rights)) (flatKeys (tokensOf lefts rights)) (leftOf lefts) (rightOf lefts rights) ≡ W.Accepted
 unfolding measured andThen sized pointsFrom total runText runGood recordsFrom tilingFrom withinFrom tokensFrom tokensOf flatSpans flatKeys allTokens listOf runsOf runOf pointTokens elongated parts lastRight firstLeft joinedFrom cookedFrom piecesLength size texts
@@ -94,7 +89,7 @@ long-nothing = long
 
 points-nothing : pointsFrom (textOf padding [] []) 0 ≡ W.Accepted
 unfolding textOf texts padding
-points-nothing = zeros 67583 0
+points-nothing = zeros-fine 67583 0
 
 -- the merged file, whatever stands behind the added text
 file-abcdef : (d : List ℕ) → fileOf (lentOf d letters lefts rights) (leftOf lefts) (rightOf lefts rights) ≡ abcdef .written
