@@ -1,28 +1,25 @@
 -- The building of the replayed text in a room: what is put, and what the edits that are left will put, is all of it.
 -- One law for a run that is put where the last one ended; each kind of item puts such a run. Assumes nothing.
 use mathlib.Core.Path.{_≡_, refl, sym, ap, _∙_}
-use mathlib.Core.List.{List, [], _++_, append-assoc, append-nil}
+use mathlib.Core.List.{List, [], _++_, append-assoc}
 use Prim.Native.Nat.{ℕ, _+_, _-_, _/_, _≤_, _<_, zero-le}
-use native.Mathlib.Nat.{add-zero}
 use native.Mathlib.Omega.{arith}
-use lib.ListN.{length, take, drop, length-append, length-take, length-drop, take-append-drop}
+use lib.ListN.{length, take, drop, length-append, length-take, length-drop}
 use lib.Seq.{take-at, drop-append-add, drop-drop, length-take-le}
 use lib.IntN.{ℤ}
 use Rattle.room.specs.Placed.{placed, Put}
+use Rattle.string_builder.specs.Builder.{stopAt, Retained}
+use Rattle.string_builder.proofs.Stops.{stop-within, stop-rest, retained-length}
+pub use Rattle.string_builder.proofs.Stops.{placed-none, put-none}
 use Rattle.diff.specs.declared.diff.Item.{Item}
 use Rattle.diff.specs.declared.diff.Item.the-variants.{Retain, Delete, Insert, Neither}
 use Rattle.diff.specs.Items.{itemAt, itemsOf}
 use Rattle.diff.specs.Replay.{editOf, editsOf, replayed}
-use Rattle.diff.specs.Builder.{stopAt, Retained}
-use Rattle.diff.proofs.Stops.{stop-within, stop-rest, retained-length}
 use Rattle.diff.proofs.Turns.{rest-all, restEdits, edits-at, edits-none}
 
-pub placed-none : (d : List ℕ) (at : ℕ) → placed d at [] ≡ d
-unfolding placed
-placed-none d at = rw (add-zero at, append-nil) (take-append-drop at d)
-
-pub put-none : (d : List ℕ) (at : ℕ) → Put [] d at d at
-put-none d at = record { next = sym (add-zero at); stands = sym (placed-none d at) }
+-- a range by its start and its end is the range by its start and length
+pub range-part : (t : List ℕ) (s n : ℕ) → take (s + n - s) (drop s t) ≡ take n (drop s t)
+range-part t s n = let m : s + n - s ≡ n = omega arith in rw (m)
 
 pub placed-length : (d : List ℕ) (at : ℕ) (s : List ℕ) → at + length s ≤ length d → length (placed d at s) ≡ length d
 unfolding placed

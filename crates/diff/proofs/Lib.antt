@@ -2,7 +2,6 @@ pub mod Signs
 pub mod Decoding
 pub mod Points
 pub mod Turns
-pub mod Stops
 pub mod Building
 pub mod Laws
 pub mod Judging

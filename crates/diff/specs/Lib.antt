@@ -1,6 +1,5 @@
 pub mod Items
 pub mod Replay
-pub mod Builder
 pub mod Checks
 pub mod Passes
 pub mod Answers

@@ -12,10 +12,10 @@ use crate::diff::bad_points;
 use crate::diff::item_at;
 use crate::diff::survey;
 use crate::diff::walk;
-use crate::string_builder::retained;
-use crate::string_builder::stop_at;
 use refusal::Counted;
 use refusal::Refusal;
+use string_builder::retained;
+use string_builder::stop_at;
 
 // What the checks of a plain replay find: how much is left unmentioned and how long the replayed text is, or why there is none.
 pub enum Judged {

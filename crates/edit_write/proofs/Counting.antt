@@ -12,7 +12,7 @@ use lib.IntN.{ℤ}
 use Rattle.diff.specs.declared.diff.Item.{Item as Lent}
 use Rattle.diff.specs.declared.diff.Item.the-variants.{Retain, Delete, Insert, Neither}
 use Rattle.diff.specs.Items.{itemAt}
-use Rattle.diff.proofs.Stops.{range-part}
+use Rattle.diff.proofs.Building.{range-part}
 use Rattle.edit_format.specs.Digits.{digits}
 use Rattle.edit_format.specs.Items.{Item, Keep, Drop, Add}
 use Rattle.edit_format.specs.Written.{points, numberLine, keepKey, dropKey, addKey, endKey, formKey, originalKey, resultKey, itemsKey, itemLine, itemLines, Head, headLines}

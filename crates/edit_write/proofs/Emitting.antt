@@ -12,8 +12,7 @@ use lib.IntN.{ℤ}
 use Rattle.room.specs.Placed.{placed, Put}
 use Rattle.diff.specs.declared.diff.Item.the-variants.{Retain, Delete, Insert, Neither}
 use Rattle.diff.specs.Items.{itemAt}
-use Rattle.diff.proofs.Stops.{range-part}
-use Rattle.diff.proofs.Building.{placed-length, placed-more, put-none}
+use Rattle.diff.proofs.Building.{placed-length, placed-more, put-none, range-part}
 use Rattle.edit_format.specs.Digits.{digits}
 use Rattle.edit_format.specs.Items.{Item, Add}
 use Rattle.edit_format.specs.Written.{points, numberLine, keepKey, dropKey, addKey, itemLine, itemLines}

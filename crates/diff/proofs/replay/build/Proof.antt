@@ -1,7 +1,6 @@
 -- `build` puts the replayed text. What is put, and what the items left will put, is all of it (Building).
 -- Assumes nothing.
-use Rattle.diff.proofs.Building.{Building, build-begins, build-ends, fits-retain, build-retain, step-retain, build-delete, fits-insert, build-insert, build-neither}
-use Rattle.diff.proofs.Stops.{range-part}
+use Rattle.diff.proofs.Building.{Building, build-begins, build-ends, fits-retain, build-retain, step-retain, build-delete, fits-insert, build-insert, build-neither, range-part}
 use Rattle.diff.proofs.Decoding.{insert-within}
 use Rattle.diff.specs.Answers.{edits, textOf}
 use native.Mathlib.Omega.{arith}

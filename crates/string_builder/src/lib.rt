@@ -4,7 +4,7 @@ ghost use mathlib.Core.Path.{_≡_};
 ghost use Prim.Native.Nat.{_+_, _≤_};
 ghost use lib.ListN.{length, take, drop};
 ghost use Rattle.room.specs.Placed.{Put};
-ghost use Rattle.diff.specs.Builder.{stopAt, Retained};
+ghost use Rattle.string_builder.specs.Builder.{stopAt, Retained};
 
 // Where a step of n from a position ends: at the end at the latest.
 pub fn stop_at(len: usize, position: usize, n: usize) -> usize

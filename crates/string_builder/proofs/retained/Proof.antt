@@ -1,7 +1,7 @@
 -- `retained` meets its contract: a walk of its MIR, by hand. A builder is made of the slice and the position and handed to `retain`, and its position is read out of what comes back.
 -- Assumes nothing.
-use Rattle.diff.proofs.string_builder.retained.Key.{name as #retained}
-use Rattle.diff.proofs.string_builder.retain.Symbol.{name as #retain}
+use Rattle.string_builder.proofs.retained.Key.{name as #retained}
+use Rattle.string_builder.proofs.retain.Symbol.{name as #retain}
 use lib.Dec.{T as Holds}
 use mathlib.Core.Path.{_≡_, refl, ap, subst}
 use Prim.Native.Nat.{ℕ, _+_, _-_, _≤_, _<_, _^_}
@@ -43,16 +43,16 @@ use denote.Triple.Spec.{Meets, tripleOf}
 use denote.Triple.Table.{entered, cited}
 use denote.Triple.Walked.{says, needs, Stays, stay-none, stay-none-slice, gave-slice, walkOf, goes-none, goes-none-slice, goes-gave-slice, Walks, ends-at, walked, walk-meets}
 use denote.Exit.{yes}
-use Rattle.diff.specs.Builder.{Retained}
-use Rattle.diff.specs.declared.string_builder.StringBuilder.{StringBuilder}
-use Rattle.diff.proofs.string_builder.StringBuilder as T
-use Rattle.diff.proofs.string_builder.StringBuilder.Laws as T′
-use Rattle.diff.proofs.string_builder.retain as work
-use Rattle.diff.proofs.string_builder.retain.Symbol as work-def
-use Rattle.diff.proofs.string_builder.retain.Met as work-thm
-use Rattle.diff.proofs.string_builder.retained as retained
-use Rattle.diff.proofs.string_builder.retained.Statement as stated
-use Rattle.diff.proofs.string_builder.retained.Code as code
+use Rattle.string_builder.specs.Builder.{Retained}
+use Rattle.string_builder.specs.declared.StringBuilder.{StringBuilder}
+use Rattle.string_builder.proofs.StringBuilder as T
+use Rattle.string_builder.proofs.StringBuilder.Laws as T′
+use Rattle.string_builder.proofs.retain as work
+use Rattle.string_builder.proofs.retain.Symbol as work-def
+use Rattle.string_builder.proofs.retain.Met as work-thm
+use Rattle.string_builder.proofs.retained as retained
+use Rattle.string_builder.proofs.retained.Statement as stated
+use Rattle.string_builder.proofs.retained.Code as code
 
 abbrev B : Lfts 2 → RattleType
 B κs = T.the-row (namedLft 2 0 tt κs)
@@ -243,4 +243,4 @@ retained-spec 𝓤 H 𝓜 𝓖 𝓡 =
     entered 𝓤 H (tripleOf 𝓤 H (𝓖 .A) retained.signature (retained.spec 𝓤 H (𝓖 .A) (𝓜 .mem) (𝓡 .run)))
     (tables 𝓤 H 𝓜 𝓡 code.env .C) (tables 𝓤 H 𝓜 𝓡 code.env .Λ) #retained code.function (code.unfolded 𝓤 H 𝓜 𝓡)
     (retained-meets 𝓤 H (𝓖 .A) (givenOf 𝓤 H 𝓜 𝓖) (𝓜 .mem) (𝓡 .run) (tablesOf 𝓤 H 𝓜 (tables 𝓤 H 𝓜 𝓡 code.env))
-    (cited 𝓤 H (Work 𝓤 H (𝓖 .A) (𝓜 .mem) (𝓡 .run)) 𝓜 𝓡 code.env #retain work-def.routine code.calls-diff·string-builder·retain (work-thm.met 𝓤 H 𝓜 𝓖 𝓡)))
+    (cited 𝓤 H (Work 𝓤 H (𝓖 .A) (𝓜 .mem) (𝓡 .run)) 𝓜 𝓡 code.env #retain work-def.routine code.calls-string-builder·retain (work-thm.met 𝓤 H 𝓜 𝓖 𝓡)))

@@ -1,7 +1,7 @@
 -- `new` meets its contract: a walk of its MIR, by hand. A `StringBuilder` is made of the slice passed and 0, in the result's local.
 -- A `&[u32]` is Copy, so what it owns is had twice: once for src at exit, and once inside the result, beside the facts of at.
 -- Assumes nothing.
-use Rattle.diff.proofs.string_builder.new.Key.{name as #new}
+use Rattle.string_builder.proofs.new.Key.{name as #new}
 use mathlib.Core.Path.{refl}
 use Prim.Native.Nat.{ℕ}
 use mathlib.Core.List.{List, [], _∷_}
@@ -36,12 +36,12 @@ use denote.Triple.Spec.{Meets, tripleOf}
 use denote.Triple.Table.{entered}
 use denote.Triple.Walked.{says, Stays, stay-none-slice, walkOf, goes-none-slice, Walks, ends-at, walked, walk-meets}
 use denote.Exit.{yes}
-use Rattle.diff.specs.declared.string_builder.StringBuilder.{StringBuilder}
-use Rattle.diff.proofs.string_builder.StringBuilder as T
-use Rattle.diff.proofs.string_builder.StringBuilder.Laws as T′
-use Rattle.diff.proofs.string_builder.new as new
-use Rattle.diff.proofs.string_builder.new.Statement as stated
-use Rattle.diff.proofs.string_builder.new.Code as code
+use Rattle.string_builder.specs.declared.StringBuilder.{StringBuilder}
+use Rattle.string_builder.proofs.StringBuilder as T
+use Rattle.string_builder.proofs.StringBuilder.Laws as T′
+use Rattle.string_builder.proofs.new as new
+use Rattle.string_builder.proofs.new.Statement as stated
+use Rattle.string_builder.proofs.new.Code as code
 
 abbrev stayed : Stays (new.ended .signature .params) (new.ended .kept)
 stayed = (stay-none-slice (0 ∷ []) tt (plain (λ _. u32)) yes, tt)

@@ -1,11 +1,11 @@
 -- `stop_at` is where a step ends. Two cases, by whether that is within the original (Stops).
 -- Assumes nothing.
-use Rattle.diff.proofs.Stops.{stop-short, stop-long}
+use Rattle.string_builder.proofs.Stops.{stop-short, stop-long}
 use native.Mathlib.Omega.{arith}
 use mathlib.Core.Path.{sym}
 use borrow.Author.Needs.{needs}
-use Rattle.diff.proofs.string_builder.stop_at.Statement.{statement}
-use Rattle.diff.proofs.string_builder.stop_at.Tie as tie
+use Rattle.string_builder.proofs.stop_at.Statement.{statement}
+use Rattle.string_builder.proofs.stop_at.Tie as tie
 
 returns : tie.Need-returns
 returns c = sym (stop-long _ _ _ (omega arith))

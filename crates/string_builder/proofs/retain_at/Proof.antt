@@ -1,12 +1,11 @@
 -- `retain_at` puts the next of the original, or what is left of them. The part it copies is what the step passes (Stops).
 -- Assumes nothing.
-use Rattle.diff.proofs.Building.{put-none}
-use Rattle.diff.proofs.Stops.{stop-within, stop-part, none-left}
+use Rattle.string_builder.proofs.Stops.{stop-within, stop-part, none-left, put-none}
 use lib.ListN.{length}
 use native.Mathlib.Omega.{arith}
 use borrow.Author.Needs.{needs}
-use Rattle.diff.proofs.string_builder.retain_at.Statement.{statement}
-use Rattle.diff.proofs.string_builder.retain_at.Tie as tie
+use Rattle.string_builder.proofs.retain_at.Statement.{statement}
+use Rattle.string_builder.proofs.retain_at.Tie as tie
 
 returns : tie.Need-returns
 returns c = rw (none-left (c .before .before .before .args .original .now) (c .before .before .before .args .position)

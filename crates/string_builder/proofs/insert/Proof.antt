@@ -1,6 +1,6 @@
 -- `insert` meets its contract: a walk of its MIR, by hand. The text goes to `put_u32` with the room, which isn't needed after the call; the builder is let be.
 -- Assumes nothing.
-use Rattle.diff.proofs.string_builder.insert.Key.{name as #insert}
+use Rattle.string_builder.proofs.insert.Key.{name as #insert}
 use Rattle.room.proofs.put_u32.Symbol.{name as #put-u32}
 use lib.Dec.{T as Holds}
 use mathlib.Core.Path.{_≡_, refl}
@@ -41,15 +41,15 @@ use denote.Triple.Table.{entered, cited}
 use denote.Triple.Walked.{says, needs, Stays, stay-none, stay-none-slice, gave-slice, walkOf, goes-none, goes-none-slice, goes-gave-slice, Walks, ends-at, walked, walk-meets}
 use denote.Exit.{yes}
 use Rattle.room.specs.Placed.{Put}
-use Rattle.diff.specs.declared.string_builder.StringBuilder.{StringBuilder}
-use Rattle.diff.proofs.string_builder.StringBuilder as T
-use Rattle.diff.proofs.string_builder.StringBuilder.Laws as T′
+use Rattle.string_builder.specs.declared.StringBuilder.{StringBuilder}
+use Rattle.string_builder.proofs.StringBuilder as T
+use Rattle.string_builder.proofs.StringBuilder.Laws as T′
 use Rattle.room.proofs.put_u32 as work
 use Rattle.room.proofs.put_u32.Symbol as work-def
 use Rattle.room.proofs.put_u32.Met as work-thm
-use Rattle.diff.proofs.string_builder.insert as insert
-use Rattle.diff.proofs.string_builder.insert.Statement as stated
-use Rattle.diff.proofs.string_builder.insert.Code as code
+use Rattle.string_builder.proofs.insert as insert
+use Rattle.string_builder.proofs.insert.Statement as stated
+use Rattle.string_builder.proofs.insert.Code as code
 
 abbrev B : Lfts 2 → RattleType
 B κs = T.the-row (namedLft 2 0 tt κs)

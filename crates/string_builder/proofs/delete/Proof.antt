@@ -1,7 +1,7 @@
 -- `delete` meets its contract: a walk of its MIR, by hand. Where the step ends is asked of `stop_at`, and the builder is handed back at that position.
 -- Assumes nothing.
-use Rattle.diff.proofs.string_builder.delete.Key.{name as #delete}
-use Rattle.diff.proofs.string_builder.stop_at.Symbol.{name as #stop-at}
+use Rattle.string_builder.proofs.delete.Key.{name as #delete}
+use Rattle.string_builder.proofs.stop_at.Symbol.{name as #stop-at}
 use lib.Dec.{T as Holds}
 use mathlib.Core.Path.{_≡_, refl, ap}
 use Prim.Native.Nat.{ℕ, _-_, _<_, _^_}
@@ -41,16 +41,16 @@ use denote.Triple.Spec.{Meets, tripleOf}
 use denote.Triple.Table.{entered, cited}
 use denote.Triple.Walked.{says, Stays, stay-none, walkOf, goes-none, Walks, ends-at, walked, walk-meets}
 use denote.Exit.{yes}
-use Rattle.diff.specs.Builder.{stopAt}
-use Rattle.diff.specs.declared.string_builder.StringBuilder.{StringBuilder}
-use Rattle.diff.proofs.string_builder.StringBuilder as T
-use Rattle.diff.proofs.string_builder.StringBuilder.Laws as T′
-use Rattle.diff.proofs.string_builder.stop_at as work
-use Rattle.diff.proofs.string_builder.stop_at.Symbol as work-def
-use Rattle.diff.proofs.string_builder.stop_at.Met as work-thm
-use Rattle.diff.proofs.string_builder.delete as delete
-use Rattle.diff.proofs.string_builder.delete.Statement as stated
-use Rattle.diff.proofs.string_builder.delete.Code as code
+use Rattle.string_builder.specs.Builder.{stopAt}
+use Rattle.string_builder.specs.declared.StringBuilder.{StringBuilder}
+use Rattle.string_builder.proofs.StringBuilder as T
+use Rattle.string_builder.proofs.StringBuilder.Laws as T′
+use Rattle.string_builder.proofs.stop_at as work
+use Rattle.string_builder.proofs.stop_at.Symbol as work-def
+use Rattle.string_builder.proofs.stop_at.Met as work-thm
+use Rattle.string_builder.proofs.delete as delete
+use Rattle.string_builder.proofs.delete.Statement as stated
+use Rattle.string_builder.proofs.delete.Code as code
 
 abbrev B : Lfts 1 → RattleType
 B κs = T.the-row (namedLft 1 0 tt κs)
@@ -160,4 +160,4 @@ delete-spec 𝓤 H 𝓜 𝓖 𝓡 =
     entered 𝓤 H (tripleOf 𝓤 H (𝓖 .A) delete.signature (delete.spec 𝓤 H (𝓖 .A) (𝓜 .mem) (𝓡 .run)))
     (tables 𝓤 H 𝓜 𝓡 code.env .C) (tables 𝓤 H 𝓜 𝓡 code.env .Λ) #delete code.function (code.unfolded 𝓤 H 𝓜 𝓡)
     (delete-meets 𝓤 H (𝓖 .A) (givenOf 𝓤 H 𝓜 𝓖) (𝓜 .mem) (𝓡 .run) (tablesOf 𝓤 H 𝓜 (tables 𝓤 H 𝓜 𝓡 code.env))
-    (cited 𝓤 H (Work 𝓤 H (𝓖 .A) (𝓜 .mem) (𝓡 .run)) 𝓜 𝓡 code.env #stop-at work-def.routine code.calls-diff·string-builder·stop-at (work-thm.met 𝓤 H 𝓜 𝓖 𝓡)))
+    (cited 𝓤 H (Work 𝓤 H (𝓖 .A) (𝓜 .mem) (𝓡 .run)) 𝓜 𝓡 code.env #stop-at work-def.routine code.calls-string-builder·stop-at (work-thm.met 𝓤 H 𝓜 𝓖 𝓡)))

@@ -1,8 +1,8 @@
 -- `retain` meets its contract: a walk of its MIR, by hand. The builder is taken apart, `retain_to` is called on the slice and the number, with the room,
 -- which isn't needed after the call, and the builder is handed back at the position that it says.
 -- Assumes nothing.
-use Rattle.diff.proofs.string_builder.retain.Key.{name as #retain}
-use Rattle.diff.proofs.string_builder.retain_to.Symbol.{name as #retain-to}
+use Rattle.string_builder.proofs.retain.Key.{name as #retain}
+use Rattle.string_builder.proofs.retain_to.Symbol.{name as #retain-to}
 use lib.Dec.{T as Holds}
 use mathlib.Core.Path.{_≡_, refl, ap}
 use Prim.Native.Nat.{ℕ, _+_, _-_, _≤_, _<_, _^_}
@@ -45,16 +45,16 @@ use denote.Triple.Spec.{Meets, tripleOf}
 use denote.Triple.Table.{entered, cited}
 use denote.Triple.Walked.{says, needs, Stays, stay-none, gave-slice, walkOf, goes-none, goes-gave-slice, Walks, ends-at, walked, walk-meets}
 use denote.Exit.{yes}
-use Rattle.diff.specs.Builder.{Retained}
-use Rattle.diff.specs.declared.string_builder.StringBuilder.{StringBuilder}
-use Rattle.diff.proofs.string_builder.StringBuilder as T
-use Rattle.diff.proofs.string_builder.StringBuilder.Laws as T′
-use Rattle.diff.proofs.string_builder.retain_to as work
-use Rattle.diff.proofs.string_builder.retain_to.Symbol as work-def
-use Rattle.diff.proofs.string_builder.retain_to.Met as work-thm
-use Rattle.diff.proofs.string_builder.retain as retain
-use Rattle.diff.proofs.string_builder.retain.Statement as stated
-use Rattle.diff.proofs.string_builder.retain.Code as code
+use Rattle.string_builder.specs.Builder.{Retained}
+use Rattle.string_builder.specs.declared.StringBuilder.{StringBuilder}
+use Rattle.string_builder.proofs.StringBuilder as T
+use Rattle.string_builder.proofs.StringBuilder.Laws as T′
+use Rattle.string_builder.proofs.retain_to as work
+use Rattle.string_builder.proofs.retain_to.Symbol as work-def
+use Rattle.string_builder.proofs.retain_to.Met as work-thm
+use Rattle.string_builder.proofs.retain as retain
+use Rattle.string_builder.proofs.retain.Statement as stated
+use Rattle.string_builder.proofs.retain.Code as code
 
 abbrev B : Lfts 2 → RattleType
 B κs = T.the-row (namedLft 2 0 tt κs)
@@ -237,4 +237,4 @@ retain-spec 𝓤 H 𝓜 𝓖 𝓡 =
     entered 𝓤 H (tripleOf 𝓤 H (𝓖 .A) retain.signature (retain.spec 𝓤 H (𝓖 .A) (𝓜 .mem) (𝓡 .run)))
     (tables 𝓤 H 𝓜 𝓡 code.env .C) (tables 𝓤 H 𝓜 𝓡 code.env .Λ) #retain code.function (code.unfolded 𝓤 H 𝓜 𝓡)
     (retain-meets 𝓤 H (𝓖 .A) (givenOf 𝓤 H 𝓜 𝓖) (𝓜 .mem) (𝓡 .run) (tablesOf 𝓤 H 𝓜 (tables 𝓤 H 𝓜 𝓡 code.env))
-    (cited 𝓤 H (Work 𝓤 H (𝓖 .A) (𝓜 .mem) (𝓡 .run)) 𝓜 𝓡 code.env #retain-to work-def.routine code.calls-diff·string-builder·retain-to (work-thm.met 𝓤 H 𝓜 𝓖 𝓡)))
+    (cited 𝓤 H (Work 𝓤 H (𝓖 .A) (𝓜 .mem) (𝓡 .run)) 𝓜 𝓡 code.env #retain-to work-def.routine code.calls-string-builder·retain-to (work-thm.met 𝓤 H 𝓜 𝓖 𝓡)))
