@@ -90,7 +90,7 @@ pub fn raw(random: &mut Random) -> Raw {
     Raw { operations, tokens }
 }
 
-fn list(
+pub fn list(
     random: &mut Random,
     tokens: &mut Tokens,
     length: usize,
@@ -141,7 +141,7 @@ fn letter(random: &mut Random, letters: u64) -> u32 {
     u32::from('a') + random.below(letters) as u32
 }
 
-fn cursors(random: &mut Random, text_length: usize, sizes: Sizes) -> Vec<usize> {
+pub fn cursors(random: &mut Random, text_length: usize, sizes: Sizes) -> Vec<usize> {
     (0..sizes.cursors)
         .flat_map(|identity| [identity, random.below(text_length as u64 + 1) as usize])
         .collect()

@@ -73,6 +73,31 @@ pub fn apply_with_history(
     Ok(history)
 }
 
+pub fn apply_with_all(
+    lent: &Lent,
+    list: List,
+    text_room: usize,
+    cursors_room: usize,
+    spans_room: usize,
+    history_room: usize,
+) -> Result<(Applied, Spans), Refusal> {
+    check_list(lent, list)?;
+    let (applied, history) = flat::apply_with_all(lent, list.operations, list.cursors);
+    room(applied.text.len(), 1, text_room)?;
+    room(
+        applied.cursors.len() / CURSOR_STRIDE,
+        CURSOR_STRIDE,
+        cursors_room,
+    )?;
+    room(
+        history.spans.len() / HISTORY_STRIDE,
+        HISTORY_STRIDE,
+        spans_room,
+    )?;
+    room(history.text.len(), 1, history_room)?;
+    Ok((applied, history))
+}
+
 pub fn to_diff(
     lent: &Lent,
     operations: &[usize],

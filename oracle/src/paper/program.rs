@@ -33,8 +33,13 @@ fn merge_files(original: &[u8], left: &[u8], right: &[u8]) -> Result<Vec<u8>, Re
     let left = edit_file::read(left, AMPLE, AMPLE)?;
     let right = edit_file::read(right, AMPLE, AMPLE)?;
 
-    // One text for both lists: code points for keeps and drops to range over, then what is added.
-    let mut text = vec![0; size::ORIGINAL];
+    // One text for both lists: code points for the longest keep or drop, then what is added.
+    let items = [&left.items[..], &right.items].concat();
+    let numbers = items
+        .chunks_exact(ITEM_STRIDE)
+        .filter(|item| item[0] == NUMBER);
+    let longest = numbers.map(|item| item[1].unsigned_abs()).max();
+    let mut text = vec![0; longest.unwrap_or(0) as usize];
     let left_start = text.len();
     text.extend(&left.text);
     let right_start = text.len();

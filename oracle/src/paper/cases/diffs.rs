@@ -152,7 +152,7 @@ fn pick(random: &mut Random) -> i64 {
 }
 
 /// A diff that asks no more than there is; it may leave some of the original.
-fn good(random: &mut Random) -> (Vec<u32>, Vec<i64>, Vec<u32>) {
+pub fn good(random: &mut Random) -> (Vec<u32>, Vec<i64>, Vec<u32>) {
     let original: Vec<u32> = (0..random.below(10)).map(|_| letter(random)).collect();
     let text: Vec<u32> = (0..random.below(6)).map(|_| letter(random)).collect();
     let mut left = original.len() as u64;

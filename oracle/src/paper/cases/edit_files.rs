@@ -22,7 +22,7 @@ const LONG: &str = "form=1\noriginal=120\nresult=23\nitems=3\ndrop=100\nkeep=20\
 /// The shortest with an item.
 const SHORT: &str = "form=1\noriginal=0\nresult=1\nitems=1\nadd=a\nend=1\n";
 /// These, each with the original's length that it is for.
-const WHOLE: [(&str, usize); 5] = [(SHEET, 6), (EMPTY, 0), (KINDS, 3), (LONG, 120), (SHORT, 0)];
+pub const WHOLE: [(&str, usize); 5] = [(SHEET, 6), (EMPTY, 0), (KINDS, 3), (LONG, 120), (SHORT, 0)];
 
 /// So many lines of so many code points make 131,070.
 const PARTS: usize = PIECES / 10;
@@ -239,7 +239,7 @@ pub fn read() -> Vectors {
 }
 
 /// Each size at its limit and one past it, alone and with the others.
-fn limits() -> Vec<String> {
+pub fn limits() -> Vec<String> {
     let file = |original: usize, result: usize, items: usize, lines: &str| {
         format!("form=1\noriginal={original}\nresult={result}\nitems={items}\n{lines}end={items}\n")
     };

@@ -161,7 +161,7 @@ pub fn merge_refused() -> Vectors {
 }
 
 /// Merges of which most are refused.
-fn merges() -> Vec<Merge> {
+pub fn merges() -> Vec<Merge> {
     let mut merges = Vec::new();
     let mut case = |merge: &Merge| merges.push(merge.clone());
 
@@ -306,7 +306,7 @@ pub fn outputs_refused() -> Vectors {
 }
 
 /// Lists of which most are refused: the left ones, with their cursors.
-fn outputs() -> Vec<Merge> {
+pub fn outputs() -> Vec<Merge> {
     let mut outputs = Vec::new();
     let mut case = |merge: &Merge| outputs.push(merge.clone());
 

@@ -1,10 +1,10 @@
 //! The cases of the stored vector files, with this reading's answers. Everything is made from
 //! fixed seeds, so that making the files again gives the same bytes.
 
-mod diffs;
+pub mod diffs;
 pub mod edit_files;
 pub mod lists;
-mod programs;
+pub mod programs;
 mod utf8;
 
 use std::fmt::Display;

@@ -11,7 +11,7 @@ use crate::random::Random;
 use crate::vectors::Vectors;
 
 /// Three files: the original, the left edit file, the right one.
-type Triple = [Vec<u8>; 3];
+pub type Triple = [Vec<u8>; 3];
 
 const LEFT: usize = 1;
 const RIGHT: usize = 2;
@@ -143,7 +143,7 @@ fn small() -> Triple {
 }
 
 /// An edit file of exactly the largest size: it adds to nothing.
-fn largest_edit_file() -> Vec<u8> {
+pub fn largest_edit_file() -> Vec<u8> {
     let mut text = vec![9];
     loop {
         let bytes = written(&[TEXT, 0, text.len() as i64], &text);
@@ -157,7 +157,7 @@ fn largest_edit_file() -> Vec<u8> {
 }
 
 /// An original and two edit files for it, or nearly so.
-fn triple(random: &mut Random) -> Triple {
+pub fn triple(random: &mut Random) -> Triple {
     let length = random.below(9);
     let alphabet = ['a', 'b', 'é', '\u{1F411}'];
     let letter = |random: &mut Random| alphabet[random.below(4) as usize];
