@@ -17,7 +17,7 @@ use std::{
 
 use oracle::random::Random;
 
-use families::{diffs, edit_files, overlap, utf8};
+use families::{diffs, edit_files, elongate, overlap, utf8, views};
 use family::{Family, KINDS, Tally};
 use memory::Style;
 use plan::{Level, Plan};
@@ -175,6 +175,8 @@ families!(
     diffs::Replays,
     edit_files::Read,
     edit_files::Write,
+    elongate::Elongate,
+    views::Views,
 );
 
 fn main() {
