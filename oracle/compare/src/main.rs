@@ -17,7 +17,7 @@ use std::{
 
 use oracle::random::Random;
 
-use families::{diffs, edit_files, elongate, overlap, utf8, views};
+use families::{diffs, edit_files, elongate, merge, overlap, program, utf8, views};
 use family::{Family, KINDS, Tally};
 use memory::Style;
 use plan::{Level, Plan};
@@ -177,6 +177,8 @@ families!(
     edit_files::Write,
     elongate::Elongate,
     views::Views,
+    merge::Merging,
+    program::MergeFiles,
 );
 
 fn main() {

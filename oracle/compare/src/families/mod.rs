@@ -4,6 +4,8 @@ pub mod diffs;
 pub mod edit_files;
 pub mod elongate;
 mod lists;
+pub mod merge;
 pub mod overlap;
+pub mod program;
 pub mod utf8;
 pub mod views;
