@@ -241,7 +241,7 @@ pub fn turn(
         },
         totals: Totals {
             merged: totals.merged + text,
-            consumed: totals.consumed + turns::span_of(result),
+            consumed: totals.consumed + merging::span_of(result),
             operations: place,
             cursors: progress.count,
         },

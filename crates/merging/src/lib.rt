@@ -2,7 +2,7 @@
 // and what a turn does to the cursors of its side. The merge itself is a definition here, see specs/ and proofs/.
 ghost use mathlib.Core.Path.{_≡_};
 ghost use Rattle.merging.specs.OrderRule.{thenBy};
-ghost use Rattle.merging.specs.Operations.{opOf};
+ghost use Rattle.merging.specs.Operations.{orderOf, spanOf, opOf};
 
 pub enum Order {
     Less,
@@ -60,6 +60,36 @@ pub fn op_of(at: usize, operation: records::Operation) -> Op
     Op::Retain {
         order: operation.order,
         length: operation.length,
+    }
+}
+
+// The original text consumed before an operation.
+pub fn order_of(a: Op) -> usize
+    ensures { λ r. ⌜ r ≡ orderOf a ⌝ }
+{
+    match a {
+        Op::Delete { order, length } => order,
+        Op::Insert {
+            order,
+            first,
+            count,
+        } => order,
+        Op::Retain { order, length } => order,
+    }
+}
+
+// How much of the original an operation consumes.
+pub fn span_of(a: Op) -> usize
+    ensures { λ r. ⌜ r ≡ spanOf a ⌝ }
+{
+    match a {
+        Op::Delete { order, length } => length,
+        Op::Insert {
+            order,
+            first,
+            count,
+        } => 0,
+        Op::Retain { order, length } => length,
     }
 }
 

@@ -1,6 +1,7 @@
 // What a taken operation meets: the cut of a retain, the meet rule, and the overlap of inserts.
 use merging::Op;
 use merging::Shift;
+use merging::order_of;
 use overlap::Range;
 ghost use mathlib.Core.Path.{_≡_};
 ghost use Prim.Native.Nat.{_+_, _-_, _*_, _≤_, min};
@@ -9,7 +10,7 @@ ghost use lib.ListN.{length};
 ghost use lib.Seq.{slice};
 ghost use Rattle.overlap.specs.Overlap.{overlapOf};
 ghost use Rattle.merging.specs.Lent.{lengthsOf, sum, rulesOf};
-ghost use Rattle.merging.specs.Operations.{orderOf, lengthOf};
+ghost use Rattle.merging.specs.Operations.{lengthOf};
 ghost use Rattle.merging.specs.Meeting.{cutAt, cutAtEnd, keptLength, frontOf};
 ghost use Rattle.merging.specs.Meeting.{shortened as without};
 ghost use Rattle.merging.specs.Cursors.{overlapPlace, removedOf};
@@ -29,20 +30,6 @@ pub enum Last {
     Deleted { order: usize, length: usize },
     Retained { order: usize, length: usize },
     Inserted { order: usize, from: usize },
-}
-
-pub fn order_of(a: Op) -> usize
-    ensures { λ r. ⌜ r ≡ orderOf a ⌝ }
-{
-    match a {
-        Op::Delete { order, length } => order,
-        Op::Insert {
-            order,
-            first,
-            count,
-        } => order,
-        Op::Retain { order, length } => order,
-    }
 }
 
 // How much of a retain is taken where the cut is at a boundary.

@@ -4,28 +4,15 @@ mod spelling;
 
 use merging::Op;
 use merging::Order;
+use merging::order_of;
+use merging::span_of;
 use records::Operation;
 ghost use mathlib.Core.Path.{_≡_};
 ghost use mathlib.Core.Bool.{true};
 ghost use Rattle.records.specs.Operations.{operationsOf};
-ghost use Rattle.merging.specs.Operations.{orderOf, kindOf, spanOf, opsFrom};
+ghost use Rattle.merging.specs.Operations.{kindOf, opsFrom};
 ghost use Rattle.merging.specs.OrderRule.{compareNumbers, contentRule, orderRule, priorityOf};
 ghost use Rattle.order.specs.Readable.{ofText, Readable, Ready, SamePart};
-
-// The original text consumed before an operation.
-pub fn order_of(a: Op) -> usize
-    ensures { λ r. ⌜ r ≡ orderOf a ⌝ }
-{
-    match a {
-        Op::Delete { order, length } => order,
-        Op::Insert {
-            order,
-            first,
-            count,
-        } => order,
-        Op::Retain { order, length } => order,
-    }
-}
 
 fn kind_of(a: Op) -> usize
     ensures { λ r. ⌜ r ≡ kindOf a ⌝ }
@@ -38,21 +25,6 @@ fn kind_of(a: Op) -> usize
             count,
         } => 1,
         Op::Retain { order, length } => 2,
-    }
-}
-
-// How much of the original an operation consumes.
-pub fn span_of(a: Op) -> usize
-    ensures { λ r. ⌜ r ≡ spanOf a ⌝ }
-{
-    match a {
-        Op::Delete { order, length } => length,
-        Op::Insert {
-            order,
-            first,
-            count,
-        } => 0,
-        Op::Retain { order, length } => length,
     }
 }
 

@@ -1,5 +1,6 @@
 // The steps of a merge's turn over one side: what is next, what is remembered, what is emitted.
 use merging::Op;
+use merging::span_of;
 use operation::Last;
 use operation::Next;
 use records::Operation;
@@ -8,7 +9,7 @@ ghost use Prim.Native.Nat.{_+_, _*_, _≤_};
 ghost use lib.ListN.{length};
 ghost use Rattle.room.specs.Placed.{placed};
 ghost use Rattle.merging.specs.Lent.{lengthsOf};
-ghost use Rattle.merging.specs.Operations.{spanOf, emptyOp};
+ghost use Rattle.merging.specs.Operations.{emptyOp};
 ghost use Rattle.merging.specs.Turn.{emitted};
 ghost use Rattle.operation.specs.Views.{ofSpans};
 ghost use Rattle.turns.specs.Looking.{listFrom, FirstFits, Looks};
@@ -21,21 +22,6 @@ pub struct Ahead {
     pub next: Next,
     pub behind: usize,
     pub at: usize,
-}
-
-// How much of the original an operation consumes.
-pub fn span_of(a: Op) -> usize
-    ensures { λ r. ⌜ r ≡ spanOf a ⌝ }
-{
-    match a {
-        Op::Delete { order, length } => length,
-        Op::Insert {
-            order,
-            first,
-            count,
-        } => 0,
-        Op::Retain { order, length } => length,
-    }
 }
 
 // The record at a place of a list, when the list consumed `at` of the original before it.
