@@ -21,7 +21,7 @@ use Rattle.merging.specs.Lent.{Lent}
 use Rattle.merging.specs.Operations.{opOf, spanOf, opsFrom, outsFrom}
 use Rattle.merging.specs.Outputs.{textOf, Span, spanned, historyOf, historyText, flatSpans}
 use Rattle.merging.proofs.Decoded.{op-insert, op-delete, op-retain}
-use Rattle.merging_laws.proofs.Decoding.{text-of}
+use Rattle.merging_laws.proofs.Decoding.{text-of, tiles-insert, tiles-part}
 use Rattle.apply.specs.Parts.{wordsBy, given, givenBy, textBy, spanBy, historyBy, removedBy, Lies, AllLie}
 use Rattle.apply.specs.Answers.{textOn, historyOn}
 use Rattle.apply.proofs.Parts.{length-part, given-none, given-words, span-is}
@@ -80,23 +80,14 @@ module _ (lent : Lent) where
   abbrev n : ℕ
   n = length (lent .original)
 
-  tiles-insert : (o : Operation) (os : List Operation) (at : ℕ) → o .kind ≡ 1 → Tiles n (o ∷ os) at → Tiles n os at
-  unfolding Tiles
-  tiles-insert o os at k t = rw (eq-eqb (o .kind) 1 k, Tiles) at t
-
-  tiles-part : (o : Operation) (os : List Operation) (at : ℕ) → (o .kind ≡ 1 → ⊥) → Tiles n (o ∷ os) at
-      → (o .order ≡ at) × ((at + o .length ≤ n) × Tiles n os (at + o .length))
-  unfolding Tiles
-  tiles-part o os at k t = rw (ne-eqb (o .kind) 1 k, Tiles) at t
-
   all-lie : (os : List Operation) (at : ℕ) → Shapes (length (lent .inserted)) (lent .spans) (lent .keys) os → Tiles n os at → AllLie lent os
   unfolding Shapes AllLie
   all-lie [] at s t = tt
   all-lie (o ∷ os) at s t = (
-    lies o (s .1 .0) (λ k. omega (arith, tiles-part o os at k t .0, tiles-part o os at k t .1 .0)),
+    lies o (s .1 .0) (λ k. omega (arith, tiles-part n o os at k t .0, tiles-part n o os at k t .1 .0)),
     elim (ℕ-discrete (o .kind) 1) [
-      | yes k ↦ all-lie os at (s .1 .1) (tiles-insert o os at k t)
-      | no k ↦ all-lie os (at + o .length) (s .1 .1) (tiles-part o os at k t .1 .1)
+      | yes k ↦ all-lie os at (s .1 .1) (tiles-insert n o os at k t)
+      | no k ↦ all-lie os (at + o .length) (s .1 .1) (tiles-part n o os at k t .1 .1)
     ],
   )
 
@@ -111,9 +102,9 @@ module _ (lent : Lent) where
   unfolding total Tiles
   removed-from [] at t = omega (arith, t)
   removed-from (o ∷ os) at t =
-      by-kind o _ (λ k. omega (arith, removed-none o (λ z. omega arith), removed-from os at (tiles-insert o os at k t)))
-      (λ k z. omega (arith, removed-all o z, removed-from os (at + o .length) (tiles-part o os at k t .1 .1)))
-      (λ k z. omega (arith, removed-none o z, removed-from os (at + o .length) (tiles-part o os at k t .1 .1)))
+      by-kind o _ (λ k. omega (arith, removed-none o (λ z. omega arith), removed-from os at (tiles-insert n o os at k t)))
+      (λ k z. omega (arith, removed-all o z, removed-from os (at + o .length) (tiles-part n o os at k t .1 .1)))
+      (λ k z. omega (arith, removed-none o z, removed-from os (at + o .length) (tiles-part n o os at k t .1 .1)))
 
   -- the history's text is the list's text and what is removed
   span-words : (o : Operation) → Lies lent o → length (spanBy lent o .text) ≡ length (givenBy lent o) + removedBy o

@@ -58,15 +58,16 @@ pub record Listed (lent : Lent) (n : ℕ) (os : List Operation) (at : ℕ) : Typ
   pub shapes : Shapes (length (lent .inserted)) (lent .spans) (lent .keys) os
   pub tiles : Tiles n os at
 
-module _ (lent : Lent) (n : ℕ) (o : Operation) (os : List Operation) (at : ℕ) where
-  tiles-insert : o .kind ≡ 1 → Tiles n (o ∷ os) at → Tiles n os at
+module _ (n : ℕ) (o : Operation) (os : List Operation) (at : ℕ) where
+  pub tiles-insert : o .kind ≡ 1 → Tiles n (o ∷ os) at → Tiles n os at
   unfolding Tiles
   tiles-insert k t = rw (eq-eqb (o .kind) 1 k, Tiles) at t
 
-  tiles-part : (o .kind ≡ 1 → ⊥) → Tiles n (o ∷ os) at → (o .order ≡ at) × ((at + o .length ≤ n) × Tiles n os (at + o .length))
+  pub tiles-part : (o .kind ≡ 1 → ⊥) → Tiles n (o ∷ os) at → (o .order ≡ at) × ((at + o .length ≤ n) × Tiles n os (at + o .length))
   unfolding Tiles
   tiles-part k t = rw (ne-eqb (o .kind) 1 k, Tiles) at t
 
+module _ (lent : Lent) (n : ℕ) (o : Operation) (os : List Operation) (at : ℕ) where
   rest-shapes : Listed lent n (o ∷ os) at → Shapes (length (lent .inserted)) (lent .spans) (lent .keys) os
   unfolding Shapes
   rest-shapes h = h .shapes .1 .1
@@ -76,11 +77,11 @@ module _ (lent : Lent) (n : ℕ) (o : Operation) (os : List Operation) (at : ℕ
   first-of h =
       ⊎-elim
       (λ (a : Adds (length (lent .inserted)) (lent .spans) (lent .keys) o).
-      adds (a .kind) (record { some = a .some; lends = a .lent; tokens = a .tokens }) (tiles-insert (a .kind) (h .tiles)))
+      adds (a .kind) (record { some = a .some; lends = a .lent; tokens = a .tokens }) (tiles-insert n o os at (a .kind) (h .tiles)))
       (λ (p : Part o).
       ⊎-elim
-      (λ (k : o .kind ≡ 0). let t = tiles-part (λ e. omega arith) (h .tiles) in drops k (p .some) (t .0) (t .1 .1))
-      (λ (k : o .kind ≡ 2). let t = tiles-part (λ e. omega arith) (h .tiles) in keeps k (p .some) (t .0) (t .1 .1))
+      (λ (k : o .kind ≡ 0). let t = tiles-part n o os at (λ e. omega arith) (h .tiles) in drops k (p .some) (t .0) (t .1 .1))
+      (λ (k : o .kind ≡ 2). let t = tiles-part n o os at (λ e. omega arith) (h .tiles) in keeps k (p .some) (t .0) (t .1 .1))
       (p .kind))
       (h .shapes .1 .0)
 
