@@ -5,16 +5,16 @@ use mathlib.Core.Bool.{Bool, true, false, not}
 use mathlib.Core.List.{List, [], _∷_, _++_, append-assoc, append-nil}
 use Prim.Native.Nat.{ℕ, suc, _+_, _-_, _*_, _≤_, _<_, min}
 use native.Mathlib.Nat.{add-zero}
-use native.Mathlib.Numerals.{add-one}
 use native.Mathlib.Omega.{arith}
 use native.Mathlib.Decide.{decLe}
 use lib.ListN.{length, take, drop, set, length-set, length-append, take-append-drop, getD, drop-of-length-le}
-use lib.Seq.{drop-drop, sets, sets-eq, set-append-seam, length-take-le, drop-cons, set-at}
+use lib.Seq.{drop-drop, length-take-le, drop-cons, set-at}
 use lib.IntN.{ℤ, pos, negℤ}
 use lib.Dec.{ltb, leb}
 use borrow.Author.Tests.{leb-true}
 use Rattle.room.specs.Choice.{pick}
 use Rattle.room.specs.Placed.{placed, answered}
+pub use Rattle.item_records.proofs.Storing.{three-stores}
 use Rattle.edit_format.specs.Tests.{both, begins}
 use Rattle.edit_format.specs.Items.{Item, Keep, Drop, Add, kept, dropped, added, texts, endsKeep}
 use Rattle.edit_format.specs.Written.{Head, addKey}
@@ -34,11 +34,6 @@ use Rattle.edit_read.specs.Filled.{PointsPut, NumberIn, NumberPut, ItemI
 use Rattle.edit_read.specs.declared.Spot.{Spot}
 use Rattle.edit_read.specs.declared.Spot.the-variants.{Good as GoodSpot, Bad as BadSpot}
 use Rattle.edit_read.proofs.Adding.{inside}
-
--- three stores are one run of three
-pub three-stores : {A : Type 0} (d : List A) (at : ℕ) (a b c : A) → at + 3 ≤ length d → set (set (set d at a) (at + 1) b) (at + 2) c ≡ placed d at (a ∷ b ∷ c ∷ [])
-unfolding placed
-three-stores d at a b c h = let e : at + 2 ≡ suc (suc at) = omega arith in rw (e, add-one at) (sets-eq (a ∷ b ∷ c ∷ []) d at h)
 
 placed-none : {A : Type 0} (d : List A) (at : ℕ) → placed d at [] ≡ d
 unfolding placed

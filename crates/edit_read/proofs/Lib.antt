@@ -3,5 +3,4 @@ pub mod ItemLines
 pub mod HeadLines
 pub mod Judging
 pub mod Filling
-pub mod Signs
 pub mod Filled

@@ -1,11 +1,10 @@
 // The reader of edit files: line by line from any bytes. All of a file is judged first, in one pass that writes nothing; an accepted
 // file's items and text then go into the rooms in a second pass over its item lines.
 ghost use mathlib.Core.Path.{_≡_};
-ghost use mathlib.Core.List.{List, [], _∷_, _++_};
+ghost use mathlib.Core.List.{List};
 ghost use Prim.Native.Nat.{ℕ, _+_, _*_, _≤_, _<_};
 ghost use lib.ListN.{length, drop};
-ghost use lib.IntN.{pos, negℤ};
-ghost use Rattle.room.specs.Placed.{placed, answered};
+ghost use Rattle.room.specs.Placed.{answered};
 ghost use Rattle.edit_format.specs.Items.{Item};
 ghost use Rattle.edit_format.specs.Written.{Head};
 ghost use Rattle.edit_format.specs.Reading.{State, key, item, keeping, dropping, adding, open′, readFile, believes};
@@ -14,6 +13,9 @@ ghost use Rattle.edit_read.specs.Filled.{recordsFound, textFound, Points
 ghost use Rattle.edit_read.specs.Answer.{lengthsOf, ReadInto};
 use edit_lines::Number;
 use edit_lines::Point;
+use item_records::dropped_number;
+use item_records::plain_number;
+use item_records::put_record;
 use refusal::Refusal;
 
 // How many code points an add line has, and the place after it.
@@ -348,36 +350,6 @@ pub fn believed(bytes: &[u8], original: usize) -> bool
     }
 }
 
-// A keep's number, a drop's, and a place or a length.
-fn kept_number(n: u32) -> i64
-    ensures { λ r. ⌜ r ≡ pos n ⌝ }
-{
-    n as i64
-}
-
-fn dropped_number(n: u32) -> i64
-    ensures { λ r. ⌜ r ≡ negℤ (pos n) ⌝ }
-{
-    -(n as i64)
-}
-
-fn place_number(n: usize) -> i64
-    requires { ⌜ n < 9223372036854775808 ⌝ }
-    ensures { λ r. ⌜ r ≡ pos n ⌝ }
-{
-    n as i64
-}
-
-// One record at a place of the items' room.
-fn put_record(items: &mut [i64], at: usize, kind: i64, number: i64, size: i64)
-    requires { ⌜ at + 3 ≤ length (now items) ⌝ }
-    ensures { λ r. ⌜ now (items .exit) ≡ placed (now (items .entry)) at (kind ∷ number ∷ size ∷ []) ⌝ }
-{
-    items[at] = kind;
-    items[at + 1] = number;
-    items[at + 2] = size;
-}
-
 // The code points of an add line into the text's room, from a place on.
 fn put_points(bytes: &[u8], at: usize, text: &mut [u32], start: usize) -> Spot
     requires { ⌜ (at ≤ length (now bytes)) × (start ≤ length (now text)) ⌝ }
@@ -414,7 +386,8 @@ fn put_keep(bytes: &[u8], at: usize, items: &mut [i64], place: usize, start: usi
 {
     match edit_lines::number_line(bytes, at, b"keep=") {
         Number::Value { value, next } => {
-            put_record(items, place, 0, kept_number(value), 0);
+            let n = value as usize;
+            put_record(items, place, 0, plain_number(n), 0);
             Spot::Good { start, next }
         }
         Number::Bad => Spot::Bad,
@@ -427,7 +400,8 @@ fn put_drop(bytes: &[u8], at: usize, items: &mut [i64], place: usize, start: usi
 {
     match edit_lines::number_line(bytes, at, b"drop=") {
         Number::Value { value, next } => {
-            put_record(items, place, 0, dropped_number(value), 0);
+            let n = value as usize;
+            put_record(items, place, 0, dropped_number(n), 0);
             Spot::Good { start, next }
         }
         Number::Bad => Spot::Bad,
@@ -452,8 +426,8 @@ fn put_add(
                     items,
                     place,
                     1,
-                    place_number(start),
-                    place_number(end - start),
+                    plain_number(start),
+                    plain_number(end - start),
                 );
                 return Spot::Good { start: end, next };
             }

@@ -1,10 +1,8 @@
 // A list's diff: its retains with neighbours joined, its deletes and its inserts, as items of three numbers
 // and their text. A retain is held back until what follows it is known.
 ghost use mathlib.Core.Path.{_≡_};
-ghost use mathlib.Core.List.{[], _∷_};
 ghost use Prim.Native.Nat.{_+_, _*_, _<_, _≤_};
 ghost use lib.ListN.{length};
-ghost use lib.IntN.{pos, negℤ};
 ghost use Rattle.room.specs.Placed.{placed};
 ghost use Rattle.records.specs.Operations.{operationsOf};
 ghost use Rattle.records.specs.Tokens.{spelling};
@@ -14,39 +12,15 @@ ghost use Rattle.edit_format.specs.Records.{recordOf};
 ghost use Rattle.merging.specs.Lent.{lentOf};
 ghost use Rattle.to_diff.specs.Answers.{verdictOn, lengthsOf, Diffs};
 ghost use Rattle.to_diff.specs.Writes.{keeps, items, Ready, Kept, Inserted, Measures, Fits, Wrote};
+use item_records::dropped_number;
+use item_records::plain_number;
+use item_records::put_record;
 use refusal::Refusal;
 
 // How many items and code points a diff has, or why there is none.
 pub enum Diffed {
     Counts { items: usize, text: usize },
     Refused(Refusal),
-}
-
-// A retain's number, a place or a length.
-fn plain_number(n: usize) -> i64
-    requires { ⌜ n < 9223372036854775808 ⌝ }
-    ensures { λ r. ⌜ r ≡ pos n ⌝ }
-{
-    n as i64
-}
-
-// A delete's number.
-fn dropped_number(n: usize) -> i64
-    requires { ⌜ n < 9223372036854775808 ⌝ }
-    ensures { λ r. ⌜ r ≡ negℤ (pos n) ⌝ }
-{
-    -(n as i64)
-}
-
-// One item at a place of the items' room.
-fn put_record(room: &mut [i64], place: usize, kind: i64, number: i64, size: i64)
-    requires { ⌜ place * 3 + 3 ≤ length (now room) ⌝ }
-    ensures { λ r. ⌜ now (room .exit) ≡ placed (now (room .entry)) (place * 3) (kind ∷ number ∷ size ∷ []) ⌝ }
-{
-    let b = place * 3;
-    room[b] = kind;
-    room[b + 1] = number;
-    room[b + 2] = size;
 }
 
 // The retain that was held back, if there is one, and the place after it.
@@ -57,7 +31,8 @@ fn put_kept(room: &mut [i64], place: usize, kept: usize) -> usize
     if kept == 0 {
         return place;
     }
-    put_record(room, place, 0, plain_number(kept), 0);
+    let b = place * 3;
+    put_record(room, b, 0, plain_number(kept), 0);
     place + 1
 }
 
@@ -66,7 +41,8 @@ fn put_dropped(room: &mut [i64], place: usize, dropped: usize)
     requires { ⌜ (dropped < 9223372036854775808) × (place * 3 + 3 ≤ length (now room)) ⌝ }
     ensures { λ r. ⌜ now (room .exit) ≡ placed (now (room .entry)) (place * 3) (recordOf 0 (Drop dropped)) ⌝ }
 {
-    put_record(room, place, 0, dropped_number(dropped), 0);
+    let b = place * 3;
+    put_record(room, b, 0, dropped_number(dropped), 0);
 }
 
 // An insert's text and its item, and the place after the text.
@@ -85,7 +61,8 @@ fn put_insert(
     ensures { λ r. ⌜ Inserted (spelling (now (text .entry)) (now (spans .entry)) (now (keys .entry)) first count) place at (now (room .entry)) (now (room .exit)) (now (out .entry)) (now (out .exit)) r ⌝ }
 {
     let end = words::put_tokens(text, spans, keys, first, count, out, at);
-    put_record(room, place, 1, plain_number(at), plain_number(end - at));
+    let b = place * 3;
+    put_record(room, b, 1, plain_number(at), plain_number(end - at));
     end
 }
 

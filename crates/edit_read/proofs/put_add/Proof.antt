@@ -27,14 +27,14 @@ put-points-requires c κs = let w = rw length-drop at (long addKey _ (sym (c .be
 enum-known-end : tie.Need-enum-known-end
 enum-known-end c = search needs
 
-place-number-requires : tie.Need-place-number-requires
-place-number-requires c κs = omega (arith, c .before .before .before .before .before .before .before .before .before .before .before .before .before .pre .2)
+plain-number-requires : tie.Need-plain-number-requires
+plain-number-requires c κs = omega (arith, c .before .before .before .before .before .before .before .before .before .before .before .before .before .pre .2)
 
-sub-place-number : tie.Need-sub-place-number
-sub-place-number c = omega (arith, (rw (c .before .before .before .end .given .1) at (c .before .before .before .before .before .before .before .put-points .ensures)) .inside .0)
+sub-plain-number : tie.Need-sub-plain-number
+sub-plain-number c = omega (arith, (rw (c .before .before .before .end .given .1) at (c .before .before .before .before .before .before .before .put-points .ensures)) .inside .0)
 
-place-number-requires-2 : tie.Need-place-number-requires-2
-place-number-requires-2 c κs = let w = rw (c .before .before .before .end .given .1) at (c .before .before .before .before .before .before .before .put-points .ensures) in omega (arith, w .inside .0, w .inside .1)
+plain-number-requires-2 : tie.Need-plain-number-requires-2
+plain-number-requires-2 c κs = let w = rw (c .before .before .before .end .given .1) at (c .before .before .before .before .before .before .before .put-points .ensures) in omega (arith, w .inside .0, w .inside .1)
 
 put-record-requires : tie.Need-put-record-requires
 put-record-requires c κs = c .before .before .before .before .before .before .before .before .before .before .before .before .before .before .before .pre .1
@@ -46,7 +46,7 @@ same-length-2 : tie.Need-same-length-2
 same-length-2 c = search needs
 
 returns : tie.Need-returns
-returns c = add-put _ _ _ _ _ _ (sym (c .before .before .before .before .before .before .before .before .before .before .before .before .before .has-key .ensures) ∙ c .before .before .before .before .before .before .before .before .before .before .before .before .if1 .taken) (rw (c .before .before .before .before .before .before .end .given .1) at (c .before .before .before .before .before .before .before .before .before .before .put-points .ensures)) (c .before .put-record .ensures ∙ rw (toZ-ofZ {w = w64} {z = c .before .before .before .place-number .result} (record { sfits = c .before .before .before .place-number .ok }) ∙ c .before .before .before .place-number .ensures, toZ-ofZ {w = w64} {z = c .before .before .place-number2 .result} (record { sfits = c .before .before .place-number2 .ok }) ∙ c .before .before .place-number2 .ensures))
+returns c = add-put _ _ _ _ _ _ (sym (c .before .before .before .before .before .before .before .before .before .before .before .before .before .has-key .ensures) ∙ c .before .before .before .before .before .before .before .before .before .before .before .before .if1 .taken) (rw (c .before .before .before .before .before .before .end .given .1) at (c .before .before .before .before .before .before .before .before .before .before .put-points .ensures)) (c .before .put-record .ensures ∙ rw (toZ-ofZ {w = w64} {z = c .before .before .before .plain-number .result} (record { sfits = c .before .before .before .plain-number .ok }) ∙ c .before .before .before .plain-number .ensures, toZ-ofZ {w = w64} {z = c .before .before .plain-number2 .result} (record { sfits = c .before .before .plain-number2 .ok }) ∙ c .before .before .plain-number2 .ensures))
 
 enum-told : tie.Need-enum-told
 enum-told c = search needs
@@ -69,9 +69,9 @@ put-add-spec =
     add-put-points
     put-points-requires
     enum-known-end
-    place-number-requires
-    sub-place-number
-    place-number-requires-2
+    plain-number-requires
+    sub-plain-number
+    plain-number-requires-2
     put-record-requires
     same-length
     same-length-2

@@ -19,6 +19,9 @@ number-line-requires c κs = c .before .before .pre .0
 enum-known-value : tie.Need-enum-known-value
 enum-known-value c = search needs
 
+cast-n : tie.Need-cast-n
+cast-n c = search needs
+
 dropped-number-requires : tie.Need-dropped-number-requires
 dropped-number-requires c κs = search needs
 
@@ -46,6 +49,7 @@ put-drop-spec =
     slice-aggregate-number-line
     number-line-requires
     enum-known-value
+    cast-n
     dropped-number-requires
     put-record-requires
     enum-told

@@ -19,8 +19,11 @@ number-line-requires c κs = c .before .before .pre .0
 enum-known-value : tie.Need-enum-known-value
 enum-known-value c = search needs
 
-kept-number-requires : tie.Need-kept-number-requires
-kept-number-requires c κs = search needs
+cast-n : tie.Need-cast-n
+cast-n c = search needs
+
+plain-number-requires : tie.Need-plain-number-requires
+plain-number-requires c κs = search needs
 
 put-record-requires : tie.Need-put-record-requires
 put-record-requires c κs = search needs
@@ -33,7 +36,7 @@ same-length c = search needs
 
 returns : tie.Need-returns
 unfolding kindKey hexes itemOf recordOf
-returns c = number-put _ keeping refl _ _ _ _ (sym (c .before .before .before .before .before .before .before .number-line .ensures) ∙ c .before .before .before .before .before .value .given .1) (c .before .put-record .ensures ∙ rw (toZ-ofZ {w = w64} {z = c .before .before .kept-number .result} (record { sfits = c .before .before .kept-number .ok }) ∙ c .before .before .kept-number .ensures))
+returns c = number-put _ keeping refl _ _ _ _ (sym (c .before .before .before .before .before .before .before .number-line .ensures) ∙ c .before .before .before .before .before .value .given .1) (c .before .put-record .ensures ∙ rw (toZ-ofZ {w = w64} {z = c .before .before .plain-number .result} (record { sfits = c .before .before .plain-number .ok }) ∙ c .before .before .plain-number .ensures))
 
 returns-2 : tie.Need-returns-2
 unfolding kindKey hexes
@@ -46,7 +49,8 @@ put-keep-spec =
     slice-aggregate-number-line
     number-line-requires
     enum-known-value
-    kept-number-requires
+    cast-n
+    plain-number-requires
     put-record-requires
     enum-told
     same-length

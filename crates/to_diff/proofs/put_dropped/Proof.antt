@@ -8,6 +8,9 @@ use borrow.Author.Needs.{needs}
 use Rattle.to_diff.proofs.put_dropped.Statement.{statement}
 use Rattle.to_diff.proofs.put_dropped.Tie as tie
 
+mul-b : tie.Need-mul-b
+mul-b c = search needs
+
 dropped-number-requires : tie.Need-dropped-number-requires
 dropped-number-requires c κs = c .before .pre .0
 
@@ -25,4 +28,4 @@ returns c =
 
 pub put-dropped-spec : {M : Type 1} → statement M
 put-dropped-spec =
-    tie.close (tie.spec dropped-number-requires put-record-requires same-length returns)
+    tie.close (tie.spec mul-b dropped-number-requires put-record-requires same-length returns)

@@ -12,6 +12,9 @@ use Rattle.to_diff.proofs.put_insert.Tie as tie
 put-tokens-requires : tie.Need-put-tokens-requires
 put-tokens-requires c κs = c .before .before .before .before .before .pre .0
 
+mul-b : tie.Need-mul-b
+mul-b c = search needs
+
 plain-number-requires : tie.Need-plain-number-requires
 plain-number-requires c κs = omega (arith, c .before .before .before .before .before .before .before .before .before .pre .0 .place)
 
@@ -50,6 +53,7 @@ put-insert-spec =
     tie.close
     (tie.spec
     put-tokens-requires
+    mul-b
     plain-number-requires
     sub-plain-number
     plain-number-requires-2

@@ -11,6 +11,9 @@ use Rattle.to_diff.proofs.put_kept.Tie as tie
 returns : tie.Need-returns
 returns c = kept-none _ _ _ (c .if1 .taken)
 
+mul-b : tie.Need-mul-b
+mul-b c = search needs
+
 plain-number-requires : tie.Need-plain-number-requires
 plain-number-requires c κs = search needs
 
@@ -34,4 +37,4 @@ returns-2 c =
 pub put-kept-spec : {M : Type 1} → statement M
 put-kept-spec =
     tie.close
-    (tie.spec returns plain-number-requires put-record-requires add-result same-length returns-2)
+    (tie.spec returns mul-b plain-number-requires put-record-requires add-result same-length returns-2)

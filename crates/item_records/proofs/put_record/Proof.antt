@@ -1,15 +1,12 @@
 -- Shown: `put_record` puts an item's three numbers at its place.
 -- How: three stores are one run of three.
-use Rattle.edit_read.proofs.Filling.{three-stores}
-use lib.ListN.{length-set}
-use mir.Facts.{toZ-ofZ}
 use native.Mathlib.Omega.{arith}
+use mir.Facts.{toZ-ofZ}
+use lib.ListN.{length-set}
+use Rattle.item_records.proofs.Storing.{three-stores}
 use borrow.Author.Needs.{needs}
-use Rattle.to_diff.proofs.put_record.Statement.{statement}
-use Rattle.to_diff.proofs.put_record.Tie as tie
-
-mul-b : tie.Need-mul-b
-mul-b c = search needs
+use Rattle.item_records.proofs.put_record.Statement.{statement}
+use Rattle.item_records.proofs.put_record.Tie as tie
 
 mul-kind : tie.Need-mul-kind
 mul-kind c = search needs
@@ -45,7 +42,6 @@ pub put-record-spec : {M : Type 1} → statement M
 put-record-spec =
     tie.close
     (tie.spec
-    mul-b
     mul-kind
     slice-set-from-kind
     add-number

@@ -1,10 +1,10 @@
--- Shown: `dropped_number` answers the number of a drop, negative, as a signed number.
--- How: each way through it is a law of proofs/Signs.antt.
+-- Shown: `dropped_number` answers a delete's number, negative.
+-- How: it is far above the smallest, so its negation fits.
+use Rattle.item_records.proofs.Signs.{minus-fits, as-minus}
 use native.Mathlib.Omega.{arith}
-use Rattle.edit_read.proofs.Signs.{minus-fits, as-minus}
 use borrow.Author.Needs.{needs}
-use Rattle.edit_read.proofs.dropped_number.Statement.{statement}
-use Rattle.edit_read.proofs.dropped_number.Tie as tie
+use Rattle.item_records.proofs.dropped_number.Statement.{statement}
+use Rattle.item_records.proofs.dropped_number.Tie as tie
 
 cast-result : tie.Need-cast-result
 cast-result c = search needs

@@ -1,10 +1,10 @@
 -- Shown: `plain_number` answers a natural as a signed number.
 -- How: it is below the largest.
-use Rattle.edit_read.proofs.Signs.{as-plain}
+use Rattle.item_records.proofs.Signs.{as-plain}
 use native.Mathlib.Omega.{arith}
 use borrow.Author.Needs.{needs}
-use Rattle.to_diff.proofs.plain_number.Statement.{statement}
-use Rattle.to_diff.proofs.plain_number.Tie as tie
+use Rattle.item_records.proofs.plain_number.Statement.{statement}
+use Rattle.item_records.proofs.plain_number.Tie as tie
 
 cast-result : tie.Need-cast-result
 cast-result c = search needs
