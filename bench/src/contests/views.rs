@@ -4,6 +4,7 @@ use oracle::{
     flat::{HISTORY_STRIDE, ITEM_STRIDE, OPERATION_STRIDE, RETAIN},
     generate::Merge,
     published::{EditedText, Operation, Side, TextWithCursors},
+    random::Random,
 };
 
 use super::{keep, lists, number};
@@ -56,22 +57,20 @@ pub fn small() -> Vec<Contest> {
 
 /// Cursors alone: one retain and cursors at chance places, which the Rust sorts when the list is made.
 fn cursors(eighths: usize, seed: u64) -> Contest {
-    let sizes = Sizes {
-        original: 1_000,
-        operations: 1,
-        inserts: 0,
-        tokens: 0,
-        text: 0,
-        cursors: 64 * eighths,
-        keys: 1,
-    };
-    let mut case = inputs::single(seed, sizes);
-    case.left[0] = RETAIN;
-    let case = keep(case);
+    const LENGTH: usize = 1_000;
+    let random = &mut Random::new(seed);
+    let case = keep(Merge {
+        original: inputs::letters(random, LENGTH, 26),
+        left: vec![RETAIN, 0, LENGTH, 0, 0, 0],
+        left_cursors: (0..64 * eighths)
+            .flat_map(|identity| [identity, random.below(LENGTH as u64 + 1) as usize])
+            .collect(),
+        ..Merge::default()
+    });
     let original = rust::original(case);
     let positions = rust::positions(&case.left_cursors);
     let sorted = |positions| {
-        let retain = Operation::<u32>::create_equal(0, 1_000);
+        let retain = Operation::<u32>::create_equal(0, LENGTH);
         EditedText::new(original, vec![retain], vec![Side::Left], positions).apply()
     };
     let mut ours = Viewing::new(case);
