@@ -5,7 +5,6 @@ use mathlib.Core.List.{List, [], _∷_, _++_, append-nil}
 use Prim.Native.Nat.{ℕ, suc, _+_, _-_, _/_, _≤_, _<_, min, zero-le}
 use native.Mathlib.Numerals.{add-one}
 use native.Mathlib.Omega.{arith}
-use native.Mathlib.Decide.{decLt}
 use lib.ListN.{length, getD, drop, take, length-append, drop-of-length-le}
 use lib.Seq.{drop-cons}
 use lib.IntN.{ℤ}
@@ -55,37 +54,10 @@ pub no-point : (t : List ℕ) (i : ℕ) → length t ≤ i → further (drop i t
 unfolding further
 no-point t i h = rw (drop-of-length-le t h)
 
-pub record PointsCount (t : List ℕ) (sum i : ℕ) : Type 0 where
-  pub most : i ≤ length t
-  pub small : sum ≤ 1099511627776
-  pub same : cap (sum + length (further (drop i t))) ≡ cap (length (points t))
-
 pub points-none : (t : List ℕ) → length t ≡ 0 → 0 ≡ cap (length (points t))
 unfolding points
 points-none [] h = refl
 points-none (c ∷ cs) h = absurd (omega arith)
-
-pub points-begin : (t : List ℕ) {w s : ℕ} → (length t ≡ 0 → ⊥) → w ≡ length (digits 16 (getD t 0 0)) → s ≡ cap (0 + w) → PointsCount t s 1
-points-begin t {w} {s} h e f =
-    let n : 0 < length t = positive (length t) h in
-    record {
-      most = omega arith;
-      small = omega arith;
-      same = omega (arith, simp length-append at (ap length (first-point t n)));
-    }
-  where
-    positive : (n : ℕ) → (n ≡ 0 → ⊥) → 0 < n
-    positive n g = elim (decLt 0 n) [ yes a ↦ a | no a ↦ absurd (g (omega arith)) ]
-
-pub points-more : {t : List ℕ} {i sum w a s : ℕ} → PointsCount t sum i → i < length t → w ≡ length (digits 16 (getD t i 0)) → a ≡ cap (sum + 1) → s ≡ cap (a + w) → PointsCount t s (i + 1)
-points-more {t} {i} {sum} {w} p h e f g = record {
-  most = omega arith;
-  small = omega arith;
-  same = omega (arith, p .small, p .same, simp length-append at (ap length (next-point t i h)));
-}
-
-pub points-end : {t : List ℕ} {i sum : ℕ} → PointsCount t sum i → length t ≤ i → sum ≡ cap (length (points t))
-points-end {t} {i} {sum} p h = omega (arith, p .small, p .same, ap length (no-point t i h))
 
 pub record ItemsCount (xs : List ℤ) (text : List ℕ) (sum i : ℕ) : Type 0 where
   pub small : sum ≤ 1099511627776

@@ -3,7 +3,7 @@ use Prim.Native.Nat.{ℕ, _+_, _/_, min}
 use mathlib.Core.List.{List, [], _∷_, _++_}
 use lib.ListN.{length}
 use lib.IntN.{ℤ}
-use lib.Dec.{ltb}
+use lib.Dec.{ltb, leb}
 use Rattle.room.specs.Choice.{pick}
 use Rattle.refusal.specs.declared.Refusal.the-variants.{Record}
 use Rattle.diff.specs.declared.diff.Bad.{Bad}
@@ -41,6 +41,15 @@ checkedBy (refused r) is = Refused r
 unfoldable pub further : List ℕ → List ℕ
 further [] = []
 further (c ∷ cs) = 32 ∷ digits 16 c ++ further cs
+
+-- 1 for a number that is not below another
+unfoldable pub step : ℕ → ℕ → ℕ
+step x least = pick (leb least x) 1 0
+
+-- how many hexadecimal digits numbers have together
+unfoldable pub hexes : List ℕ → ℕ
+hexes [] = 0
+hexes (c ∷ cs) = length (digits 16 c) + hexes cs
 
 -- the file of the lent items under a header with these sums
 unfoldable pub fileBytes : List ℤ → List ℕ → ℕ → ℕ → List ℕ

@@ -11,7 +11,7 @@ ghost use Rattle.edit_format.specs.Items.{Add};
 ghost use Rattle.edit_format.specs.Written.{points, numberLine, itemLine, itemLines, headLines, written, Head, headOf};
 ghost use Rattle.diff.specs.Items.{itemAt};
 ghost use Rattle.edit_write.specs.Writing.{fileItem, fileOf, shapes, writable, lengthOf, Wrote};
-ghost use Rattle.edit_write.specs.Lengths.{cap, tallyOf, shaped, checkedBy, further, fileBytes};
+ghost use Rattle.edit_write.specs.Lengths.{cap, tallyOf, shaped, checkedBy, further, step, hexes, fileBytes};
 use diff::diff::Bad;
 use diff::diff::Item;
 use refusal::Counted;
@@ -191,6 +191,41 @@ fn wide(c: u32) -> u64
     c as u64
 }
 
+// 1 for a number that is not below another.
+fn at_least(x: u32, least: u32) -> u32
+    ensures { λ r. ⌜ r ≡ step x least ⌝ }
+{
+    if least <= x { 1 } else { 0 }
+}
+
+// How many hexadecimal digits a number has: a sum, so that a loop over it is made of vectors.
+fn hex_width(c: u32) -> u32
+    ensures { λ r. ⌜ (r ≡ length (digits 16 c)) × (r ≤ 8) ⌝ }
+{
+    1
+        + at_least(c, 0x10)
+        + at_least(c, 0x100)
+        + at_least(c, 0x1000)
+        + at_least(c, 0x10000)
+        + at_least(c, 0x100000)
+        + at_least(c, 0x1000000)
+        + at_least(c, 0x10000000)
+}
+
+// How many hexadecimal digits at most 65,536 numbers have.
+fn hex_block(text: &[u32]) -> u32
+    requires { ⌜ length (now text) ≤ 65536 ⌝ }
+    ensures { λ r. ⌜ r ≡ hexes (now (text .entry)) ⌝ }
+{
+    let mut n: u32 = 0;
+    let mut k: usize = 0;
+    'block: while k < text.len() {
+        n += hex_width(text[k]);
+        k += 1;
+    }
+    n
+}
+
 // A sum of lengths, held up to the cap.
 fn plus(a: usize, b: usize) -> usize
     requires { ⌜ a ≤ 1099511627776 ⌝ }
@@ -216,14 +251,14 @@ fn points_length(text: &[u32]) -> usize
     if text.len() == 0 {
         return 0;
     }
-    let mut sum = plus(0, width(wide(text[0]), 16));
-    let mut i: usize = 1;
-    'points: while i < text.len() {
-        let w = width(wide(text[i]), 16);
-        sum = plus(plus(sum, 1), w);
-        i += 1;
+    let mut sum = plus(0, text.len() - 1);
+    let mut at: usize = 0;
+    'many: while 65536 < text.len() - at {
+        let next = at + 65536;
+        sum = plus(sum, hex_block(&text[at..next]) as usize);
+        at = next;
     }
-    sum
+    plus(sum, hex_block(&text[at..]) as usize)
 }
 
 fn item_length(items: &[i64], text: &[u32], i: usize) -> usize

@@ -1,88 +1,115 @@
 -- Shown: `points_length` answers the length of code points in hex, capped.
--- How: loop `points` keeps `PointsCount`, and each way through it is a law of proofs/Counting.antt.
-use Prim.Native.Nat.{ℕ, _-_}
-use mathlib.Core.Path.{ap, _∙_}
+-- How: loop `many` keeps `Measured`, and each way through it is a law of proofs/Hexes.antt.
+use Prim.Native.Nat.{_+_, _-_}
 use native.Mathlib.Omega.{arith}
 use lib.ListN.{length}
-use Rattle.edit_format.specs.Digits.{digits}
-use Rattle.edit_write.proofs.Counting.{PointsCount, points-none, points-begin, points-more, points-end}
+use Rattle.edit_write.proofs.Counting.{points-none}
+use Rattle.edit_write.proofs.Hexes.{Measured, measured-begin, measured-more, measured-end, short}
 use borrow.Author.Needs.{needs}
 use Rattle.edit_write.proofs.points_length.Statement.{statement}
 use Rattle.edit_write.proofs.points_length.Tie as tie
 
-abbrev Inv-points : tie.InvT-points
-Inv-points text sum₀ i₀ sum i = PointsCount text sum i
+abbrev Inv-many : tie.InvT-many
+Inv-many text sum₀ at₀ sum at = Measured text sum at
 
-abbrev μ-points : tie.MeasureT-points
-μ-points text sum₀ i₀ sum i = length text - i
+abbrev μ-many : tie.MeasureT-many
+μ-many text sum₀ at₀ sum at = length text - at
 
-returns : tie.Need-returns Inv-points μ-points
+returns : tie.Need-returns Inv-many μ-many
 returns c = points-none _ (c .if1 .taken)
 
-shared-slice-read-wide : tie.Need-shared-slice-read-wide Inv-points μ-points
-shared-slice-read-wide c = search needs
+sub-plus : tie.Need-sub-plus Inv-many μ-many
+sub-plus c = search needs
 
-wide-requires : tie.Need-wide-requires Inv-points μ-points
-wide-requires c κs = search needs
-
-width-requires : tie.Need-width-requires Inv-points μ-points
-width-requires c κs = search needs
-
-plus-requires : tie.Need-plus-requires Inv-points μ-points
+plus-requires : tie.Need-plus-requires Inv-many μ-many
 plus-requires c κs = search needs
 
-points-holds : tie.Need-points-holds Inv-points μ-points
-points-holds c = points-begin _ (c .before .before .before .before .if1 .left) (c .before .width .ensures ∙ ap (λ (n : ℕ). length (digits 16 n)) (c .before .before .wide .ensures)) (c .plus .ensures)
+many-holds : tie.Need-many-holds Inv-many μ-many
+many-holds c = measured-begin _ (c .before .if1 .left) (c .plus .ensures)
 
-mul-wide : tie.Need-mul-wide Inv-points μ-points
-mul-wide c = search needs
+sub-many : tie.Need-sub-many Inv-many μ-many
+sub-many c = c .many .inv .most
 
-shared-slice-read-wide-2 : tie.Need-shared-slice-read-wide-2 Inv-points μ-points
-shared-slice-read-wide-2 c = search needs
+add-next : tie.Need-add-next Inv-many μ-many
+add-next c = omega arith
 
-wide-requires-2 : tie.Need-wide-requires-2 Inv-points μ-points
-wide-requires-2 c κs = search needs
+mul-hex-block : tie.Need-mul-hex-block Inv-many μ-many
+mul-hex-block c = search needs
 
-width-requires-2 : tie.Need-width-requires-2 Inv-points μ-points
-width-requires-2 c κs = search needs
+sub-hex-block : tie.Need-sub-hex-block Inv-many μ-many
+sub-hex-block c = omega arith
 
-plus-requires-2 : tie.Need-plus-requires-2 Inv-points μ-points
-plus-requires-2 c κs = c .before .before .before .before .points .inv .small
+part-hex-block-start : tie.Need-part-hex-block-start Inv-many μ-many
+part-hex-block-start c = search needs
 
-plus-requires-3 : tie.Need-plus-requires-3 Inv-points μ-points
-plus-requires-3 c κs = omega (arith, c .plus2 .ensures)
+part-hex-block-end : tie.Need-part-hex-block-end Inv-many μ-many
+part-hex-block-end c = search needs
 
-add-i : tie.Need-add-i Inv-points μ-points
-add-i c = search needs
+hex-block-requires : tie.Need-hex-block-requires Inv-many μ-many
+hex-block-requires c κs = short (c .before .before .before .before .before .before .args .text .now) (c .before .before .many .at) (c .before .before .many .at + 65536) (omega arith)
 
-points-less : tie.Need-points-less Inv-points μ-points
-points-less c = search needs
+cast-plus : tie.Need-cast-plus Inv-many μ-many
+cast-plus c = search needs
 
-points-again : tie.Need-points-again Inv-points μ-points
-points-again c = points-more (c .before .before .before .before .before .before .points .inv) (c .before .before .before .before .before .points-test .taken) (c .before .before .width2 .ensures ∙ ap (λ (n : ℕ). length (digits 16 n)) (c .before .before .before .wide2 .ensures)) (c .before .plus2 .ensures) (c .plus3 .ensures)
+plus-requires-2 : tie.Need-plus-requires-2 Inv-many μ-many
+plus-requires-2 c κs = c .before .before .before .many .inv .small
 
-returns-2 : tie.Need-returns-2 Inv-points μ-points
-returns-2 c = points-end (c .before .points .inv) (c .points-test .left)
+many-less : tie.Need-many-less Inv-many μ-many
+many-less c = omega arith
+
+many-again : tie.Need-many-again Inv-many μ-many
+many-again c = measured-more (c .before .before .before .before .many .at + 65536) (c .before .before .before .before .many .inv) (omega arith) (omega arith) (c .before .hex-block .ensures) (c .plus2 .ensures)
+
+mul-hex-block-2 : tie.Need-mul-hex-block-2 Inv-many μ-many
+mul-hex-block-2 c = search needs
+
+sub-hex-block-2 : tie.Need-sub-hex-block-2 Inv-many μ-many
+sub-hex-block-2 c = search needs
+
+part-hex-block-start-2 : tie.Need-part-hex-block-start-2 Inv-many μ-many
+part-hex-block-start-2 c = search needs
+
+part-hex-block-end-2 : tie.Need-part-hex-block-end-2 Inv-many μ-many
+part-hex-block-end-2 c = search needs
+
+hex-block-requires-2 : tie.Need-hex-block-requires-2 Inv-many μ-many
+hex-block-requires-2 c κs = short (c .before .before .before .before .before .before .args .text .now) (c .before .before .many .at) (length (c .before .before .before .before .before .before .args .text .now)) (omega arith)
+
+cast-plus-2 : tie.Need-cast-plus-2 Inv-many μ-many
+cast-plus-2 c = search needs
+
+plus-requires-3 : tie.Need-plus-requires-3 Inv-many μ-many
+plus-requires-3 c κs = c .before .before .before .many .inv .small
+
+returns-2 : tie.Need-returns-2 Inv-many μ-many
+returns-2 c = measured-end (measured-more (length (c .before .before .before .before .before .before .before .before .args .text .now)) (c .before .before .before .before .many .inv) (c .before .before .before .before .many .inv .most) (omega arith) (c .before .hex-block2 .ensures) (c .plus3 .ensures))
 
 pub points-length-spec : {M : Type 1} → statement M
 points-length-spec =
     tie.close
     (tie.spec
-    Inv-points
-    μ-points
+    Inv-many
+    μ-many
     returns
-    shared-slice-read-wide
-    wide-requires
-    width-requires
+    sub-plus
     plus-requires
-    points-holds
-    mul-wide
-    shared-slice-read-wide-2
-    wide-requires-2
-    width-requires-2
+    many-holds
+    sub-many
+    add-next
+    mul-hex-block
+    sub-hex-block
+    part-hex-block-start
+    part-hex-block-end
+    hex-block-requires
+    cast-plus
     plus-requires-2
+    many-less
+    many-again
+    mul-hex-block-2
+    sub-hex-block-2
+    part-hex-block-start-2
+    part-hex-block-end-2
+    hex-block-requires-2
+    cast-plus-2
     plus-requires-3
-    add-i
-    points-less
-    points-again
     returns-2)

@@ -1,0 +1,14 @@
+-- Shown: `at_least` is the definition's step.
+-- How: each way by the test that led there.
+use Rattle.edit_write.proofs.Hexes.{step-yes, step-no}
+use Rattle.edit_write.proofs.at_least.Statement.{statement}
+use Rattle.edit_write.proofs.at_least.Tie as tie
+
+returns : tie.Need-returns
+returns c = step-yes _ _ (c .if1 .taken)
+
+returns-2 : tie.Need-returns-2
+returns-2 c = step-no _ _ (c .if1 .left)
+
+pub at-least-spec : {M : Type 1} → statement M
+at-least-spec = tie.close (tie.spec returns returns-2)
