@@ -24,7 +24,8 @@ macro_rules! calls {
         unsafe extern "C" {
             $(fn $symbol($($read: *const $r, _: usize,)* $($written: *mut $w, _: usize),*) -> Answer;)*
         }
-        $(pub fn $name($($read: &[$r],)* $($written: &mut [$w]),*) -> Answer {
+        $(#[allow(clippy::too_many_arguments)]
+        pub fn $name($($read: &[$r],)* $($written: &mut [$w]),*) -> Answer {
             // Sound: pointers and lengths are those of slices, and the call keeps none of them.
             unsafe { $symbol($($read.as_ptr(), $read.len(),)* $($written.as_mut_ptr(), $written.len()),*) }
         })*

@@ -202,7 +202,7 @@ impl Viewing {
         )
     }
 
-    pub fn to_diff(&mut self) -> Answer {
+    pub fn diff(&mut self) -> Answer {
         let Merge {
             original,
             tokens,

@@ -1,9 +1,6 @@
 //! Ratios, as a table in Markdown.
 
-use crate::{
-    clock::{Contest, contend},
-    contests,
-};
+use crate::{clock::contend, contests};
 
 const BUDGET: u64 = 1_000_000_000;
 
@@ -13,7 +10,9 @@ pub fn print(part: &str) {
     println!("|---|---|---:|---:|---:|");
     let mut contests = contests::growing(8, 1);
     contests.extend(contests::small());
-    contests.sort_by_key(|contest| order(contest));
+    // Rows of one call stand together, in the order in which the calls are first met.
+    let calls: Vec<_> = contests.iter().map(|contest| contest.call).collect();
+    contests.sort_by_key(|contest| calls.iter().position(|call| *call == contest.call));
     for mut contest in contests {
         if !(contest.call.contains(part) || contest.input.contains(part)) {
             continue;
@@ -28,30 +27,4 @@ pub fn print(part: &str) {
             medians.ratio()
         );
     }
-}
-
-/// Rows of one call stand together, in the order in which the calls are first met.
-fn order(contest: &Contest) -> usize {
-    const CALLS: [&str; 15] = [
-        "overlap",
-        "UTF-8 read",
-        "UTF-8 write",
-        "elongate",
-        "merge",
-        "apply",
-        "apply_with_history",
-        "apply_with_all",
-        "to_diff",
-        "from_diff",
-        "from_covering_diff",
-        "edit file read",
-        "edit file write",
-        "checks of a merge",
-        "checks of a list",
-    ];
-
-    CALLS
-        .iter()
-        .position(|call| *call == contest.call)
-        .unwrap_or(CALLS.len())
 }

@@ -56,7 +56,7 @@ pub fn small() -> Vec<Contest> {
 /// The edit file of a list's diff.
 fn file_of(case: Merge) -> Vec<u8> {
     let mut viewing = Viewing::new(keep(case));
-    let [items, text, _] = viewing.to_diff().counts();
+    let [items, text, _] = viewing.diff().counts();
     let (items, text) = (
         &viewing.items[..ITEM_STRIDE * items],
         &viewing.history_text[..text],

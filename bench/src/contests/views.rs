@@ -16,6 +16,9 @@ use crate::{
     rust,
 };
 
+/// The two replays take the same: original, items, text, and the room.
+type Replay = fn(&[u32], &[i64], &[u32], &mut [u32]) -> library::Answer;
+
 pub fn contests(eighths: usize, seed: u64) -> Vec<Contest> {
     let limits = Sizes::otherwise(eighths);
     let few_inserts = Sizes {
@@ -143,7 +146,7 @@ fn views(kind: &str, case: Merge) -> Vec<Contest> {
     assert!((applied(&all), told(&all)) == edited.apply_with_all());
 
     let mut to_diff = ours();
-    let [items, text, _] = to_diff.to_diff().counts();
+    let [items, text, _] = to_diff.diff().counts();
     let (items, text) = (
         keep(to_diff.items[..ITEM_STRIDE * items].to_vec()),
         keep(to_diff.history_text[..text].to_vec()),
@@ -157,7 +160,7 @@ fn views(kind: &str, case: Merge) -> Vec<Contest> {
         Ok(rust::string(&replayed)),
         EditedText::<u32>::from_diff(original, diff.clone())
     );
-    let replay = |call, ours: fn(&[u32], &[i64], &[u32], &mut [u32]) -> library::Answer| {
+    let replay = |call, ours: Replay| {
         let (mut room, diff) = (replayed.clone(), diff.clone());
         contest(
             call,
@@ -187,7 +190,7 @@ fn views(kind: &str, case: Merge) -> Vec<Contest> {
         ),
         contest(
             "to_diff",
-            calls(move || to_diff.to_diff()),
+            calls(move || to_diff.diff()),
             calls(|| edited.to_diff()),
         ),
         replay("from_diff", library::from_diff),
