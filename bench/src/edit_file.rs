@@ -1,5 +1,5 @@
-//! A plain reader and writer of edit files: careful, each in one pass, into vectors that grow; every rule of document 01
-//! but the refusals of a diff that is no edit file.
+//! A plain reader and writer of edit files, each in one pass, into vectors that grow. The reader accepts what document 01
+//! accepts; which line or number a refusal carries is not held to it.
 
 use oracle::flat::{ITEM_STRIDE, NUMBER, TEXT};
 
@@ -241,5 +241,33 @@ fn hexadecimal(number: u32, out: &mut Vec<u8>) {
     while digits > 0 {
         digits -= 1;
         out.push(b"0123456789abcdef"[(number >> (4 * digits) & 15) as usize]);
+    }
+}
+
+#[cfg(test)]
+mod tests {
+    use oracle::paper::{edit_file, refusal::AMPLE};
+
+    /// Every beginning of two files, and both with every bit flipped.
+    #[test]
+    fn accepts_what_the_paper_accepts() {
+        let mut accepted = 0;
+        for file in ["laptop", "panel"] {
+            let file = std::fs::read(format!("../examples/{file}.edit")).expect("an example");
+            let beginnings = (0..=file.len()).map(|end| file[..end].to_vec());
+            let flipped = (0..8 * file.len()).map(|bit| {
+                let mut flipped = file.clone();
+                flipped[bit / 8] ^= 1 << (bit % 8);
+                flipped
+            });
+            for bytes in beginnings.chain(flipped) {
+                let ours = super::read(&bytes).map(|file| (file.items, file.text));
+                let paper = edit_file::read(&bytes, AMPLE, AMPLE);
+                let paper = paper.map(|file| (file.items, file.text));
+                assert_eq!(ours.ok(), paper.ok(), "{}", String::from_utf8_lossy(&bytes));
+                accepted += usize::from(super::read(&bytes).is_ok());
+            }
+        }
+        assert!(accepted > 2, "{accepted}");
     }
 }
