@@ -4,18 +4,14 @@ mod merges;
 mod overlaps;
 mod replays;
 
+use vectors::Tally;
+
 fn main() {
-    let overlapped = tell_overlaps(Tally { hold: 0, differ: 0 });
+    let overlapped = tell_overlaps(vectors::no_cases());
     let replayed = tell_replays(overlapped);
     let merged = tell_merges(replayed);
     let tally = tell_files(merged);
-    vectors::report(b"sheets", tally.hold, tally.differ);
-}
-
-// How many sheets hold, and how many do not.
-struct Tally {
-    hold: u64,
-    differ: u64,
+    vectors::report(b"sheets", tally);
 }
 
 // The line of a sheet.
@@ -23,16 +19,10 @@ fn tell(tally: Tally, name: &[u8], holds: bool) -> Tally {
     io::write_all(1, name);
     if holds {
         io::write_all(1, b": holds\n");
-        return Tally {
-            hold: std::num::wrapping_add_u64(tally.hold, 1),
-            differ: tally.differ,
-        };
+    } else {
+        io::write_all(1, b": differs\n");
     }
-    io::write_all(1, b": differs\n");
-    Tally {
-        hold: tally.hold,
-        differ: std::num::wrapping_add_u64(tally.differ, 1),
-    }
+    tally.with(holds)
 }
 
 fn tell_overlaps(tally: Tally) -> Tally {
