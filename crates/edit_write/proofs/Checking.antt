@@ -25,7 +25,7 @@ use Rattle.edit_format.specs.Tests.{both}
 use Rattle.edit_format.specs.Items.{Item, Keep, Drop, Add, kept, dropped, added}
 use Rattle.edit_format.proofs.Picks.{both-false}
 use Rattle.edit_write.specs.Writing.{fileItem, fileItems, fileOf, sizes, shapes, writable}
-use Rattle.edit_write.specs.Lengths.{sumsOf, tallyOf, shaped, checkedBy}
+use Rattle.edit_write.specs.Passes.{sumsOf, tallyOf, shaped, checkedBy}
 use Rattle.edit_write.specs.declared.Sums.{Sums}
 use Rattle.edit_write.specs.declared.Tally.the-variants.{TooBig, Fits}
 use Rattle.edit_write.specs.declared.Checked.the-variants.{Fine, Refused}

@@ -1,32 +1,23 @@
--- The lengths of lines, of code points and of all items, as the code sums them up to the cap.
+-- The lengths of all items and of the whole file, as the code sums them up to the cap.
 -- What is summed so far and what is left give the whole length, capped. Assumes nothing.
 use mathlib.Core.Path.{_≡_, refl, sym, ap, _∙_}
-use mathlib.Core.List.{List, [], _∷_, _++_, append-nil}
-use Prim.Native.Nat.{ℕ, suc, _+_, _-_, _/_, _≤_, _<_, min, zero-le}
-use native.Mathlib.Numerals.{add-one}
+use mathlib.Core.List.{List, [], _++_}
+use Prim.Native.Nat.{ℕ, _+_, _-_, _/_, _≤_, _<_, zero-le}
 use native.Mathlib.Omega.{arith}
-use lib.ListN.{length, getD, drop, take, length-append, drop-of-length-le}
-use lib.Seq.{drop-cons}
+use lib.ListN.{length, drop, take, length-append}
 use lib.IntN.{ℤ}
-use Rattle.diff.specs.declared.diff.Item.{Item as Lent}
 use Rattle.diff.specs.declared.diff.Item.the-variants.{Retain, Delete, Insert, Neither}
 use Rattle.diff.specs.Items.{itemAt}
 use Rattle.diff.proofs.Building.{range-part}
 use Rattle.edit_format.specs.Digits.{digits}
-use Rattle.edit_format.specs.Items.{Item, Keep, Drop, Add}
-use Rattle.edit_format.specs.Written.{points, numberLine, keepKey, dropKey, addKey, endKey, formKey, originalKey, resultKey, itemsKey, itemLine, itemLines, Head, headLines}
+use Rattle.edit_format.specs.Items.{Item, Keep, Drop}
+use Rattle.edit_format.specs.Written.{points, numberLine, keepKey, dropKey, endKey, formKey, originalKey, resultKey, itemsKey, itemLine, itemLines, Head, headLines}
+use Rattle.written_lines.specs.Lengths.{cap}
+use Rattle.written_lines.proofs.Numbers.{one-digit}
+use Rattle.written_lines.proofs.Counting.{line-length, add-length}
 use Rattle.edit_write.specs.Writing.{fileItem, fileOf}
-use Rattle.edit_write.specs.Lengths.{cap, further, fileBytes}
-use Rattle.edit_write.proofs.Numbers.{one-digit}
+use Rattle.edit_write.specs.Passes.{fileBytes}
 use Rattle.edit_write.proofs.Checking.{rest, rest-all, rest-at, rest-none}
-
-pub line-length : (k : List ℕ) (n : ℕ) → length (numberLine k n) ≡ length k + length (digits 10 n) + 1
-unfolding numberLine
-line-length k n = length-append (k ++ digits 10 n) (10 ∷ []) ∙ ap (λ (x : ℕ). x + 1) (length-append k (digits 10 n))
-
-pub add-length : (cs : List ℕ) → length (itemLine (Add cs)) ≡ 5 + length (points cs)
-unfolding itemLine
-add-length cs = length-append (addKey ++ points cs) (10 ∷ []) ∙ omega (arith, length-append addKey (points cs))
 
 pub keep-length : (n : ℕ) → length (itemLine (Keep n)) ≡ 5 + length (digits 10 n) + 1
 unfolding itemLine
@@ -35,29 +26,6 @@ keep-length n = line-length keepKey n
 pub drop-length : (n : ℕ) → length (itemLine (Drop n)) ≡ 5 + length (digits 10 n) + 1
 unfolding itemLine
 drop-length n = line-length dropKey n
-
--- the points of a line: the first, and those further on
-pub points-further : (c : ℕ) (cs : List ℕ) → points (c ∷ cs) ≡ digits 16 c ++ further cs
-unfolding points further
-points-further c [] = sym (append-nil (digits 16 c))
-points-further c (d ∷ cs) = ap (λ (l : List ℕ). digits 16 c ++ 32 ∷ l) (points-further d cs)
-
-pub first-point : (t : List ℕ) → 0 < length t → points t ≡ digits 16 (getD t 0 0) ++ further (drop 1 t)
-first-point [] h = absurd (omega arith)
-first-point (c ∷ cs) h = points-further c cs
-
-pub next-point : (t : List ℕ) (i : ℕ) → i < length t → further (drop i t) ≡ 32 ∷ digits 16 (getD t i 0) ++ further (drop (i + 1) t)
-unfolding further
-next-point t i h = rw (add-one i, drop-cons t i 0 h)
-
-pub no-point : (t : List ℕ) (i : ℕ) → length t ≤ i → further (drop i t) ≡ []
-unfolding further
-no-point t i h = rw (drop-of-length-le t h)
-
-pub points-none : (t : List ℕ) → length t ≡ 0 → 0 ≡ cap (length (points t))
-unfolding points
-points-none [] h = refl
-points-none (c ∷ cs) h = absurd (omega arith)
 
 pub record ItemsCount (xs : List ℤ) (text : List ℕ) (sum i : ℕ) : Type 0 where
   pub small : sum ≤ 1099511627776

@@ -17,13 +17,14 @@ use Rattle.refusal.specs.declared.Counted.the-variants.{Count, Refused as NoCou
 use Rattle.diff.specs.Checks.{Verdict, fine, refused, andThen, fits}
 use Rattle.edit_format.specs.Items.{Item, kept, dropped, added}
 use Rattle.edit_format.specs.Written.{formKey, originalKey, resultKey, itemsKey, endKey, numberLine, itemLines, Head, headLines, headOf, written}
+use Rattle.written_lines.specs.Lengths.{cap}
+use Rattle.written_lines.proofs.Emitting.{put-then, put-length}
 use Rattle.edit_write.specs.Writing.{fileOf, writable, lengthOf, roomed, Wrote}
-use Rattle.edit_write.specs.Lengths.{cap, sumsOf, checkedBy, fileBytes}
+use Rattle.edit_write.specs.Passes.{sumsOf, checkedBy, fileBytes}
 use Rattle.edit_write.specs.declared.Sums.{Sums}
 use Rattle.edit_write.specs.declared.Checked.the-variants.{Fine, Refused}
 use Rattle.edit_write.proofs.Checking.{file-length}
 use Rattle.edit_write.proofs.Goodness.{writable-good, written-short}
-use Rattle.edit_write.proofs.Emitting.{put-then, put-length}
 
 -- what the checks found
 pub refused-by : (v : Verdict) (is : List Item) {r : Refusal} → Refused r ≡ checkedBy v is → v ≡ refused r

@@ -21,9 +21,10 @@ use Rattle.edit_format.specs.Digits.{digits}
 use Rattle.edit_format.specs.Items.{Item, Keep, Drop, Add, kept, dropped, added, isPoint, allPoints, itemsGood, Good}
 use Rattle.edit_format.specs.Written.{points, numberLine, keepKey, dropKey, endKey, itemLine, itemLines, Head, headLines, headOf, written}
 use Rattle.edit_format.proofs.Picks.{pick-elim, both-0, both-1, apart}
+use Rattle.written_lines.proofs.Numbers.{few-digits}
+use Rattle.written_lines.proofs.Counting.{line-length, add-length}
 use Rattle.edit_write.specs.Writing.{fileItem, fileItems, fileOf, sizes, shapes, writable}
-use Rattle.edit_write.proofs.Numbers.{few-digits}
-use Rattle.edit_write.proofs.Counting.{line-length, add-length, keep-length, drop-length, head-length}
+use Rattle.edit_write.proofs.Counting.{keep-length, drop-length, head-length}
 
 never : {r : Refusal} → _≡_ {A = Verdict} (refused r) fine → ⊥
 never e = let z : _≡_ {A = ℕ} 0 1 = cc in omega arith

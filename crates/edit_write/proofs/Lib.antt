@@ -1,7 +1,5 @@
 pub mod Checking
-pub mod Numbers
 pub mod Counting
-pub mod Hexes
 pub mod Emitting
 pub mod Goodness
 pub mod Finishing

@@ -27,8 +27,8 @@ use Rattle.utf8_read.specs.Reading.{points}
 use Rattle.edit_format.specs.Items.{Item, added, texts}
 use Rattle.edit_format.specs.Reading.{Found, Accepted, Refused, readFile}
 use Rattle.edit_format.proofs.TextLaws.{texts-length}
-use Rattle.edit_write.proofs.Numbers.{few-digits}
-use Rattle.edit_write.proofs.Counting.{line-length}
+use Rattle.written_lines.proofs.Numbers.{few-digits}
+use Rattle.written_lines.proofs.Counting.{line-length}
 use Rattle.merging.specs.Lent.{Lent, rulesOf}
 use Rattle.merging.specs.Merge.{mergeOf}
 use Rattle.merging.specs.Operations.{opsFrom}

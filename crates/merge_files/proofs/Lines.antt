@@ -10,9 +10,9 @@ use Rattle.room.specs.Placed.{Put}
 use Rattle.room.proofs.Answers.{at-start}
 use Rattle.edit_format.specs.Digits.{digits}
 use Rattle.edit_format.specs.Written.{numberLine}
-use Rattle.edit_write.specs.Lengths.{cap}
-use Rattle.edit_write.proofs.Numbers.{few-digits}
-use Rattle.edit_write.proofs.Counting.{line-length}
+use Rattle.written_lines.specs.Lengths.{cap}
+use Rattle.written_lines.proofs.Numbers.{few-digits}
+use Rattle.written_lines.proofs.Counting.{line-length}
 use Rattle.merge_files.specs.declared.Outcome.the-variants as O
 use Rattle.merge_files.specs.Program.{refused, refusedKey, bytesOf, kindOf, outcomeOf, roomAfter, Written}
 

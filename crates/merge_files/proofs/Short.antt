@@ -15,8 +15,9 @@ use Rattle.edit_format.specs.Digits.{digits}
 use Rattle.edit_format.specs.Items.{Item, Keep, Drop, Add, kept, dropped, added, isPoint, allPoints, itemsGood, Good}
 use Rattle.edit_format.specs.Written.{Head, endKey, numberLine, points, itemLine, itemLines, headLines, headOf, written}
 use Rattle.edit_format.proofs.Picks.{both-0, both-1}
-use Rattle.edit_write.proofs.Numbers.{one-digit, one-less}
-use Rattle.edit_write.proofs.Counting.{line-length, add-length, keep-length, drop-length, head-length}
+use Rattle.written_lines.proofs.Numbers.{one-digit, one-less}
+use Rattle.written_lines.proofs.Counting.{line-length, add-length}
+use Rattle.edit_write.proofs.Counting.{keep-length, drop-length, head-length}
 
 one-more : (m n k : ℕ) → 1 < m → length (digits m (n / m)) ≤ k → length (digits m n) ≤ k + 1
 one-more m n k h e =

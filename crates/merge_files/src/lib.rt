@@ -21,10 +21,10 @@ fn put_refused(number: usize, out: &mut [u8]) -> Outcome
     ensures { λ r. ⌜ Written (refused number) (now (out .entry)) (now (out .exit)) r ⌝ }
 {
     let n = number as u64;
-    if out.len() < edit_write::line_length(8, n) {
+    if out.len() < written_lines::line_length(8, n) {
         return Outcome::Room;
     }
-    Outcome::Refused(edit_write::put_line(out, 0, b"refused=", n))
+    Outcome::Refused(written_lines::put_line(out, 0, b"refused=", n))
 }
 
 // Whether the bytes are UTF-8.

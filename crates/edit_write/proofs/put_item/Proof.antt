@@ -1,7 +1,8 @@
 -- Shown: `put_item` meets its contract.
 -- How: each way through it is a law of proofs/Emitting.antt.
 use borrow.Author.Needs.{needs}
-use Rattle.edit_write.proofs.Emitting.{put-length, retain-in, delete-in, insert-in, neither-in, retain-put, delete-put, insert-put, neither-put}
+use Rattle.written_lines.proofs.Emitting.{put-length}
+use Rattle.edit_write.proofs.Emitting.{retain-in, delete-in, insert-in, neither-in, retain-put, delete-put, insert-put, neither-put}
 use Rattle.diff.proofs.Decoding.{insert-within}
 use native.Mathlib.Omega.{arith}
 use mathlib.Core.Path.{sym, _∙_}

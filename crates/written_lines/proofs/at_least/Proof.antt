@@ -1,8 +1,8 @@
 -- Shown: `at_least` is the definition's step.
 -- How: each way by the test that led there.
-use Rattle.edit_write.proofs.Hexes.{step-yes, step-no}
-use Rattle.edit_write.proofs.at_least.Statement.{statement}
-use Rattle.edit_write.proofs.at_least.Tie as tie
+use Rattle.written_lines.proofs.Hexes.{step-yes, step-no}
+use Rattle.written_lines.proofs.at_least.Statement.{statement}
+use Rattle.written_lines.proofs.at_least.Tie as tie
 
 returns : tie.Need-returns
 returns c = step-yes _ _ (c .if1 .taken)

@@ -4,11 +4,11 @@ use Prim.Native.Nat.{_-_, _*_, _≤_}
 use mathlib.Core.Path.{_≡_}
 use lib.ListN.{length, take}
 use native.Mathlib.Omega.{arith}
-use Rattle.edit_write.specs.Lengths.{hexes}
-use Rattle.edit_write.proofs.Hexes.{no-hexes, hexes-more, hexes-all}
+use Rattle.written_lines.specs.Lengths.{hexes}
+use Rattle.written_lines.proofs.Hexes.{no-hexes, hexes-more, hexes-all}
 use borrow.Author.Needs.{needs}
-use Rattle.edit_write.proofs.hex_block.Statement.{statement}
-use Rattle.edit_write.proofs.hex_block.Tie as tie
+use Rattle.written_lines.proofs.hex_block.Statement.{statement}
+use Rattle.written_lines.proofs.hex_block.Tie as tie
 
 abbrev Inv-block : tie.InvT-block
 Inv-block text n₀ k₀ n k = (k ≤ length text) × (n ≡ hexes (take k text)) × (n ≤ 8 * k)

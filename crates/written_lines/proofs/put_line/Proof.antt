@@ -1,11 +1,11 @@
 -- Shown: `put_line` meets its contract.
 -- How: each way through it is a law of proofs/Counting.antt and proofs/Emitting.antt.
 use native.Mathlib.Omega.{arith}
-use Rattle.edit_write.proofs.Counting.{line-length}
-use Rattle.edit_write.proofs.Emitting.{put-number-line, digits-in, lf-in, line-long}
+use Rattle.written_lines.proofs.Counting.{line-length}
+use Rattle.written_lines.proofs.Emitting.{put-number-line, digits-in, lf-in, line-long}
 use borrow.Author.Needs.{needs}
-use Rattle.edit_write.proofs.put_line.Statement.{statement}
-use Rattle.edit_write.proofs.put_line.Tie as tie
+use Rattle.written_lines.proofs.put_line.Statement.{statement}
+use Rattle.written_lines.proofs.put_line.Tie as tie
 
 put-u8-requires : tie.Need-put-u8-requires
 put-u8-requires c κs = omega (arith, c .before .before .before .pre, line-length (c .before .before .before .args .key .now) (c .before .before .before .args .n))

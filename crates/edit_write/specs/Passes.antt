@@ -1,15 +1,14 @@
--- What the writer's passes find: sums, the first item that cannot be written, lengths as they are held. Assumes nothing.
-use Prim.Native.Nat.{ℕ, _+_, _/_, min}
-use mathlib.Core.List.{List, [], _∷_, _++_}
+-- What the writer's passes find: sums, the first item that cannot be written, the file under a header. Assumes nothing.
+use Prim.Native.Nat.{ℕ, _+_, _/_}
+use mathlib.Core.List.{List, _++_}
 use lib.ListN.{length}
 use lib.IntN.{ℤ}
-use lib.Dec.{ltb, leb}
+use lib.Dec.{ltb}
 use Rattle.room.specs.Choice.{pick}
 use Rattle.refusal.specs.declared.Refusal.the-variants.{Record}
 use Rattle.diff.specs.declared.diff.Bad.{Bad}
 use Rattle.diff.specs.declared.diff.Bad.the-variants.{At, Nowhere}
 use Rattle.diff.specs.Checks.{Verdict, fine, refused}
-use Rattle.edit_format.specs.Digits.{digits}
 use Rattle.edit_format.specs.Items.{Item, kept, dropped, added}
 use Rattle.edit_format.specs.Written.{headLines, itemLines, numberLine, endKey}
 use Rattle.edit_write.specs.Writing.{fileOf}
@@ -18,10 +17,6 @@ use Rattle.edit_write.specs.declared.Tally.{Tally}
 use Rattle.edit_write.specs.declared.Tally.the-variants.{TooBig, Fits}
 use Rattle.edit_write.specs.declared.Checked.{Checked}
 use Rattle.edit_write.specs.declared.Checked.the-variants.{Fine, Refused}
-
--- a length as it is held: exact below the cap, which is above every file's
-abbrev pub cap : ℕ → ℕ
-cap n = min n 1099511627776
 
 abbrev pub sumsOf : List Item → Sums
 sumsOf is = record { kept = kept is; used = kept is + dropped is; added = added is }
@@ -36,20 +31,6 @@ shaped Nowhere = fine
 abbrev pub checkedBy : Verdict → List Item → Checked
 checkedBy fine is = Fine (sumsOf is)
 checkedBy (refused r) is = Refused r
-
--- the code points of a line after its first
-unfoldable pub further : List ℕ → List ℕ
-further [] = []
-further (c ∷ cs) = 32 ∷ digits 16 c ++ further cs
-
--- 1 for a number that is not below another
-unfoldable pub step : ℕ → ℕ → ℕ
-step x least = pick (leb least x) 1 0
-
--- how many hexadecimal digits numbers have together
-unfoldable pub hexes : List ℕ → ℕ
-hexes [] = 0
-hexes (c ∷ cs) = length (digits 16 c) + hexes cs
 
 -- the file of the lent items under a header with these sums
 unfoldable pub fileBytes : List ℤ → List ℕ → ℕ → ℕ → List ℕ

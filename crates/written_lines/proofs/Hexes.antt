@@ -11,9 +11,9 @@ use lib.Seq.{take-suc, take-all, drop-drop}
 use borrow.Author.Tests.{le-leb, lt-leb}
 use Rattle.edit_format.specs.Digits.{digits}
 use Rattle.edit_format.specs.Written.{points}
-use Rattle.edit_write.specs.Lengths.{cap, further, step, hexes}
-use Rattle.edit_write.proofs.Numbers.{one-digit, one-less}
-use Rattle.edit_write.proofs.Counting.{first-point}
+use Rattle.written_lines.specs.Lengths.{cap, further, step, hexes}
+use Rattle.written_lines.proofs.Numbers.{one-digit, one-less}
+use Rattle.written_lines.proofs.Counting.{first-point}
 
 pub step-yes : (x n : ℕ) → n ≤ x → 1 ≡ step x n
 unfolding step

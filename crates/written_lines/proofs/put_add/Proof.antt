@@ -1,11 +1,11 @@
 -- Shown: `put_add` meets its contract.
 -- How: each way through it is a law of proofs/Emitting.antt and proofs/Counting.antt.
 use borrow.Author.Needs.{needs}
-use Rattle.edit_write.proofs.Emitting.{put-add-line, points-in, add-lf-in, add-long}
-use Rattle.edit_write.proofs.Counting.{add-length}
+use Rattle.written_lines.proofs.Emitting.{put-add-line, points-in, add-lf-in, add-long}
+use Rattle.written_lines.proofs.Counting.{add-length}
 use native.Mathlib.Omega.{arith}
-use Rattle.edit_write.proofs.put_add.Statement.{statement}
-use Rattle.edit_write.proofs.put_add.Tie as tie
+use Rattle.written_lines.proofs.put_add.Statement.{statement}
+use Rattle.written_lines.proofs.put_add.Tie as tie
 
 slice-aggregate-put-u8 : tie.Need-slice-aggregate-put-u8
 slice-aggregate-put-u8 c = search needs

@@ -3,8 +3,8 @@
 use borrow.Author.Tests.{lt-ltb, le-ltb}
 use Rattle.edit_format.specs.Digits.{digit}
 use borrow.Author.Needs.{needs}
-use Rattle.edit_write.proofs.digit_byte.Statement.{statement}
-use Rattle.edit_write.proofs.digit_byte.Tie as tie
+use Rattle.written_lines.proofs.digit_byte.Statement.{statement}
+use Rattle.written_lines.proofs.digit_byte.Tie as tie
 
 add-result : tie.Need-add-result
 add-result c = search needs

@@ -1,10 +1,10 @@
 -- Shown: `put_points` meets its contract.
 -- How: each way through it is a law of proofs/Emitting.antt.
 use borrow.Author.Needs.{needs}
-use Rattle.edit_write.proofs.Emitting.{no-points, first-in, further-in, all-points, points-long}
+use Rattle.written_lines.proofs.Emitting.{no-points, first-in, further-in, all-points, points-long}
 use native.Mathlib.Omega.{arith}
-use Rattle.edit_write.proofs.put_points.Statement.{statement}
-use Rattle.edit_write.proofs.put_points.Tie as tie
+use Rattle.written_lines.proofs.put_points.Statement.{statement}
+use Rattle.written_lines.proofs.put_points.Tie as tie
 
 returns : tie.Need-returns
 returns c = no-points _ _ _ (c .if1 .taken)

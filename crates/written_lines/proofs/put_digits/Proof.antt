@@ -5,10 +5,10 @@ use mathlib.Core.Path.{_≡_, sym, _∙_}
 use native.Mathlib.Omega.{arith}
 use native.Mathlib.Nat.{mod-lt, div-lt-self}
 use lib.ListN.{length, length-set}
-use Rattle.edit_write.proofs.Numbers.{Digiting, starts, inside, before, goes-on, ends}
+use Rattle.written_lines.proofs.Numbers.{Digiting, starts, inside, before, goes-on, ends}
 use borrow.Author.Needs.{needs}
-use Rattle.edit_write.proofs.put_digits.Statement.{statement}
-use Rattle.edit_write.proofs.put_digits.Tie as tie
+use Rattle.written_lines.proofs.put_digits.Statement.{statement}
+use Rattle.written_lines.proofs.put_digits.Tie as tie
 
 abbrev Inv-digits : tie.InvT-digits
 Inv-digits out₀ at n base end m₀ k₀ out m k = Digiting out₀ at base n out m k

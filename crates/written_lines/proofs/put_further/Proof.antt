@@ -1,12 +1,12 @@
 -- Shown: `put_further` meets its contract.
 -- How: loop `points` keeps `Pointing`, and each way through it is a law of proofs/Emitting.antt.
 use borrow.Author.Needs.{needs}
-use Rattle.edit_write.proofs.Emitting.{Pointing, points-begin, space-in, point-in, points-more, points-end}
+use Rattle.written_lines.proofs.Emitting.{Pointing, points-begin, space-in, point-in, points-more, points-end}
 use lib.ListN.{length}
 use native.Mathlib.Omega.{arith}
 use Prim.Native.Nat.{_-_}
-use Rattle.edit_write.proofs.put_further.Statement.{statement}
-use Rattle.edit_write.proofs.put_further.Tie as tie
+use Rattle.written_lines.proofs.put_further.Statement.{statement}
+use Rattle.written_lines.proofs.put_further.Tie as tie
 
 abbrev Inv-points : tie.InvT-points
 Inv-points out₀ at text k₀ i₀ out k i = Pointing text out₀ at out k i

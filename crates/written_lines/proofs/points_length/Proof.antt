@@ -3,11 +3,11 @@
 use Prim.Native.Nat.{_+_, _-_}
 use native.Mathlib.Omega.{arith}
 use lib.ListN.{length}
-use Rattle.edit_write.proofs.Counting.{points-none}
-use Rattle.edit_write.proofs.Hexes.{Measured, measured-begin, measured-more, measured-end, short}
+use Rattle.written_lines.proofs.Counting.{points-none}
+use Rattle.written_lines.proofs.Hexes.{Measured, measured-begin, measured-more, measured-end, short}
 use borrow.Author.Needs.{needs}
-use Rattle.edit_write.proofs.points_length.Statement.{statement}
-use Rattle.edit_write.proofs.points_length.Tie as tie
+use Rattle.written_lines.proofs.points_length.Statement.{statement}
+use Rattle.written_lines.proofs.points_length.Tie as tie
 
 abbrev Inv-many : tie.InvT-many
 Inv-many text sum₀ at₀ sum at = Measured text sum at

@@ -6,10 +6,10 @@ use native.Mathlib.Omega.{arith}
 use native.Mathlib.Nat.{div-lt-self}
 use lib.ListN.{length}
 use Rattle.edit_format.specs.Digits.{digits}
-use Rattle.edit_write.proofs.Numbers.{one-digit, one-less}
+use Rattle.written_lines.proofs.Numbers.{one-digit, one-less}
 use borrow.Author.Needs.{needs}
-use Rattle.edit_write.proofs.width.Statement.{statement}
-use Rattle.edit_write.proofs.width.Tie as tie
+use Rattle.written_lines.proofs.width.Statement.{statement}
+use Rattle.written_lines.proofs.width.Tie as tie
 
 abbrev Inv-digits : tie.InvT-digits
 Inv-digits n base m₀ w₀ m w = (length (digits base n) + 1 ≡ w + length (digits base m)) × (w + m ≤ n + 1)

@@ -1,0 +1,4 @@
+pub mod Numbers
+pub mod Counting
+pub mod Hexes
+pub mod Emitting
