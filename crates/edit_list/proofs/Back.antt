@@ -6,11 +6,11 @@ use Prim.Native.Nat.{ℕ, suc, _+_, _*_, _/_, _<_}
 use native.Mathlib.Omega.{arith}
 use lib.ListN.{length, take, drop, getD, length-append}
 use lib.Seq.{getD-drop, drop-drop, drop-append-seam, take-at}
-use Rattle.elongate.specs.declared.Raw.{Raw}
-use Rattle.elongate.specs.Raws.{Piece, Run, flatSpans, flatKeys, rawsFrom, rawsOf, piecesFrom, runsOf as runsLent}
+use Rattle.raw_lists.specs.declared.Raw.{Raw}
+use Rattle.raw_lists.specs.Raws.{Piece, Run, flatSpans, flatKeys, rawsFrom, rawsOf, piecesFrom, runsOf as runsLent}
+use Rattle.raw_lists.specs.Good.{counts}
+use Rattle.raw_lists.proofs.Pieces.{length-spans, length-keys, spans-append, keys-append}
 use Rattle.elongate.specs.Elongated.{allTokens}
-use Rattle.elongate.specs.Good.{counts}
-use Rattle.elongate.proofs.Pieces.{length-spans, length-keys, spans-append, keys-append}
 use Rattle.edit_list.specs.Steps.{flatRaws}
 
 pub drop-past : {A : Type 0} (a b n : ℕ) (xs s t : List A) → drop a xs ≡ s ++ t → n ≡ length s → a + n ≡ b → drop b xs ≡ t

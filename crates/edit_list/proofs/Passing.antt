@@ -17,12 +17,14 @@ use Rattle.verdict.specs.Points.{pointsFrom}
 use Rattle.sizes.specs.Texts.{inText, runText}
 use Rattle.shapes.specs.Shapes.{runGood}
 use Rattle.verdict.proofs.Bools.{both-yes}
-use Rattle.elongate.specs.declared.Raw.{Raw}
-use Rattle.elongate.specs.Raws.{Run, piecesLent, piecesFrom, runsOf as runsLent}
+use Rattle.raw_lists.specs.declared.Raw.{Raw}
+use Rattle.raw_lists.specs.Raws.{Run, piecesLent, piecesFrom, runsOf as runsLent}
+use Rattle.raw_lists.specs.Good.{counts}
+use Rattle.raw_lists.specs.Checks.{total, claimedBy, runLent, textBy, rawFits, isRaw, shapesFrom}
+use Rattle.raw_lists.proofs.Pieces.{length-pieces}
 use Rattle.elongate.specs.Elongated.{piecesLength, allTokens}
-use Rattle.elongate.specs.Good.{counts}
-use Rattle.elongate.specs.Verdicts.{total, claimedBy, runLent, textBy, rawFits, isRaw, shapesFrom, roomsFit, rawVerdict}
-use Rattle.elongate.proofs.Pieces.{length-pieces, pieces-length}
+use Rattle.elongate.specs.Verdicts.{roomsFit, rawVerdict}
+use Rattle.elongate.proofs.Lengths.{pieces-length}
 use Rattle.elongate.proofs.Arranging.{lengths-total}
 use Rattle.edit_format.proofs.Picks.{pick-elim}
 use Rattle.edit_list.proofs.Back.{rawList}

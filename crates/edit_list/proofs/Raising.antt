@@ -17,16 +17,16 @@ use Rattle.records.proofs.Operations.{length-flat}
 use Rattle.verdict.specs.declared.Verdict.{Verdict}
 use Rattle.verdict.specs.declared.Verdict.the-variants.{Accepted as Fine}
 use Rattle.verdict.specs.Points.{pointsFrom}
-use Rattle.elongate.specs.declared.Raw.{Raw}
+use Rattle.raw_lists.specs.declared.Raw.{Raw}
+use Rattle.raw_lists.specs.Raws.{Run, piecesLent, flatSpans, flatKeys, rawsOf, runsOf as runsLent}
+use Rattle.raw_lists.specs.Good.{counts}
+use Rattle.raw_lists.proofs.Pieces.{length-spans, length-keys}
 use Rattle.elongate.specs.declared.Written.{Written}
 use Rattle.elongate.specs.declared.Answer.{Answer}
 use Rattle.elongate.specs.declared.Answer.the-variants as A
-use Rattle.elongate.specs.Raws.{Run, piecesLent, flatSpans, flatKeys, rawsOf, runsOf as runsLent}
 use Rattle.elongate.specs.Elongated.{arranged, elongated, cookedFrom, allTokens}
 use Rattle.elongate.specs.Places.{kindOf}
-use Rattle.elongate.specs.Good.{counts}
 use Rattle.elongate.specs.Verdicts.{Elongates, verdictOn}
-use Rattle.elongate.proofs.Pieces.{length-spans, length-keys}
 use Rattle.elongate.proofs.Placing.{length-placed}
 use Rattle.elongate.proofs.Arranging.{total-arranged, counts-total, runs-arranged}
 use Rattle.elongate.proofs.Joining.{tokens-joined, cooked-length}

@@ -8,9 +8,9 @@ use native.Mathlib.Omega.{arith}
 use lib.ListN.{length, length-append}
 use lib.Dec.{leb}
 use borrow.Author.Tests.{leb-true}
-use Rattle.elongate.specs.Raws.{Piece, Run}
+use Rattle.raw_lists.specs.Raws.{Piece, Run}
 use Rattle.elongate.specs.Elongated.{piecesLength, allTokens}
-use Rattle.elongate.proofs.Pieces.{pieces-append}
+use Rattle.elongate.proofs.Lengths.{pieces-append}
 use Rattle.edit_format.specs.Items.{Item, Keep, Drop, Add, kept, dropped, added, itemsGood, allPoints}
 use Rattle.edit_format.specs.Records.{size}
 use Rattle.edit_format.specs.Tests.{both}

@@ -7,7 +7,7 @@ use native.Mathlib.Omega.{arith}
 use lib.ListN.{length, getD, set, length-append, length-set}
 use lib.Seq.{getD-set-other, getD-append-add, set-at}
 use Rattle.records.specs.Operations.{flatOperations}
-use Rattle.elongate.specs.Raws.{Run}
+use Rattle.raw_lists.specs.Raws.{Run}
 use Rattle.elongate.specs.Elongated.{cookedFrom, piecesLength, consumes, allTokens}
 use Rattle.edit_list.specs.Steps.{shiftedFrom, Shiftable}
 

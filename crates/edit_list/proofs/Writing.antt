@@ -14,10 +14,10 @@ use Rattle.diff.specs.declared.diff.Item.{Item as Edit}
 use Rattle.diff.specs.declared.diff.Item.the-variants.{Retain, Delete, Insert, Neither}
 use Rattle.diff.specs.Items.{itemAt, itemsFrom}
 use Rattle.diff.proofs.Decoding.{items-more, items-none, insert-within}
-use Rattle.elongate.specs.Raws.{Piece, Run, flatSpans, flatKeys}
+use Rattle.raw_lists.specs.Raws.{Piece, Run, flatSpans, flatKeys}
+use Rattle.raw_lists.proofs.Pieces.{length-spans, length-keys, spans-append, keys-append}
 use Rattle.elongate.specs.Elongated.{piecesLength, allTokens}
 use Rattle.elongate.proofs.Placing.{placed-none, length-placed, goes-on}
-use Rattle.elongate.proofs.Pieces.{length-spans, length-keys, spans-append, keys-append}
 use Rattle.edit_list.specs.Raws.{pointTokens, partToken}
 use Rattle.edit_list.specs.Steps.{runIn, runsIn, flatRaws, TokensPut, PointsFit, RunPut, SmallRun, AllSmall, RunFits, ItemsLent, Filled, Fits}
 use Rattle.edit_list.proofs.Runs.{points-length}

@@ -7,7 +7,7 @@ use Rattle.room.specs.Placed.{placed, answered}
 use Rattle.records.specs.Operations.{flatOperations}
 use Rattle.verdict.specs.declared.Verdict.the-variants.{Accepted as Fine}
 use Rattle.verdict.specs.Points.{pointsFrom}
-use Rattle.elongate.specs.Raws.{flatSpans, flatKeys}
+use Rattle.raw_lists.specs.Raws.{flatSpans, flatKeys}
 use Rattle.elongate.specs.Elongated.{cookedFrom, allTokens}
 use Rattle.edit_format.specs.Items.{Item, texts}
 use Rattle.edit_format.specs.Reading.{readFile, Accepted}

@@ -1,7 +1,7 @@
 -- The raw list that the program makes of an edit file's items. Assumes nothing.
 use Prim.Native.Nat.{ℕ, _+_}
 use mathlib.Core.List.{List, [], _∷_}
-use Rattle.elongate.specs.Raws.{Piece, Run}
+use Rattle.raw_lists.specs.Raws.{Piece, Run}
 use Rattle.elongate.specs.Elongated.{elongated}
 use Rattle.edit_format.specs.Items.{Item, Keep, Drop, Add}
 use Rattle.edit_format.specs.Records.{size}

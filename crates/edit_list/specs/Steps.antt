@@ -9,10 +9,10 @@ use Rattle.records.specs.Operations.{flatOperations}
 use Rattle.verdict.specs.declared.Verdict.the-variants.{Accepted as Fine}
 use Rattle.diff.specs.declared.diff.Item.{Item as Edit}
 use Rattle.diff.specs.declared.diff.Item.the-variants.{Retain, Delete, Insert, Neither}
+use Rattle.raw_lists.specs.Raws.{Piece, Run, flatSpans, flatKeys, rawsOf, runsOf as runsLent}
+use Rattle.raw_lists.specs.Good.{counts}
 use Rattle.elongate.specs.declared.Written.{Written}
-use Rattle.elongate.specs.Raws.{Piece, Run, flatSpans, flatKeys, rawsOf, runsOf as runsLent}
 use Rattle.elongate.specs.Elongated.{piecesLength, elongated, cookedFrom, allTokens}
-use Rattle.elongate.specs.Good.{counts}
 use Rattle.elongate.specs.Verdicts.{rawVerdict}
 use Rattle.edit_format.specs.Items.{Item, texts}
 use Rattle.edit_format.specs.Records.{recordsOf}

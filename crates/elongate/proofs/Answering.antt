@@ -6,63 +6,38 @@ use mathlib.Core.Bool.{Bool, true, false, _&&_}
 use mathlib.Core.List.{List, [], _∷_}
 use native.Mathlib.Omega.{arith}
 use lib.ListN.{length}
-use lib.Dec.{leb, ltb}
-use borrow.Author.Tests.{le-leb, leb-true, ltb-true}
+use lib.Dec.{leb}
+use borrow.Author.Tests.{le-leb, leb-true}
 use Rattle.refusal.specs.declared.Refusal.{Refusal}
 use Rattle.refusal.specs.declared.Refusal.the-variants as R
 use Rattle.records.specs.Tokens.{tokensFrom}
 use Rattle.verdict.specs.declared.Verdict.{Verdict}
 use Rattle.verdict.specs.declared.Verdict.the-variants.{Accepted, Refused}
 use Rattle.sizes.specs.Texts.{runText}
-use Rattle.shapes.specs.Shapes.{runGood}
-use Rattle.shapes.proofs.Accepted.{all-in, run-length}
+use Rattle.shapes.proofs.Accepted.{run-length}
 use Rattle.verdict.specs.Points.{pointsFrom}
 use Rattle.verdict.proofs.Bools.{and-left, and-right}
-use Rattle.verdict.proofs.Chains.{fits, goes-on, has-room, lacks-room, went}
-use Rattle.elongate.specs.declared.Raw.{Raw}
+use Rattle.verdict.proofs.Chains.{fits, goes-on, has-room, lacks-room}
+use Rattle.raw_lists.specs.declared.Raw.{Raw}
+use Rattle.raw_lists.specs.Raws.{Run, piecesLent, piecesFrom, rawsOf, runsOf}
+use Rattle.raw_lists.specs.Good.{AllGood, counts}
+use Rattle.raw_lists.specs.Checks.{total, claimedBy, textBy, rawFits, shapesFrom}
+use Rattle.raw_lists.proofs.Lists.{length-raws}
+use Rattle.raw_lists.proofs.Accepted.{all-good, claimed-all}
 use Rattle.elongate.specs.declared.Written.{Written}
 use Rattle.elongate.specs.declared.Answer.the-variants as A
-use Rattle.elongate.specs.Raws.{Run, piecesLent, piecesFrom, rawsOf, runsOf}
 use Rattle.elongate.specs.Elongated.{arranged, joined, elongated, cooked, piecesLength, allTokens}
 use Rattle.elongate.specs.Currents.{none, cookedOn}
 use Rattle.elongate.specs.Places.{kindOf}
-use Rattle.elongate.specs.Good.{GoodRaw, AllGood, counts}
 use Rattle.elongate.specs.Writes.{Ready, Wrote}
-use Rattle.elongate.specs.Verdicts.{total, claimedBy, runLent, textBy, rawFits, isRaw, shapesFrom, roomsFit, rawVerdict, Elongates, verdictOn}
-use Rattle.elongate.proofs.Pieces.{pieces-length}
-use Rattle.elongate.proofs.Checking.{length-raws}
+use Rattle.elongate.specs.Verdicts.{roomsFit, rawVerdict, Elongates, verdictOn}
+use Rattle.elongate.proofs.Lengths.{pieces-length}
 use Rattle.elongate.proofs.Arranging.{total-arranged, counts-total, length-total, lengths-total, good-arranged, runs-arranged}
 use Rattle.elongate.proofs.Joining.{some-runs, cooks-all, tokens-joined, joined-length, cooked-length}
 
--- an accepted list is good
+-- the lengths of an accepted list are those that were checked
 
 module _ (n : ℕ) (spans keys joins : List ℕ) where
-  good-raw : (r : Raw) → isRaw n spans keys joins r ≡ true → GoodRaw n spans keys joins r
-  good-raw r h =
-      let g : Bool = runGood n (tokensFrom spans keys (r .first) (r .count)) in
-      let l : Bool = runLent spans keys joins r in
-      let a = and-right (leb (r .kind) 2) (ltb 0 (r .count) && (l && g)) h in
-      let b = and-right (ltb 0 (r .count)) (l && g) a in
-      record {
-        known = leb-true (r .kind) 2 (and-left (leb (r .kind) 2) (ltb 0 (r .count) && (l && g)) h);
-        some = ltb-true 0 (r .count) (and-left (ltb 0 (r .count)) (l && g) a);
-        lent = leb-true (r .first + r .count) (piecesLent spans keys joins) (and-left l g b);
-        tokens = all-in n (tokensFrom spans keys (r .first) (r .count)) (and-right l g b);
-      }
-
-  pub all-good : (rs : List Raw) (i : ℕ) → shapesFrom n spans keys joins rs i ≡ Accepted → AllGood n spans keys joins rs
-  unfolding shapesFrom AllGood
-  all-good [] i h = tt
-  all-good (r ∷ rs) i h =
-      let w = went (isRaw n spans keys joins r) (shapesFrom n spans keys joins rs (i + 1)) (R.Record i) h in
-      (good-raw r (w .0), all-good rs (i + 1) (w .1))
-
-  -- its counts and lengths are those that were checked
-  claimed-all : (rs : List Raw) → AllGood n spans keys joins rs → total claimedBy rs ≡ counts rs
-  unfolding total counts AllGood
-  claimed-all [] g = refl
-  claimed-all (r ∷ rs) g = rw (le-leb (r .kind) 2 (g .0 .known), claimed-all rs (g .1))
-
   used-all : (rs : List Raw) → AllGood n spans keys joins rs
       → total (textBy n spans keys joins) rs ≡ total (λ r. piecesLength (piecesFrom spans keys joins (r .first) (r .count))) rs
   unfolding total AllGood

@@ -8,14 +8,14 @@ use native.Mathlib.Nat.{zero-add}
 use native.Mathlib.Decide.{ℕ-discrete}
 use lib.ListN.{length}
 use borrow.Author.Tests.{eq-eqb, ne-eqb}
-use Rattle.elongate.specs.declared.Raw.{Raw}
-use Rattle.elongate.specs.Raws.{Run, runOf, runsOf, piecesFrom}
+use Rattle.raw_lists.specs.declared.Raw.{Raw}
+use Rattle.raw_lists.specs.Raws.{Run, runOf, runsOf, piecesFrom}
+use Rattle.raw_lists.specs.Good.{AllGood, counts}
+use Rattle.raw_lists.specs.Checks.{total}
 use Rattle.elongate.specs.Elongated.{Parts, parts, together, arranged, piecesLength, allTokens}
 use Rattle.elongate.specs.Places.{kindOf}
-use Rattle.elongate.specs.Good.{AllGood, counts}
-use Rattle.elongate.specs.Verdicts.{total}
 use Rattle.elongate.proofs.Walks.{parts-retain, parts-delete, parts-insert}
-use Rattle.elongate.proofs.Pieces.{pieces-append}
+use Rattle.elongate.proofs.Lengths.{pieces-append}
 
 -- a statement of the first operation by its kind
 pub by-kind : (kind : ℕ) (P : Type 0) → (kind ≡ 2 → P) → (kind ≡ 0 → P) → ((kind ≡ 2 → ⊥) → (kind ≡ 0 → ⊥) → P) → P

@@ -14,9 +14,9 @@ use Rattle.room.specs.Placed.{placed}
 use Rattle.records.specs.Operations.{putOperation, flatOperations}
 use Rattle.records.specs.Rooms.{filled}
 use Rattle.records.proofs.Operations.{put-eq}
+use Rattle.raw_lists.specs.Raws.{Run}
 use Rattle.elongate.proofs.Placing.{placed-none}
 use Rattle.elongate.specs.Writes.{Closed}
-use Rattle.elongate.specs.Raws.{Run}
 use Rattle.elongate.specs.Elongated.{lastRight, joinable, piecesLength, consumes}
 use Rattle.elongate.specs.Currents.{extended, fresh, closed, cookedOn}
 

@@ -7,13 +7,14 @@ use mathlib.Core.List.{List, [], _∷_, _++_, append-assoc}
 use native.Mathlib.Omega.{arith}
 use lib.ListN.{length, length-append}
 use lib.Dec.{eqb}
-use Rattle.elongate.specs.declared.Raw.{Raw}
+use Rattle.raw_lists.specs.declared.Raw.{Raw}
+use Rattle.raw_lists.specs.Raws.{Piece, Run, runsOf}
+use Rattle.raw_lists.specs.Good.{AllGood}
+use Rattle.raw_lists.proofs.Pieces.{length-pieces}
 use Rattle.elongate.specs.declared.Current.{Current}
-use Rattle.elongate.specs.Raws.{Piece, Run, runsOf}
 use Rattle.elongate.specs.Elongated.{lastRight, joinable, join, joinedFrom, joined, piecesLength, consumes, cookedFrom, cooked, allTokens}
 use Rattle.elongate.specs.Currents.{none, extended, closed, cookedOn}
-use Rattle.elongate.specs.Good.{AllGood}
-use Rattle.elongate.proofs.Pieces.{length-pieces, pieces-append}
+use Rattle.elongate.proofs.Lengths.{pieces-append}
 use Rattle.elongate.proofs.Cooking.{closed-some, cooks-joined, cooks-apart}
 
 -- every run has tokens

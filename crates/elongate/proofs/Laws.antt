@@ -10,7 +10,7 @@ use lib.ListN.{length, length-append}
 use lib.Dec.{eqb}
 use borrow.Author.Tests.{eq-eqb, ne-eqb, eqb-true}
 use Rattle.verdict.proofs.Bools.{and-left}
-use Rattle.elongate.specs.Raws.{Piece, Run}
+use Rattle.raw_lists.specs.Raws.{Piece, Run}
 use Rattle.elongate.specs.Elongated.{Parts, parts, together, arranged, lastRight, firstLeft, joinable, join, joinedFrom, joined, elongated, allTokens}
 use Rattle.elongate.specs.Kept.{chosen, textTokens, Follows, Settled}
 use Rattle.elongate.proofs.Arranging.{by-kind}

@@ -1,9 +1,8 @@
 pub mod Walks
 pub mod Placing
-pub mod Pieces
+pub mod Lengths
 pub mod Cooking
 pub mod Walking
-pub mod Checking
 pub mod Arranging
 pub mod Joining
 pub mod Answering

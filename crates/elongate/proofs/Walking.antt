@@ -15,15 +15,16 @@ use Rattle.records.specs.Operations.{flatOperations}
 use Rattle.records.specs.Tokens.{tokensFrom}
 use Rattle.records.proofs.Operations as O
 use Rattle.sizes.specs.Texts.{runText}
-use Rattle.elongate.specs.declared.Raw.{Raw}
+use Rattle.raw_lists.specs.declared.Raw.{Raw}
+use Rattle.raw_lists.specs.Raws.{Piece, piecesFrom, piecesLent, flatSpans, flatKeys, flatJoins, runOf, runsOf}
+use Rattle.raw_lists.specs.Good.{GoodRaw, AllGood, counts}
+use Rattle.raw_lists.proofs.Pieces.{length-pieces, length-spans, length-keys, length-joins, spans-append, keys-append, joins-append}
 use Rattle.elongate.specs.declared.Current.{Current}
-use Rattle.elongate.specs.Raws.{Piece, piecesFrom, piecesLent, flatSpans, flatKeys, flatJoins, runOf, runsOf}
 use Rattle.elongate.specs.Elongated.{lastRight, firstLeft, joinable, piecesLength, consumes, allTokens}
 use Rattle.elongate.specs.Currents.{none, extended, fresh, closed, cookedOn}
-use Rattle.elongate.specs.Good.{GoodRaw, AllGood, counts}
 use Rattle.elongate.specs.Writes.{Fits, Appended, Closed, Ready, Wrote}
 use Rattle.elongate.proofs.Placing.{placed-none, length-placed, goes-on}
-use Rattle.elongate.proofs.Pieces.{length-pieces, length-spans, length-keys, length-joins, spans-append, keys-append, joins-append, pieces-append, run-sum, first-left, last-right}
+use Rattle.elongate.proofs.Lengths.{pieces-append, run-sum, first-left, last-right}
 use Rattle.elongate.proofs.Cooking.{cooks-joined, cooks-apart, consumes-most}
 
 -- one room: what it holds with the rest put behind is the answer x, and it has room for the rest

@@ -8,22 +8,15 @@ use native.Mathlib.Nat.{sub-zero}
 use native.Mathlib.Decide.{ℕ-discrete}
 use lib.ListN.{length}
 use borrow.Author.Tests.{eq-eqb, ne-eqb, lt-ltb, le-ltb}
-use Rattle.elongate.specs.declared.Raw.{Raw}
+use Rattle.raw_lists.specs.declared.Raw.{Raw}
+use Rattle.raw_lists.specs.Raws.{rawAt, rawsFrom, rawsOf}
+use Rattle.raw_lists.proofs.Lists.{from-more, from-none}
 use Rattle.elongate.specs.declared.Place.{Place}
 use Rattle.elongate.specs.declared.Place.the-variants.{Deletes, Inserts}
 use Rattle.elongate.specs.declared.Step.{Step}
 use Rattle.elongate.specs.declared.Step.the-variants.{Take, Skip, End}
-use Rattle.elongate.specs.Raws.{rawAt, rawsFrom, rawsOf}
 use Rattle.elongate.specs.Elongated.{parts, arranged}
 use Rattle.elongate.specs.Places.{kindOf, insertsOf, onFrom, behind, left, work, Lies, Stepped}
-
-pub from-more : (xs : List ℕ) (i n : ℕ) → i < n → rawsFrom xs i (n - i) ≡ rawAt xs i ∷ rawsFrom xs (i + 1) (n - (i + 1))
-unfolding rawsFrom
-from-more xs i n h = let e : n - i ≡ suc (n - (i + 1)) = omega arith in rw e
-
-pub from-none : (xs : List ℕ) (i n : ℕ) → n ≤ i → rawsFrom xs i (n - i) ≡ []
-unfolding rawsFrom
-from-none xs i n h = let e : n - i ≡ 0 = omega arith in rw e
 
 -- one more at the end
 from-last : (xs : List ℕ) (i k : ℕ) → rawsFrom xs i (suc k) ≡ rawsFrom xs i k ++ (rawAt xs (i + k) ∷ [])

@@ -5,8 +5,8 @@ use mathlib.Core.List.{List, [], _∷_, _++_}
 use lib.ListN.{length}
 use lib.Dec.{eqb}
 use Rattle.records.specs.declared.Operation.{Operation}
+use Rattle.raw_lists.specs.Raws.{Run}
 use Rattle.elongate.specs.declared.Current.{Current}
-use Rattle.elongate.specs.Raws.{Run}
 use Rattle.elongate.specs.Elongated.{lastRight, joinable, piecesLength, consumes}
 
 -- none yet

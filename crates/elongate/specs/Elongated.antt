@@ -6,7 +6,7 @@ use lib.ListN.{length}
 use lib.Dec.{eqb}
 use Rattle.room.specs.Choice.{pick}
 use Rattle.records.specs.declared.Operation.{Operation}
-use Rattle.elongate.specs.Raws.{Piece, Run, leftJoinable, rightJoinable}
+use Rattle.raw_lists.specs.Raws.{Piece, Run, leftJoinable, rightJoinable}
 
 -- "each stretch without a retain": the deletes and the inserts of the first, and what comes behind it, arranged
 pub record Parts (A : Type 0) : Type 0 where

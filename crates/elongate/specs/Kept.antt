@@ -5,7 +5,7 @@ use mathlib.Core.Bool.{Bool, true, false, not}
 use mathlib.Core.Logic.{_⊎_}
 use mathlib.Core.List.{List, [], _∷_, _++_}
 use lib.Dec.{eqb}
-use Rattle.elongate.specs.Raws.{Piece, Run}
+use Rattle.raw_lists.specs.Raws.{Piece, Run}
 
 -- "each kind in its own order": the tokens of the kinds that pass a test, in list order
 unfoldable pub chosen : (ℕ → Bool) → List Run → List Piece

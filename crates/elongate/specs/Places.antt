@@ -5,12 +5,12 @@ use mathlib.Core.Bool.{true, false}
 use mathlib.Core.List.{List, [], _∷_, _++_}
 use lib.ListN.{length}
 use lib.Dec.{eqb, ltb}
-use Rattle.elongate.specs.declared.Raw.{Raw}
+use Rattle.raw_lists.specs.declared.Raw.{Raw}
+use Rattle.raw_lists.specs.Raws.{rawAt, rawsFrom}
 use Rattle.elongate.specs.declared.Place.{Place}
 use Rattle.elongate.specs.declared.Place.the-variants.{Deletes, Inserts}
 use Rattle.elongate.specs.declared.Step.{Step}
 use Rattle.elongate.specs.declared.Step.the-variants.{Take, Skip, End}
-use Rattle.elongate.specs.Raws.{rawAt, rawsFrom}
 use Rattle.elongate.specs.Elongated.{parts, arranged}
 
 abbrev pub kindOf : Raw → ℕ

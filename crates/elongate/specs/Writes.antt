@@ -5,13 +5,13 @@ use mathlib.Core.List.{List}
 use lib.ListN.{length}
 use Rattle.room.specs.Placed.{placed, answered}
 use Rattle.records.specs.Operations.{flatOperations}
-use Rattle.elongate.specs.declared.Raw.{Raw}
+use Rattle.raw_lists.specs.declared.Raw.{Raw}
+use Rattle.raw_lists.specs.Raws.{Piece, flatSpans, flatKeys, flatJoins, piecesLent, runsOf}
+use Rattle.raw_lists.specs.Good.{AllGood, counts}
 use Rattle.elongate.specs.declared.Current.{Current}
 use Rattle.elongate.specs.declared.Written.{Written}
-use Rattle.elongate.specs.Raws.{Piece, flatSpans, flatKeys, flatJoins, piecesLent, runsOf}
 use Rattle.elongate.specs.Elongated.{piecesLength, allTokens}
 use Rattle.elongate.specs.Currents.{none, closed, cookedOn}
-use Rattle.elongate.specs.Good.{AllGood, counts}
 
 -- a raw operation's tokens are lent, and the rooms reach as far as they would
 pub record Fits (spans keys joins : List ℕ) (r : Raw) (s k j : List ℕ) (at : ℕ) : Type 0 where

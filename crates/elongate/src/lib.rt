@@ -2,37 +2,17 @@
 // neighbours joined where their tokens let them, then cooked: order, length, and the place of the
 // tokens in their room.
 ghost use mathlib.Core.Path.{_≡_};
-ghost use Prim.Native.Nat.{_+_, _*_, _/_, _%_, _<_, _≤_, min};
+ghost use Prim.Native.Nat.{_+_, _*_, _/_, _%_, _<_, _≤_};
 ghost use mathlib.Core.Bool.{_&&_, not};
 ghost use lib.ListN.{length, getD};
 ghost use lib.Dec.{eqb, leb};
-ghost use Rattle.elongate.specs.Raws.{rawAt, rawsOf, piecesLent, piecesFrom};
+ghost use Rattle.raw_lists.specs.Raws.{rawsOf, piecesFrom};
 ghost use Rattle.elongate.specs.Elongated.{arranged, consumes};
 ghost use Rattle.elongate.specs.Currents.{extended, fresh, closed};
-ghost use Rattle.elongate.specs.Verdicts.{total, claimedBy, textBy, rawFits, isRaw, shapesFrom, Elongates, verdictOn};
+ghost use Rattle.elongate.specs.Verdicts.{Elongates, verdictOn};
 ghost use Rattle.elongate.specs.Writes.{Fits, Appended, Closed, Ready, Wrote};
 ghost use Rattle.elongate.specs.Places.{kindOf, Lies, Stepped};
 ghost use Rattle.elongate.specs.declared.Place.the-variants.{Deletes, Inserts};
-
-// A raw operation: its kind, and its tokens by the place of the first and their count.
-pub struct Raw {
-    pub kind: usize,
-    pub first: usize,
-    pub count: usize,
-}
-
-// The i-th raw operation.
-fn raw_at(raw: &[usize], i: usize) -> Raw
-    requires { ⌜ i * 3 + 3 ≤ length (now raw) ⌝ }
-    ensures { λ r. ⌜ r ≡ rawAt (now (raw .entry)) i ⌝ }
-{
-    let b = i * 3;
-    Raw {
-        kind: raw[b],
-        first: raw[b + 1],
-        count: raw[b + 2],
-    }
-}
 
 // How many operations and tokens elongating gave, or why none.
 pub enum Answer {
@@ -61,7 +41,7 @@ fn step_deletes(raw: &[usize], start: usize, at: usize) -> Step
     if raw.len() / 3 <= at {
         return Step::Skip(Place::Inserts { at: start, end: at });
     }
-    let r = raw_at(raw, at);
+    let r = raw_lists::raw_at(raw, at);
     if r.kind == 2 {
         return Step::Skip(Place::Inserts { at: start, end: at });
     }
@@ -76,7 +56,7 @@ fn step_inserts(raw: &[usize], at: usize, end: usize) -> Step
     ensures { λ s. ⌜ Stepped (now (raw .entry)) (Inserts at end) s ⌝ }
 {
     if at < end {
-        let r = raw_at(raw, at);
+        let r = raw_lists::raw_at(raw, at);
         if r.kind == 0 {
             return Step::Skip(Place::Inserts { at: at + 1, end });
         }
@@ -206,7 +186,7 @@ fn append(
     spans: &[u32],
     keys: &[u32],
     joins: &[u8],
-    r: Raw,
+    r: raw_lists::Raw,
     spanned: &mut [u32],
     keyed: &mut [u32],
     joined: &mut [u8],
@@ -268,7 +248,7 @@ fn write(
                 place = next;
             }
             Step::Take(i, next) => {
-                let r = raw_at(raw, i);
+                let r = raw_lists::raw_at(raw, i);
                 let at = current.first + current.count;
                 append(spans, keys, joins, r, spanned, keyed, joined, at);
                 let length = sizes::run_text(spans, keys, n, r.first, r.count);
@@ -286,135 +266,6 @@ fn write(
             }
         }
     }
-}
-
-// How many tokens are lent.
-fn pieces_lent(spans: &[u32], keys: &[u32], joins: &[u8]) -> usize
-    ensures { λ r. ⌜ r ≡ piecesLent (now (spans .entry)) (now (keys .entry)) (now (joins .entry)) ⌝ }
-{
-    let lent = records::tokens_lent(spans, keys);
-    if lent < joins.len() {
-        return lent;
-    }
-    joins.len()
-}
-
-// Whether an operation's range of tokens lies in the first `lent`.
-fn run_lent(lent: usize, r: Raw) -> bool
-    ensures { λ b. ⌜ b ≡ leb (r .first + r .count) lent ⌝ }
-{
-    if lent < r.count {
-        return false;
-    }
-    r.first <= lent - r.count
-}
-
-fn claimed_by(r: Raw) -> usize
-    ensures { λ n. ⌜ n ≡ claimedBy r ⌝ }
-{
-    if r.kind <= 2 { r.count } else { 0 }
-}
-
-// The tokens that a raw list claims, capped.
-fn claimed(raw: &[usize]) -> usize
-    ensures { λ r. ⌜ r ≡ min 1000000 (total claimedBy (rawsOf (now (raw .entry)))) ⌝ }
-{
-    let count = raw.len() / 3;
-    let mut i = 0;
-    let mut sum = 0;
-    'sum: while i < count {
-        let r = raw_at(raw, i);
-        let more = claimed_by(r);
-        sum = sizes::capped(sum, more);
-        i += 1;
-    }
-    sum
-}
-
-// The text of an operation's tokens, capped.
-fn text_by(spans: &[u32], keys: &[u32], joins: &[u8], n: usize, r: Raw) -> usize
-    ensures { λ t. ⌜ t ≡ min 1000000 (textBy n (now (spans .entry)) (now (keys .entry)) (now (joins .entry)) r) ⌝ }
-{
-    if 2 < r.kind {
-        return 0;
-    }
-    let lent = pieces_lent(spans, keys, joins);
-    if run_lent(lent, r) {
-        return sizes::run_text(spans, keys, n, r.first, r.count);
-    }
-    0
-}
-
-// The text of all tokens that a raw list uses, capped.
-fn used_text(raw: &[usize], spans: &[u32], keys: &[u32], joins: &[u8], n: usize) -> usize
-    ensures { λ r. ⌜ r ≡ min 1000000 (total (textBy n (now (spans .entry)) (now (keys .entry)) (now (joins .entry))) (rawsOf (now (raw .entry)))) ⌝ }
-{
-    let count = raw.len() / 3;
-    let mut i = 0;
-    let mut sum = 0;
-    'sum: while i < count {
-        let r = raw_at(raw, i);
-        let more = text_by(spans, keys, joins, n, r);
-        sum = sizes::capped(sum, more);
-        i += 1;
-    }
-    sum
-}
-
-// Whether a raw list keeps its sizes. The tests before the last keep its work within the limits.
-fn raw_fits(raw: &[usize], spans: &[u32], keys: &[u32], joins: &[u8], n: usize) -> bool
-    ensures { λ r. ⌜ r ≡ rawFits n (now (spans .entry)) (now (keys .entry)) (now (joins .entry)) (rawsOf (now (raw .entry))) ⌝ }
-{
-    if 131070 < n {
-        return false;
-    }
-    if 8192 < raw.len() / 3 {
-        return false;
-    }
-    if 16384 < claimed(raw) {
-        return false;
-    }
-    used_text(raw, spans, keys, joins, n) <= 131070
-}
-
-// Whether an operation is a raw operation.
-fn is_raw(spans: &[u32], keys: &[u32], joins: &[u8], n: usize, r: Raw) -> bool
-    ensures { λ b. ⌜ b ≡ isRaw n (now (spans .entry)) (now (keys .entry)) (now (joins .entry)) r ⌝ }
-{
-    if 2 < r.kind {
-        return false;
-    }
-    if r.count == 0 {
-        return false;
-    }
-    let lent = pieces_lent(spans, keys, joins);
-    if run_lent(lent, r) {
-        return shapes::run_good(spans, keys, n, r.first, r.count);
-    }
-    false
-}
-
-// Refusal 1 of a raw list.
-fn check_raws(
-    raw: &[usize],
-    spans: &[u32],
-    keys: &[u32],
-    joins: &[u8],
-    n: usize,
-) -> verdict::Verdict
-    ensures { λ r. ⌜ r ≡ shapesFrom n (now (spans .entry)) (now (keys .entry)) (now (joins .entry)) (rawsOf (now (raw .entry))) 0 ⌝ }
-{
-    let count = raw.len() / 3;
-    let mut i = 0;
-    'raws: while i < count {
-        let r = raw_at(raw, i);
-        if is_raw(spans, keys, joins, n, r) {
-            i += 1;
-        } else {
-            return verdict::Verdict::Refused(refusal::Refusal::Record { index: i });
-        }
-    }
-    verdict::Verdict::Accepted
 }
 
 // Whether the rooms are as long as asked for so many operations and tokens.
@@ -455,15 +306,15 @@ pub fn elongate(
     ensures { λ r. ⌜ Elongates (now (raw .entry)) (now (spans .entry)) (now (keys .entry)) (now (joins .entry)) (now (text .entry)) (now (operations .entry)) (now (spanned .entry)) (now (keyed .entry)) (now (joined .entry)) (now (operations .exit)) (now (spanned .exit)) (now (keyed .exit)) (now (joined .exit)) (verdictOn (now (raw .entry)) (now (spans .entry)) (now (keys .entry)) (now (joins .entry)) (now (text .entry)) (now (operations .entry)) (now (spanned .entry)) (now (keyed .entry)) (now (joined .entry))) r ⌝ }
 {
     let n = text.len();
-    if !raw_fits(raw, spans, keys, joins, n) {
+    if !raw_lists::raw_fits(raw, spans, keys, joins, n) {
         return Answer::Refused(refusal::Refusal::Size);
     }
     match verdict::check_text(text) {
         verdict::Verdict::Refused(refusal) => Answer::Refused(refusal),
-        verdict::Verdict::Accepted => match check_raws(raw, spans, keys, joins, n) {
+        verdict::Verdict::Accepted => match raw_lists::check_raws(raw, spans, keys, joins, n) {
             verdict::Verdict::Refused(refusal) => Answer::Refused(refusal),
             verdict::Verdict::Accepted => {
-                let tokens = claimed(raw);
+                let tokens = raw_lists::claimed(raw);
                 if !rooms_fit(
                     raw.len() / 3,
                     tokens,

@@ -11,16 +11,16 @@ use lib.Dec.{eqb}
 use Rattle.room.specs.Choice.{pick}
 use Rattle.records.specs.Tokens.{tokensFrom}
 use Rattle.sizes.specs.Texts.{total, inText, runText, runLent, insertedBy}
-use Rattle.elongate.specs.Raws.{Piece, Run, flatSpans}
+use Rattle.raw_lists.specs.Raws.{Piece, Run, flatSpans}
 use Rattle.elongate.specs.Elongated.{piecesLength, consumes, cookedFrom, allTokens}
 use Rattle.elongate.specs.Kept.{chosen}
-use Rattle.elongate.proofs.Pieces.{pieces-append}
+use Rattle.elongate.proofs.Lengths.{pieces-append}
 use Rattle.elongate.proofs.Laws.{keeps}
 use Rattle.edit_format.specs.Items.{Item, Keep, Drop, Add, added}
 use Rattle.edit_format.specs.Records.{size}
 use Rattle.edit_list.specs.Raws.{pointTokens, runOf, runsOf, listOf}
 use Rattle.edit_list.proofs.Back.{drop-past, left-at}
-use Rattle.elongate.proofs.Pieces.{length-spans}
+use Rattle.raw_lists.proofs.Pieces.{length-spans}
 use Rattle.merge_files.proofs.Edits.{spans-append}
 
 -- the kind of inserts

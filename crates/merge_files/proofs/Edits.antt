@@ -14,10 +14,10 @@ use Rattle.records.specs.declared.Operation.{Operation}
 use Rattle.records.specs.Operations.{operationsOf}
 use Rattle.records.proofs.Operations.{of-answered, length-answered}
 use Rattle.sizes.specs.Texts.{total, claimedBy}
-use Rattle.elongate.specs.Raws.{Piece, Run, flatSpans, flatKeys}
+use Rattle.raw_lists.specs.Raws.{Piece, Run, flatSpans, flatKeys}
+use Rattle.raw_lists.proofs.Pieces.{length-spans, length-keys}
 use Rattle.elongate.specs.Elongated.{cookedFrom, allTokens, consumes, piecesLength}
 use Rattle.elongate.proofs.Joining.{cooked-length}
-use Rattle.elongate.proofs.Pieces.{length-spans, length-keys}
 use Rattle.edit_format.specs.Items.{Item, texts}
 use Rattle.edit_format.specs.Reading.{readFile}
 use Rattle.edit_format.proofs.Accepts.{accepted-good}

@@ -19,7 +19,7 @@ use Rattle.sizes.specs.Sizes.{merging}
 use Rattle.shapes.specs.Accepted.{AcceptedList}
 use Rattle.checks.proofs.Accepted.{accepted-left, accepted-right}
 use Rattle.verdict.proofs.Bools.{and-left, and-right}
-use Rattle.elongate.specs.Raws.{Piece, flatSpans}
+use Rattle.raw_lists.specs.Raws.{Piece, flatSpans}
 use Rattle.elongate.specs.Elongated.{allTokens}
 use Rattle.elongate.proofs.Joining.{cooked-length}
 use Rattle.elongate.proofs.Laws.{no-longer}
@@ -45,7 +45,7 @@ use Rattle.edit_list.proofs.Runs.{runs-length}
 use Rattle.merge_files.specs.declared.Outcome.{Outcome}
 use Rattle.merge_files.specs.Program.{Result, refused, refusedKey, bytesOf, padding, tokensOf, lentOf, leftOf, rightOf, verdictOf, fileOf, judged, mergedOf, ofFiles, sized, utf8, resultOf, kindOf, outcomeOf, roomAfter, Written}
 use Rattle.merge_files.proofs.Merging.{number-most, merged-fine}
-use Rattle.elongate.proofs.Pieces.{length-spans}
+use Rattle.raw_lists.proofs.Pieces.{length-spans}
 use Rattle.merge_files.proofs.Edits.{spans-append}
 use Rattle.merge_files.proofs.Short.{file-most}
 use Rattle.merge_files.proofs.Added.{list-adds}

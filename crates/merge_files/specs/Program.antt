@@ -13,7 +13,7 @@ use Rattle.verdict.specs.declared.Verdict.{Verdict}
 use Rattle.verdict.specs.declared.Verdict.the-variants as W
 use Rattle.sizes.specs.Sizes.{merging}
 use Rattle.checks.specs.Lists.{listsVerdict}
-use Rattle.elongate.specs.Raws.{Piece, flatSpans, flatKeys}
+use Rattle.raw_lists.specs.Raws.{Piece, flatSpans, flatKeys}
 use Rattle.elongate.specs.Elongated.{cooked, cookedFrom, allTokens}
 use Rattle.utf8_read.specs.Reading.{good-end, points}
 use Rattle.edit_format.specs.Items.{Item, texts}

@@ -21,7 +21,7 @@ use Rattle.sizes.specs.Sizes.{merging, listFits}
 use Rattle.shapes.specs.Shapes.{runGood, recordsFrom}
 use Rattle.shapes.specs.Tiling.{tilingFrom, tilingOf, withinFrom}
 use Rattle.checks.specs.Lists.{listsVerdict}
-use Rattle.elongate.specs.Raws.{flatSpans, flatKeys}
+use Rattle.raw_lists.specs.Raws.{flatSpans, flatKeys}
 use Rattle.elongate.specs.Elongated.{parts, lastRight, firstLeft, joinedFrom, elongated, piecesLength, cookedFrom, allTokens}
 use Rattle.merging.specs.Lent.{Lent, keysOf, lengthsOf, sum}
 use Rattle.merging.specs.Operations.{opsFrom, recordsOf}

@@ -1,6 +1,6 @@
 -- `append` puts the tokens of a raw operation into their rooms.
 -- The parts that are copied are the tokens' numbers, by Pieces. Assumes nothing.
-use Rattle.elongate.proofs.Pieces.{spans-part, keys-part, joins-part}
+use Rattle.raw_lists.proofs.Pieces.{spans-part, keys-part, joins-part}
 use mathlib.Core.Path.{_∙_}
 use borrow.Author.Needs.{needs}
 use Rattle.elongate.proofs.append.Statement.{statement}

@@ -1,10 +1,10 @@
 -- `write` writes all operations and tokens.
 -- The loop keeps `Walking`; each way through a turn is a law of that file. Assumes nothing.
+use Rattle.raw_lists.specs.Raws.{rawsOf}
 use Rattle.elongate.proofs.Walking.{Walking, walk-starts, appends, lent-run, some-run, tokens-most, sums-most, walk-joins, walk-parts, parts-fits, ends-fits, ends-most, walk-ends}
 use Rattle.elongate.proofs.Walks.{walk-begins, took, took-run, skipped, ended}
 use Rattle.elongate.specs.Places.{kindOf, left, work, Lies}
 use Rattle.elongate.specs.Elongated.{arranged}
-use Rattle.elongate.specs.Raws.{rawsOf}
 use lib.ListN.{length}
 use native.Mathlib.Omega.{arith}
 use mathlib.Core.Path.{sym, _∙_}

@@ -1,10 +1,10 @@
 -- `text_by` gives the text of a raw operation's tokens, up to the cap.
 -- By its kind and whether its range is lent. Assumes nothing.
-use Rattle.elongate.proofs.Checking.{text-unknown, text-out, text-run, run-fits}
+use Rattle.raw_lists.proofs.Checking.{text-unknown, text-out, text-run, run-fits}
 use mathlib.Core.Path.{sym, _∙_}
 use borrow.Author.Needs.{needs}
-use Rattle.elongate.proofs.text_by.Statement.{statement}
-use Rattle.elongate.proofs.text_by.Tie as tie
+use Rattle.raw_lists.proofs.text_by.Statement.{statement}
+use Rattle.raw_lists.proofs.text_by.Tie as tie
 
 returns : tie.Need-returns
 returns c =

@@ -1,12 +1,12 @@
 -- `claimed` sums the tokens that a raw list claims, up to the cap.
 -- The loop keeps `Totals`, whose ways are in Checking. Assumes nothing.
-use Rattle.elongate.proofs.Checking.{Totals, totals-begin, totals-on, totals-end}
-use Rattle.elongate.specs.Verdicts.{claimedBy}
+use Rattle.raw_lists.proofs.Checking.{Totals, totals-begin, totals-on, totals-end}
+use Rattle.raw_lists.specs.Checks.{claimedBy}
 use mathlib.Core.Path.{refl}
 use Prim.Native.Nat.{_-_}
 use borrow.Author.Needs.{needs}
-use Rattle.elongate.proofs.claimed.Statement.{statement}
-use Rattle.elongate.proofs.claimed.Tie as tie
+use Rattle.raw_lists.proofs.claimed.Statement.{statement}
+use Rattle.raw_lists.proofs.claimed.Tie as tie
 
 abbrev Inv-sum : tie.InvT-sum
 Inv-sum raw count i₀ sum₀ i sum = Totals claimedBy raw count i sum

@@ -1,7 +1,7 @@
 -- The checks of a raw list: sums that stop at a cap, and its operations one after another.
 -- What is left, from where a loop stands, gives the answer of the whole. Assumes nothing.
-use Prim.Native.Nat.{ℕ, zero, suc, _+_, _-_, _/_, _≤_, _<_, min, zero-le}
-use mathlib.Core.Path.{_≡_, refl, _∙_, ap}
+use Prim.Native.Nat.{ℕ, _+_, _-_, _/_, _≤_, _<_, min, zero-le}
+use mathlib.Core.Path.{_≡_, _∙_}
 use mathlib.Core.Bool.{Bool, true, false}
 use mathlib.Core.List.{List, _∷_}
 use native.Mathlib.Omega.{arith}
@@ -16,22 +16,13 @@ use Rattle.sizes.specs.Texts.{runText}
 use Rattle.shapes.specs.Shapes.{runGood}
 use Rattle.verdict.proofs.Bools.{leb-same}
 use Rattle.sizes.proofs.Sums.{cap, cap-on, cap-test}
-use Rattle.elongate.specs.declared.Raw.{Raw}
-use Rattle.elongate.specs.Raws.{rawAt, rawsFrom, rawsOf, piecesLent}
-use Rattle.elongate.specs.Verdicts.{total, claimedBy, runLent, textBy, rawFits, isRaw, shapesFrom}
-use Rattle.elongate.proofs.Walks.{from-more, from-none}
+use Rattle.raw_lists.specs.declared.Raw.{Raw}
+use Rattle.raw_lists.specs.Raws.{rawAt, rawsFrom, rawsOf, piecesLent}
+use Rattle.raw_lists.specs.Checks.{total, claimedBy, runLent, textBy, rawFits, isRaw, shapesFrom}
+use Rattle.raw_lists.proofs.Lists.{from-more, from-none, length-raws}
 
 pub lent-test : (r : Raw) (lent : ℕ) → r .count ≤ lent → leb (r .first) (lent - r .count) ≡ leb (r .first + r .count) lent
 lent-test r lent h = leb-same (r .first) (lent - r .count) (r .first + r .count) lent (λ g. omega arith) (λ g. omega arith)
-
-length-from : (xs : List ℕ) (i k : ℕ) → length (rawsFrom xs i k) ≡ k
-unfolding rawsFrom
-length-from xs i zero = refl
-length-from xs i (suc k) = ap suc (length-from xs (i + 1) k)
-
-pub length-raws : (xs : List ℕ) → length (rawsOf xs) ≡ length xs / 3
-unfolding rawsOf
-length-raws xs = length-from xs 0 (length xs / 3)
 
 -- sums
 

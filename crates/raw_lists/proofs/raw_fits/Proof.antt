@@ -1,9 +1,9 @@
 -- `raw_fits` tells whether a raw list keeps its sizes.
 -- One law of Checking for each test. Assumes nothing.
-use Rattle.elongate.proofs.Checking.{size-text, size-operations, size-tokens, size-used}
+use Rattle.raw_lists.proofs.Checking.{size-text, size-operations, size-tokens, size-used}
 use borrow.Author.Needs.{needs}
-use Rattle.elongate.proofs.raw_fits.Statement.{statement}
-use Rattle.elongate.proofs.raw_fits.Tie as tie
+use Rattle.raw_lists.proofs.raw_fits.Statement.{statement}
+use Rattle.raw_lists.proofs.raw_fits.Tie as tie
 
 returns : tie.Need-returns
 returns c =

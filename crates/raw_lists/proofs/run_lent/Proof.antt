@@ -1,12 +1,12 @@
 -- `run_lent` tells whether a range of tokens is lent.
 -- A difference in place of a sum that might wrap. Assumes nothing.
-use Rattle.elongate.proofs.Checking.{lent-test}
+use Rattle.raw_lists.proofs.Checking.{lent-test}
 use borrow.Author.Tests.{lt-leb}
 use native.Mathlib.Omega.{arith}
 use mathlib.Core.Path.{sym}
 use Prim.Native.Nat.{_+_}
-use Rattle.elongate.proofs.run_lent.Statement.{statement}
-use Rattle.elongate.proofs.run_lent.Tie as tie
+use Rattle.raw_lists.proofs.run_lent.Statement.{statement}
+use Rattle.raw_lists.proofs.run_lent.Tie as tie
 
 returns : tie.Need-returns
 returns c = sym (lt-leb (c .before .before .args .r .first + c .before .before .args .r .count) (c .before .before .args .lent) (omega (arith, c .if1 .taken)))

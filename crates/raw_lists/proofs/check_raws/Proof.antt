@@ -1,11 +1,11 @@
 -- `check_raws` gives refusal 1 of a raw list.
 -- The loop keeps `Shaping`, whose ways are in Checking. Assumes nothing.
-use Rattle.elongate.proofs.Checking.{Shaping, shaping-begins, shaping-on, shaping-bad, shaping-ends}
+use Rattle.raw_lists.proofs.Checking.{Shaping, shaping-begins, shaping-on, shaping-bad, shaping-ends}
 use mathlib.Core.Path.{refl, sym, _∙_}
 use Prim.Native.Nat.{_-_}
 use borrow.Author.Needs.{needs}
-use Rattle.elongate.proofs.check_raws.Statement.{statement}
-use Rattle.elongate.proofs.check_raws.Tie as tie
+use Rattle.raw_lists.proofs.check_raws.Statement.{statement}
+use Rattle.raw_lists.proofs.check_raws.Tie as tie
 
 abbrev Inv-raws : tie.InvT-raws
 Inv-raws raw spans keys joins n count i₀ i = Shaping n spans keys joins raw count i

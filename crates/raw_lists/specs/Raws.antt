@@ -4,7 +4,7 @@ use mathlib.Core.Bool.{Bool}
 use mathlib.Core.List.{List, [], _∷_}
 use lib.ListN.{length, getD}
 use lib.Dec.{eqb}
-use Rattle.elongate.specs.declared.Raw.{Raw}
+use Rattle.raw_lists.specs.declared.Raw.{Raw}
 
 -- "A raw operation is a kind and its tokens, for all three kinds": the one at place i
 abbrev pub rawAt : List ℕ → ℕ → Raw

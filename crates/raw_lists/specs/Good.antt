@@ -3,8 +3,8 @@ use Prim.Native.Nat.{ℕ, _+_, _≤_, _<_}
 use mathlib.Core.List.{List, [], _∷_}
 use Rattle.records.specs.Tokens.{tokensFrom}
 use Rattle.shapes.specs.Accepted.{AllIn}
-use Rattle.elongate.specs.declared.Raw.{Raw}
-use Rattle.elongate.specs.Raws.{piecesLent}
+use Rattle.raw_lists.specs.declared.Raw.{Raw}
+use Rattle.raw_lists.specs.Raws.{piecesLent}
 
 -- "unknown kind", "raw operation with no tokens; token or range outside what was lent": not so
 pub record GoodRaw (n : ℕ) (spans keys joins : List ℕ) (r : Raw) : Type 0 where

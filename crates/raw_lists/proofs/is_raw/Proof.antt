@@ -1,10 +1,10 @@
 -- `is_raw` tells whether an operation is a raw operation.
 -- One law of Checking for each answer. Assumes nothing.
-use Rattle.elongate.proofs.Checking.{run-fits, raw-unknown, raw-empty, raw-out, raw-run}
+use Rattle.raw_lists.proofs.Checking.{run-fits, raw-unknown, raw-empty, raw-out, raw-run}
 use mathlib.Core.Path.{sym, _∙_}
 use borrow.Author.Needs.{needs}
-use Rattle.elongate.proofs.is_raw.Statement.{statement}
-use Rattle.elongate.proofs.is_raw.Tie as tie
+use Rattle.raw_lists.proofs.is_raw.Statement.{statement}
+use Rattle.raw_lists.proofs.is_raw.Tie as tie
 
 returns : tie.Need-returns
 returns c =

@@ -1,13 +1,13 @@
 -- `used_text` sums the text that a raw list uses, up to the cap.
 -- The loop keeps `Totals`, whose ways are in Checking. Assumes nothing.
-use Rattle.elongate.proofs.Checking.{Totals, totals-begin, totals-on, totals-end}
-use Rattle.elongate.specs.Verdicts.{textBy}
+use Rattle.raw_lists.proofs.Checking.{Totals, totals-begin, totals-on, totals-end}
+use Rattle.raw_lists.specs.Checks.{textBy}
 use Rattle.sizes.proofs.Sums.{cap-cap}
 use mathlib.Core.Path.{refl}
 use Prim.Native.Nat.{_-_}
 use borrow.Author.Needs.{needs}
-use Rattle.elongate.proofs.used_text.Statement.{statement}
-use Rattle.elongate.proofs.used_text.Tie as tie
+use Rattle.raw_lists.proofs.used_text.Statement.{statement}
+use Rattle.raw_lists.proofs.used_text.Tie as tie
 
 abbrev Inv-sum : tie.InvT-sum
 Inv-sum raw spans keys joins n count i₀ sum₀ i sum = Totals (textBy n spans keys joins) raw count i sum

@@ -1,8 +1,8 @@
 -- `claimed_by` gives the tokens that a raw operation claims.
 -- By its kind. Assumes nothing.
 use borrow.Author.Tests.{le-leb, lt-leb}
-use Rattle.elongate.proofs.claimed_by.Statement.{statement}
-use Rattle.elongate.proofs.claimed_by.Tie as tie
+use Rattle.raw_lists.proofs.claimed_by.Statement.{statement}
+use Rattle.raw_lists.proofs.claimed_by.Tie as tie
 
 returns : tie.Need-returns
 returns c = rw (le-leb _ _ (c .if1 .taken))

@@ -1,0 +1,3 @@
+pub mod Raws
+pub mod Checks
+pub mod Good
