@@ -2,7 +2,9 @@
 -- nothing.
 use Prim.Native.Nat.{ℕ, _+_, _-_, _*_, _/_, _≤_}
 use mathlib.Core.Path.{_≡_}
-use mathlib.Core.List.{List, _++_}
+use mathlib.Core.Bool.{Bool, false}
+use mathlib.Core.List.{List, [], _∷_, _++_}
+use lib.Dec.{leb}
 use lib.ListN.{length}
 use Rattle.room.specs.Placed.{answered}
 use Rattle.records.specs.declared.Cursor.{Cursor}
@@ -20,6 +22,11 @@ pub record Fits (t : Shift) : Type 0 where
 -- "the cursors lent": those of a side that have not moved
 abbrev pub leftOf : List ℕ → Progress → List Cursor
 leftOf xs p = cursorsFrom xs (p .next) (length xs / 2 - p .next)
+
+-- "those up to the operation's end in their own text move": whether any does, of cursors sorted by index
+unfoldable pub waits : ℕ → List Cursor → Bool
+waits end [] = false
+waits end (c ∷ cs) = leb (c .index) end
 
 -- "cursors, both counts together": the room has place for all that have not moved
 abbrev pub Spacious : List ℕ → Progress → List ℕ → Type 0

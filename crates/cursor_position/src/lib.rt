@@ -11,7 +11,7 @@ ghost use Prim.Native.Nat.{_+_, _≤_};
 ghost use mathlib.Core.List.{[]};
 ghost use lib.ListN.{length};
 ghost use Rattle.merging.specs.Cursors.{movedIndex, moved, behind, movedBy, behindOf, ended};
-ghost use Rattle.cursor_position.specs.Moves.{Fits, leftOf, Spacious, Went};
+ghost use Rattle.cursor_position.specs.Moves.{Fits, leftOf, waits, Spacious, Went};
 
 // The new index of a cursor that moves with an operation.
 pub fn moved_index(t: Shift, index: usize) -> usize
@@ -30,6 +30,19 @@ pub fn moved_index(t: Shift, index: usize) -> usize
 pub struct Progress {
     pub next: usize,
     pub count: usize,
+}
+
+// Whether a cursor of a side from p.next on stands at or before an operation's end. Where none does,
+// none moves.
+pub fn is_awaited(cursors: &[usize], p: Progress, end: usize) -> bool
+    ensures { λ r. ⌜ r ≡ waits end (leftOf (now (cursors .entry)) p) ⌝ }
+{
+    let next = p.next;
+    if next < cursors.len() / 2 {
+        let c = cursor_at(cursors, next);
+        return c.index <= end;
+    }
+    false
 }
 
 // The cursors of a side from p.next on move with an operation, up to its end, into the room from

@@ -10,6 +10,7 @@ use native.Mathlib.Decide.{decLt}
 use lib.Dec.{eqb}
 use lib.ListN.{length}
 use lib.Seq.{slice, length-slice}
+use Rattle.room.specs.Choice.{pick}
 use Rattle.overlap.specs.Overlap.{overlapOf}
 use Rattle.overlap.proofs.Overlaps.{overlaps}
 use Rattle.merging.specs.declared.Op.{Op}
@@ -29,7 +30,7 @@ use Rattle.operation.proofs.Places.{place-none, place-some}
 use Rattle.operation.proofs.Meeting.{lost-is, used-is, place-is, length-is, removed-is}
 use Rattle.merge.specs.declared.Meeting.{Meeting}
 use Rattle.turns.specs.Remembering.{Since}
-use Rattle.merge.specs.Meetings.{Shifted, Facing, Meets}
+use Rattle.merge.specs.Meetings.{placedIf, Shifted, Facing, Meets}
 
 -- the shared text starts in the merged text
 pub place-low : (w : List ℕ) (half fill : ℕ) (a : Op) (v : Last) (m : Met) (merged : ℕ) → placeBy w half fill a v m merged .start ≤ merged
@@ -157,21 +158,26 @@ module _ {spans keys w : List ℕ} {half fill table : ℕ} where
 
     -- the whole of it, from what the functions called ensure
     pub meets :
-        (m : Met) (t : Shift) (u : Last) (seen merged : ℕ) → m ≡ metBy keys w fill a v → Shifted spans w′ half fill a v m seen merged t
-        → u ≡ usedBy a v m fill → Meets spans keys w w′ half fill table a v seen merged (record { lost = m .lost; shift = t; last = u })
+        (m : Met) (t : Shift) (u : Last) (awaited : Bool) (seen own merged : ℕ) → own ≡ lengthOf (ofSpans spans) a → m ≡ metBy keys w fill a v
+        → Shifted spans w′ half fill a v m awaited seen own merged t → u ≡ usedBy a v m fill
+        → Meets spans keys w w′ half fill table a v awaited seen merged (record { lost = m .lost; shift = t; last = u })
     unfolding shiftOf
-    meets m t u seen merged em st eu =
+    meets m t u awaited seen own merged el em st eu =
         record {
           lost = λ lent es ek. ap (λ (x : Met). x .lost) (em ∙ ap (λ (k : List ℕ). metBy k w fill a v) (sym ek)) ∙ lost-is lent w half fill a v;
           most = subst (λ (x : Met). x .lost ≤ size a) (sym em) (lost-most keys w fill a v (f .keyed));
           shift = λ lent es ek. shifts lent es ek;
-          start = omega (arith, st .start-is, place-low w′ half fill a v m merged);
+          start = subst (λ (x : ℕ). x ≤ merged) (sym (st .start-is)) (low awaited);
           stays = λ lent es ek. stays lent es ek;
           fits = subst LastFits (sym eu) (used-fits fill a v m (f .fits));
           since = λ base h. subst (λ (x : Last). Since x base fill) (sym eu) (used-since fill a v m base (subst (λ (x : Met). Reaches v x fill) (sym em) (reaches a v f)) h);
           scratched = s;
         }
       where
+        low : (b : Bool) → pick b (placeBy w′ half fill a v m merged .start) merged ≤ merged
+        low true = place-low w′ half fill a v m merged
+        low false = omega arith
+
         -- the same meeting, over the room as it is now
         now-met : (lent : Lent) → lent .keys ≡ keys → m ≡ metBy (lent .keys) w′ fill a v
         now-met lent ek = em ∙ sym same-met ∙ ap (λ (k : List ℕ). metBy k w′ fill a v) (sym ek)
@@ -188,7 +194,7 @@ module _ {spans keys w : List ℕ} {half fill table : ℕ} where
             ∙ place-is lent w′ half fill a v merged
             ∙ ap (λ (x : Remembered). placeOf (rulesOf lent) a x merged) same-last
 
-        shifts : (lent : Lent) → lent .spans ≡ spans → lent .keys ≡ keys → t ≡ shiftOf (rulesOf lent) a (lastOf w half fill v) seen merged
+        shifts : (lent : Lent) → lent .spans ≡ spans → lent .keys ≡ keys → t ≡ placedIf awaited (shiftOf (rulesOf lent) a (lastOf w half fill v) seen merged)
         shifts lent es ek =
             let q = place lent ek in
             let z : removedOf (rulesOf (ofSpans spans)) a (m .lost) ≡ removedOf (rulesOf lent) a (lostOf (rulesOf lent) a (lastOf w half fill v)) =
@@ -196,8 +202,8 @@ module _ {spans keys w : List ℕ} {half fill table : ℕ} where
             ∙ removed-is lent a (m .lost)
             ∙ ap (removedOf (rulesOf lent) a) (ap (λ (x : Met). x .lost) (em ∙ ap (λ (k : List ℕ). metBy k w fill a v) (sym ek)) ∙ lost-is lent w half fill a v) in
             same-shift (st .seen-is)
-            (st .length-is ∙ ap (λ (x : List ℕ). lengthOf (ofSpans x) a) (sym es) ∙ length-is lent a)
+            (st .length-is ∙ el ∙ ap (λ (x : List ℕ). lengthOf (ofSpans x) a) (sym es) ∙ length-is lent a)
             (st .removed-is ∙ z)
-            (st .start-is ∙ ap (λ (p : Place). p .start) q)
-            (st .shared-is ∙ ap (λ (p : Place). p .shared) q)
+            (st .start-is ∙ ap (λ (p : Place). pick awaited (p .start) merged) q)
+            (st .shared-is ∙ ap (λ (p : Place). pick awaited (p .shared) 0) q)
             (st .merged-is)

@@ -36,12 +36,13 @@ use Rattle.turns.specs.Looking.{Looks}
 use Rattle.turns.specs.Remembering.{Began, Since, Kept, Rememberable, Remembers}
 use Rattle.turns.specs.Emitting.{Emits}
 use Rattle.cursor_position.specs.declared.Progress.{Progress}
-use Rattle.cursor_position.specs.Moves.{Fits, Went}
+use Rattle.cursor_position.specs.Moves.{waits, Fits, Went}
+use Rattle.cursor_position.proofs.Waiting.{none-moves, all-stay}
 use Rattle.merge.specs.declared.Meeting.{Meeting}
 use Rattle.merge.specs.declared.Side.{Side}
 use Rattle.merge.specs.declared.Totals.{Totals}
 use Rattle.merge.specs.declared.Turned.{Turned}
-use Rattle.merge.specs.Meetings.{Facing, Meets}
+use Rattle.merge.specs.Meetings.{placedIf, Facing, Meets}
 use Rattle.merge.specs.Turning.{Sound, memoryOf, cursorsLeft, taken, result, shiftBy, Turnable, Made, Turns}
 
 -- a retain is cut, never grown
@@ -136,14 +137,31 @@ own-away (Deleted o l) fill n b = tt
 own-away (Retained o l) fill n b = tt
 own-away (Inserted o from) fill n b = (b, inl (omega arith))
 
+-- where no cursor waits for it, the place of a shift is of no use
+module _ (a : Op) (t : Shift) (cs : List Cursor) where
+  pub moved-if : movedBy a (placedIf (waits (t .seen + t .length) cs) t) cs ≡ movedBy a t cs
+  moved-if = go (waits (t .seen + t .length) cs) refl
+    where
+      go : (b : Bool) → waits (t .seen + t .length) cs ≡ b → movedBy a (placedIf b t) cs ≡ movedBy a t cs
+      go true e = refl
+      go false e = none-moves a (placedIf false t) cs e ∙ sym (none-moves a t cs e)
+
+  pub behind-if : behindOf a (placedIf (waits (t .seen + t .length) cs) t) cs ≡ behindOf a t cs
+  behind-if = go (waits (t .seen + t .length) cs) refl
+    where
+      go : (b : Bool) → waits (t .seen + t .length) cs ≡ b → behindOf a (placedIf b t) cs ≡ behindOf a t cs
+      go true e = refl
+      go false e = all-stay a (placedIf false t) cs e ∙ sym (all-stay a t cs e)
+
 -- what was lent, as far as a turn sees it
 abbrev seenOf : List ℕ → List ℕ → Lent
 seenOf spans keys = record { original = []; inserted = []; spans = spans; keys = keys }
 
 -- what the functions that a turn calls ensure, b being what is taken
 pub record Parts (spans keys ops cs w w₁ w₂ : List ℕ) (half : ℕ) (own other : Side) (totals : Totals) (number : ℕ) (out out′ moved moved′ : List ℕ)
-    (b : Op) (tail : Next) (r : Meeting) (p : Progress) (m : Op) (kept : Memory) (place span : ℕ) (coming : Ahead) : Type 0 where
-  pub meets : Meets spans keys w w₁ half (other .memory .fill) (own .memory .fill) b (other .memory .last) (own .seen) (totals .merged) r
+    (b : Op) (tail : Next) (awaited : Bool) (r : Meeting) (p : Progress) (m : Op) (kept : Memory) (place span : ℕ) (coming : Ahead) : Type 0 where
+  pub awaits : awaited ≡ waits (own .seen + lengthOf (ofSpans spans) b) (cursorsLeft cs (own .cursor))
+  pub meets : Meets spans keys w w₁ half (other .memory .fill) (own .memory .fill) b (other .memory .last) awaited (own .seen) (totals .merged) r
   pub went : Went cs (movedBy b (r .shift) (cursorsLeft cs (own .cursor))) (behindOf b (r .shift) (cursorsLeft cs (own .cursor))) moved moved′
       (record { next = own .cursor; count = totals .cursors }) p
   pub rest : m ≡ shortened b (r .lost)
@@ -173,8 +191,11 @@ module _ {spans keys ops cs w : List ℕ} {half : ℕ} {a : Op} {own other : Sid
   pub taken-sound : Sound spans keys (taken a other)
   taken-sound = front-sound a (heads (other .ahead .next) []) (T .sound)
 
-  module _ {w₁ : List ℕ} {r : Meeting}
-      (M : Meets spans keys w w₁ half (other .memory .fill) (own .memory .fill) (taken a other) (other .memory .last) (own .seen) (totals .merged) r) where
+  pub end-most : own .seen + lengthOf (ofSpans spans) (taken a other) ≤ most
+  end-most = omega (arith, T .seen, front-length (ofSpans spans) a (heads (other .ahead .next) []))
+
+  module _ {w₁ : List ℕ} {awaited : Bool} {r : Meeting}
+      (M : Meets spans keys w w₁ half (other .memory .fill) (own .memory .fill) (taken a other) (other .memory .last) awaited (own .seen) (totals .merged) r) where
     module _ (lent : Lent) (es : lent .spans ≡ spans) (ek : lent .keys ≡ keys) where
       pub length-of : r .shift .length ≡ lengthOf lent (taken a other)
       unfolding shiftOf
@@ -194,6 +215,21 @@ module _ {spans keys ops cs w : List ℕ} {half : ℕ} {a : Op} {own other : Sid
       unfolding metOf
       result-of = ap (shortened (taken a other)) (M .lost lent es ek)
 
+      -- the shift is the definition's but for its place, where no cursor waits
+      module _ (e : awaited ≡ waits (own .seen + lengthOf (ofSpans spans) (taken a other)) (cursorsLeft cs (own .cursor))) where
+        shift-if : r .shift ≡ placedIf (waits ((shiftBy lent w half a own other (totals .merged)) .seen + (shiftBy lent w half a own other (totals .merged)) .length) (cursorsLeft cs (own .cursor))) (shiftBy lent w half a own other (totals .merged))
+        unfolding shiftOf
+        shift-if =
+            M .shift lent es ek
+            ∙ ap (λ (x : Bool). placedIf x (shiftBy lent w half a own other (totals .merged)))
+            (e ∙ ap (λ (n : ℕ). waits (own .seen + n) (cursorsLeft cs (own .cursor))) (ap (λ (x : List ℕ). lengthOf (ofSpans x) (taken a other)) (sym es) ∙ length-is lent (taken a other)))
+
+        pub moves : movedBy (taken a other) (r .shift) (cursorsLeft cs (own .cursor)) ≡ movedBy (taken a other) (shiftBy lent w half a own other (totals .merged)) (cursorsLeft cs (own .cursor))
+        moves = ap (λ (t : Shift). movedBy (taken a other) t (cursorsLeft cs (own .cursor))) shift-if ∙ moved-if (taken a other) (shiftBy lent w half a own other (totals .merged)) (cursorsLeft cs (own .cursor))
+
+        pub stays : behindOf (taken a other) (r .shift) (cursorsLeft cs (own .cursor)) ≡ behindOf (taken a other) (shiftBy lent w half a own other (totals .merged)) (cursorsLeft cs (own .cursor))
+        stays = ap (λ (t : Shift). behindOf (taken a other) t (cursorsLeft cs (own .cursor))) shift-if ∙ behind-if (taken a other) (shiftBy lent w half a own other (totals .merged)) (cursorsLeft cs (own .cursor))
+
     pub removed-most : r .shift .removed ≤ r .shift .length
     removed-most =
         omega (arith, length-of (seenOf spans keys) refl refl, removed-of (seenOf spans keys) refl refl, whole (seenOf spans keys) refl refl)
@@ -201,6 +237,15 @@ module _ {spans keys ops cs w : List ℕ} {half : ℕ} {a : Op} {own other : Sid
     pub length-most : r .shift .length ≤ lengthOf (ofSpans spans) a
     length-most =
         omega (arith, length-of (seenOf spans keys) refl refl, length-is (seenOf spans keys) (taken a other), front-length (ofSpans spans) a (heads (other .ahead .next) []))
+
+    -- the operation's end in its side's text
+    pub end-of : r .shift .seen + r .shift .length ≡ own .seen + lengthOf (ofSpans spans) (taken a other)
+    unfolding shiftOf
+    end-of = ap (λ (t : Shift). t .seen + t .length) (M .shift (seenOf spans keys) refl refl) ∙ ap (λ (n : ℕ). own .seen + n) (sym (length-is (seenOf spans keys) (taken a other)))
+
+    pub awaits-shift : (n : ℕ) → n ≡ lengthOf (ofSpans spans) (taken a other) → awaited ≡ waits (own .seen + n) (cursorsLeft cs (own .cursor))
+        → awaited ≡ waits (r .shift .seen + r .shift .length) (cursorsLeft cs (own .cursor))
+    awaits-shift n en e = e ∙ ap (λ (x : ℕ). waits x (cursorsLeft cs (own .cursor))) (ap (λ (k : ℕ). own .seen + k) en ∙ sym end-of)
 
     pub shift-fits : Fits (r .shift)
     unfolding shiftOf
@@ -237,8 +282,8 @@ module _ {spans keys ops cs w : List ℕ} {half : ℕ} {a : Op} {own other : Sid
 
   -- the turn, from its parts
   pub assembled :
-      {w₁ w₂ out′ moved′ : List ℕ} {tail : Next} {r : Meeting} {p : Progress} {m : Op} {kept : Memory} {place span : ℕ} {coming : Ahead}
-      → Parts spans keys ops cs w w₁ w₂ half own other totals number out out′ moved moved′ (taken a other) tail r p m kept place span coming
+      {w₁ w₂ out′ moved′ : List ℕ} {tail : Next} {awaited : Bool} {r : Meeting} {p : Progress} {m : Op} {kept : Memory} {place span : ℕ} {coming : Ahead}
+      → Parts spans keys ops cs w w₁ w₂ half own other totals number out out′ moved moved′ (taken a other) tail awaited r p m kept place span coming
       → tail ≡ tailBy a (heads (other .ahead .next) [])
       → Turns spans keys ops cs w w₂ half a own other totals number out out′ moved moved′
       (record {
@@ -252,7 +297,7 @@ module _ {spans keys ops cs w : List ℕ} {half : ℕ} {a : Op} {own other : Sid
               cursors = p .count;
             };
       })
-  assembled {w₁} {w₂} {out′} {moved′} {tail} {r} {p} {m} {kept} {place} {span} {coming} P et =
+  assembled {w₁} {w₂} {out′} {moved′} {tail} {awaited} {r} {p} {m} {kept} {place} {span} {coming} P et =
       record {
         looks = subst (λ (x : Next). Looks ops x (own .ahead .behind) (own .ahead .at) coming) et (P .looks);
         made = λ lent es ek. made lent es ek;
@@ -270,7 +315,7 @@ module _ {spans keys ops cs w : List ℕ} {half : ℕ} {a : Op} {own other : Sid
         same = P .remembers .kept .same ∙ M .scratched .same;
       }
     where
-      M : Meets spans keys w w₁ half (other .memory .fill) (own .memory .fill) (taken a other) (other .memory .last) (own .seen) (totals .merged) r
+      M : Meets spans keys w w₁ half (other .memory .fill) (own .memory .fill) (taken a other) (other .memory .last) awaited (own .seen) (totals .merged) r
       M = P .meets
 
       few : tokens m ≤ tokens (taken a other)
@@ -315,15 +360,14 @@ module _ {spans keys ops cs w : List ℕ} {half : ℕ} {a : Op} {own other : Sid
             last = P .remembers .last lent es ek ∙ ap₂ (rememberOf lent) own-same (is lent es ek);
             heard = heard-same ∙ M .stays lent es ek;
             seen = ap (λ (x : ℕ). own .seen + x) (length-of M lent es ek);
-            cursors = P .went .left ∙ ap (λ (t : Shift). behindOf (taken a other) t (cursorsLeft cs (own .cursor))) (M .shift lent es ek);
+            cursors = P .went .left ∙ stays M lent es ek (P .awaits);
             merged = ap (λ (x : ℕ). totals .merged + x) (text-of M lent es ek ∙ ap (lengthOf lent) (result-of M lent es ek));
             consumed = ap (λ (x : ℕ). totals .consumed + x) (P .spans-is ∙ ap spanOf (is lent es ek));
             operations = P .emits .count ∙ ap (λ (x : Op). totals .operations + length (emitted number (totals .consumed) x)) (is lent es ek);
             out-grows = λ outs d e f.
                 subst (λ (x : Op). out′ ≡ answered (flatOperations (recordsOf lent (outs ++ emitted number (totals .consumed) x))) d) (is lent es ek)
                 (P .emits .grows lent outs d (text-of M lent es ek ∙ ap (lengthOf lent) (sym (P .rest))) e f);
-            moved-count = P .went .count ∙ ap (λ (t : Shift). totals .cursors + length (movedBy (taken a other) t (cursorsLeft cs (own .cursor)))) (M .shift lent es ek);
+            moved-count = P .went .count ∙ ap (λ (cs′ : List Cursor). totals .cursors + length cs′) (moves M lent es ek (P .awaits));
             moved-grows = λ ms d e f.
-                subst (λ (t : Shift). moved′ ≡ answered (flatCursors (ms ++ movedBy (taken a other) t (cursorsLeft cs (own .cursor)))) d) (M .shift lent es ek)
-                (P .went .grows ms d e f);
+                subst (λ (cs′ : List Cursor). moved′ ≡ answered (flatCursors (ms ++ cs′)) d) (moves M lent es ek (P .awaits)) (P .went .grows ms d e f);
           }

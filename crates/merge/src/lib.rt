@@ -11,42 +11,55 @@ use turns::Memory;
 ghost use mathlib.Core.Path.{_≡_};
 ghost use Prim.Native.Nat.{_+_, _≤_};
 ghost use lib.ListN.{length};
-ghost use Rattle.operation.specs.Views.{LastFits, Lies, Placeable, size};
+ghost use Rattle.operation.specs.Views.{LastFits, Lies, Placeable, size, ofSpans};
+ghost use Rattle.merging.specs.Operations.{lengthOf};
 ghost use Rattle.merge.specs.Meetings.{Shifted, Facing, Meets};
 ghost use Rattle.order.specs.Readable.{ofText};
 ghost use Rattle.merge.specs.Turning.{Turnable, Turns};
 ghost use Rattle.merge.specs.Choosing.{NextReadable, choiceOf, isNone, takenBy, ofSide};
 ghost use Rattle.merge.specs.Sides.{ofNumber};
 ghost use Rattle.merging.specs.Cursors.{movedBy, behindOf};
-ghost use Rattle.cursor_position.specs.Moves.{Fits, leftOf, Spacious, Went};
+ghost use Rattle.cursor_position.specs.Moves.{Fits, leftOf, waits, Spacious, Went};
 ghost use Rattle.turns.specs.Looking.{listFrom, FirstFits, Looks};
 ghost use Rattle.merge.specs.Running.{Runnable, Ran};
 
-// What a turn does to the cursors of its side: a is taken, last is remembered of the other side,
-// which has filled the work room up to fill.
+// What a turn does to the cursors of its side: a is taken, of this length, last is remembered of the
+// other side, which has filled the work room up to fill. The place of an overlap is a sum over what is
+// remembered, so it is left out where no cursor waits for it.
 pub fn shift_of(
     spans: &[u32],
     a: Op,
     last: Last,
     fill: usize,
     met: Met,
+    awaited: bool,
     seen: usize,
+    length: usize,
     merged: usize,
     work: &[u32],
     half: usize,
 ) -> Shift
     requires { ⌜ Lies (now spans) a × (met .lost ≤ size a) × Placeable (now work) half fill last met ⌝ }
-    ensures { λ r. ⌜ Shifted (now (spans .entry)) (now (work .entry)) half fill a last met seen merged r ⌝ }
+    ensures { λ r. ⌜ Shifted (now (spans .entry)) (now (work .entry)) half fill a last met awaited seen length merged r ⌝ }
 {
-    let place = operation::place_of(a, last, met, fill, work, half, merged);
-    let length = operation::length_of(spans, a);
     let removed = operation::removed_of(spans, a, met.lost);
+    if awaited {
+        let place = operation::place_of(a, last, met, fill, work, half, merged);
+        return Shift {
+            seen,
+            length,
+            removed,
+            start: place.start,
+            shared: place.shared,
+            merged,
+        };
+    }
     Shift {
         seen,
         length,
         removed,
-        start: place.start,
-        shared: place.shared,
+        start: merged,
+        shared: 0,
         merged,
     }
 }
@@ -67,17 +80,31 @@ pub fn meet(
     a: Op,
     last: Last,
     fill: usize,
+    awaited: bool,
     seen: usize,
+    length: usize,
     merged: usize,
     work: &mut [u32],
     half: usize,
     table: usize,
 ) -> Meeting
-    requires { ⌜ Facing (now spans) (now keys) (now work) half fill table a last ⌝ }
-    ensures { λ r. ⌜ Meets (now (spans .entry)) (now (keys .entry)) (now (work .entry)) (now (work .exit)) half fill table a last seen merged r ⌝ }
+    requires { ⌜ Facing (now spans) (now keys) (now work) half fill table a last × (length ≡ lengthOf (ofSpans (now spans)) a) ⌝ }
+    ensures { λ r. ⌜ Meets (now (spans .entry)) (now (keys .entry)) (now (work .entry)) (now (work .exit)) half fill table a last awaited seen merged r ⌝ }
 {
     let met = operation::merge_operations_consuming_insert(keys, a, last, fill, work, table);
-    let shift = shift_of(spans, a, last, fill, met, seen, merged, work, half);
+    let shift = shift_of(
+        spans,
+        a,
+        last,
+        fill,
+        met,
+        awaited,
+        seen,
+        length,
+        merged,
+        work,
+        half,
+    );
     let left = operation::used_up(a, last, met, fill);
     Meeting {
         lost: met.lost,
@@ -110,23 +137,37 @@ pub struct Turned {
     pub totals: Totals,
 }
 
-// The cursors of the side of a number move with an operation.
+// Whether a cursor of the side of a number waits for an operation that ends there.
+fn is_side_awaited(number: usize, left: &[usize], right: &[usize], p: Progress, end: usize) -> bool
+    ensures { λ r. ⌜ r ≡ waits end (leftOf (ofNumber number (now (left .entry)) (now (right .entry))) p) ⌝ }
+{
+    if number == 0 {
+        return cursor_position::is_awaited(left, p, end);
+    }
+    cursor_position::is_awaited(right, p, end)
+}
+
+// The cursors of the side of a number move with an operation, if one waits for it.
 fn move_side(
     number: usize,
     a: Op,
     left: &[usize],
     right: &[usize],
+    awaited: bool,
     p: Progress,
     t: Shift,
     out: &mut [usize],
 ) -> Progress
-    requires { ⌜ Fits t × Spacious (ofNumber number (now left) (now right)) p (now out) ⌝ }
+    requires { ⌜ Fits t × Spacious (ofNumber number (now left) (now right)) p (now out) × (awaited ≡ waits (t .seen + t .length) (leftOf (ofNumber number (now left) (now right)) p)) ⌝ }
     ensures { λ r. ⌜ Went (ofNumber number (now (left .entry)) (now (right .entry))) (movedBy a t (leftOf (ofNumber number (now (left .entry)) (now (right .entry))) p)) (behindOf a t (leftOf (ofNumber number (now (left .entry)) (now (right .entry))) p)) (now (out .entry)) (now (out .exit)) p r ⌝ }
 {
-    if number == 0 {
-        return cursor_position::move_with(a, left, p, t, out);
+    if awaited {
+        if number == 0 {
+            return cursor_position::move_with(a, left, p, t, out);
+        }
+        return cursor_position::move_with(a, right, p, t, out);
     }
-    cursor_position::move_with(a, right, p, t, out)
+    p
 }
 
 // What is next on the side of a number.
@@ -178,13 +219,21 @@ pub fn turn(
     let split = operation::split_retain_before(a, next);
     let b = split.front;
     let tail = split.tail;
+    let length = operation::length_of(spans, b);
+    let p = Progress {
+        next: own.cursor,
+        count: totals.cursors,
+    };
+    let awaited = is_side_awaited(number, left_cursors, right_cursors, p, own.seen + length);
     let meeting = meet(
         spans,
         keys,
         b,
         last,
         heard.fill,
+        awaited,
         own.seen,
+        length,
         totals.merged,
         work,
         half,
@@ -197,10 +246,8 @@ pub fn turn(
         b,
         left_cursors,
         right_cursors,
-        Progress {
-            next: own.cursor,
-            count: totals.cursors,
-        },
+        awaited,
+        p,
         shift,
         moved,
     );
