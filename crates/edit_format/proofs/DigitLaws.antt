@@ -6,6 +6,7 @@ use mathlib.Core.List.{List, [], _∷_, _++_}
 use Prim.Native.Nat.{ℕ, zero, suc, _+_, _-_, _*_, _/_, _%_, _≤_, _<_, zero-le}
 use native.Mathlib.Nat.{div-lt-self, zero-div, div-eq-of-lt, mul-add-div-right, mul-add-mod-self-right, mod-eq-of-lt, mul-le-mul-right, add-zero}
 use native.Mathlib.Omega.{arith}
+use native.Mathlib.Decide.{decLt}
 use lib.Dec.{ltb, eqb}
 use borrow.Author.Tests.{ltb-true, ltb-false, eqb-true, lt-ltb, le-ltb, eq-eqb, ne-eqb}
 use Rattle.room.specs.Choice.{pick}
@@ -105,6 +106,32 @@ value-six b g h =
 pub value-high : (b : ℕ) → 103 ≤ b → valueOf b ≡ 16
 unfolding valueOf isDigit digitOf
 value-high b h = rw (le-ltb b 58 (omega arith), le-ltb (b - 87) 16 (omega arith), both-false (eqb (digit (b - 87)) b))
+
+-- what the code finds with no branch: a letter's last four bits are 9 less than its digit
+pub value-bits : (b : ℕ) → valueOf b < 16 → b % 16 + 9 * (b / 64) ≡ valueOf b
+value-bits b h = elim (decLt b 48) [
+  | yes a ↦ absurd (omega (arith, value-low b a))
+  | no a ↦ elim (decLt b 58) [
+    | yes c ↦ omega (arith, value-ten b (omega arith) c)
+    | no c ↦ elim (decLt b 97) [
+      | yes d ↦ absurd (omega (arith, value-gap b (omega arith) d))
+      | no d ↦ elim (decLt b 103) [
+        | yes e ↦ omega (arith, value-six b (omega arith) e)
+        | no e ↦ absurd (omega (arith, value-high b (omega arith)))
+      ]
+    ]
+  ]
+]
+
+-- from 0 to f, the bytes between the digits and the letters are those with more than 24
+pub value-between : (b : ℕ) → 48 ≤ b → b ≤ 102 → 24 < (b + 31) % 64 → valueOf b ≡ 16
+value-between b g h e = value-gap b (omega arith) (omega arith)
+
+pub value-writes : (b : ℕ) → 48 ≤ b → b ≤ 102 → (b + 31) % 64 ≤ 24 → valueOf b < 16
+value-writes b g h e = elim (decLt b 58) [
+  | yes a ↦ omega (arith, value-ten b g a)
+  | no a ↦ let c : 97 ≤ b = omega arith in omega (arith, value-six b c (omega arith))
+]
 
 -- a digit of base m is one of base 16 that is below m
 pub value-test : (m b : ℕ) → m ≤ 16 → ltb (valueOf b) m ≡ isDigit m b

@@ -1,6 +1,7 @@
 // The edit file's format: its definitions are in specs/ and its laws in proofs/. Here are the digits and the code points' rule,
 // which reader and writer share.
 ghost use mathlib.Core.Path.{_≡_};
+ghost use Prim.Native.Nat.{_<_};
 ghost use Rattle.edit_format.specs.Digits.{valueOf};
 ghost use Rattle.edit_format.specs.Items.{isPoint};
 
@@ -10,7 +11,17 @@ fn wide(b: u8) -> u32
     b as u32
 }
 
-// The digit that a byte writes in lower-case hex, and 16 for every other byte.
+// The digit that a byte writes, of a byte that writes one: the last four bits of a letter are 9 less.
+pub fn digit(b: u8) -> u32
+    requires { ⌜ valueOf b < 16 ⌝ }
+    ensures { λ r. ⌜ r ≡ valueOf b ⌝ }
+{
+    let x = wide(b);
+    (x & 15) + 9 * (x >> 6)
+}
+
+// The digit that a byte writes in lower-case hex, and 16 for every other byte. No branch tells 0 to 9 from a to f, since no processor
+// could foresee it: the bytes between them are those with more than 24 here.
 pub fn value(b: u8) -> u32
     ensures { λ r. ⌜ r ≡ valueOf b ⌝ }
 {
@@ -18,16 +29,13 @@ pub fn value(b: u8) -> u32
     if x < 48 {
         return 16;
     }
-    if x < 58 {
-        return x - 48;
-    }
-    if x < 97 {
+    if 102 < x {
         return 16;
     }
-    if x < 103 {
-        return x - 87;
+    if 24 < x + 31 & 63 {
+        return 16;
     }
-    16
+    digit(b)
 }
 
 // Refusal 4's rule.
