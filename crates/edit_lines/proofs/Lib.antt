@@ -1,3 +1,4 @@
 pub mod Leaves
 pub mod Begins
 pub mod Scanning
+pub mod Points

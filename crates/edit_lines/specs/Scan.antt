@@ -1,4 +1,5 @@
 -- What the reader's leaves find at a place of the bytes: a number, a line of one number, a code point. Assumes nothing.
+use mathlib.Core.Path.{_≡_}
 use Prim.Native.Nat.{ℕ, zero, suc, _+_, _*_, min}
 use mathlib.Core.Bool.{Bool, true, false}
 use mathlib.Core.List.{List, [], _∷_}
@@ -47,3 +48,7 @@ endedAt p Bad = NoPoint
 unfoldable pub pointAt : List ℕ → ℕ → Point
 unfolding scan endedAt
 pointAt p i = endedAt p (scan 16 i (drop i p))
+
+-- a code point stands at a place of p
+abbrev pub Stands : List ℕ → ℕ → Type 0
+Stands p i = pointAt p i ≡ NoPoint → ⊥

@@ -3,12 +3,18 @@ ghost use mathlib.Core.Path.{_≡_};
 ghost use Prim.Native.Nat.{_+_, _*_, _≤_, _<_};
 ghost use lib.ListN.{length, drop};
 ghost use Rattle.edit_format.specs.Tests.{begins};
-ghost use Rattle.edit_lines.specs.Scan.{cap, scan, closedAt, lineAt, endedAt, pointAt};
+ghost use Rattle.edit_lines.specs.Scan.{cap, scan, closedAt, lineAt, endedAt, pointAt, Stands};
 
 // A number and the place after it. A number above every size is held as CAP.
 pub enum Number {
     Value { value: u32, next: usize },
     Bad,
+}
+
+// The number of a code point that was judged, and the place after it.
+pub struct Judged {
+    pub value: u32,
+    pub next: usize,
 }
 
 // A code point and the place after the space or the LF that follows it.
@@ -135,10 +141,100 @@ fn ended(bytes: &[u8], n: Number) -> Point
     }
 }
 
+// The number of a code point where six bytes are left. A seventh digit makes it no code point, and so does a digit after 69631, which is
+// 10fff in hex; so the loop has six turns, which a compiler lays out one after the other.
+fn short_number(bytes: &[u8], at: usize) -> Number
+    requires { ⌜ at + 6 ≤ length (now bytes) ⌝ }
+    ensures { λ r. ⌜ pointAt (now (bytes .entry)) at ≡ endedAt (now (bytes .entry)) r ⌝ }
+{
+    let first = edit_format::value(bytes[at]);
+    if 16 <= first {
+        return Number::Bad;
+    }
+    let mut n = first;
+    let mut k: usize = 1;
+    'digits: while k < 6 {
+        let digit = edit_format::value(bytes[at + k]);
+        if 16 <= digit {
+            return Number::Value {
+                value: n,
+                next: at + k,
+            };
+        }
+        if n == 0 {
+            return Number::Bad;
+        }
+        if 69631 < n {
+            return Number::Bad;
+        }
+        n = n * 16 + digit;
+        k += 1;
+    }
+    Number::Value {
+        value: n,
+        next: at + 6,
+    }
+}
+
+// The number of a code point at any place.
+fn hex_number(bytes: &[u8], at: usize) -> Number
+    requires { ⌜ at ≤ length (now bytes) ⌝ }
+    ensures { λ r. ⌜ pointAt (now (bytes .entry)) at ≡ endedAt (now (bytes .entry)) r ⌝ }
+{
+    if bytes.len() - at < 6 {
+        return number_at(bytes, at, 16);
+    }
+    short_number(bytes, at)
+}
+
 // A code point of an add line.
 pub fn point_at(bytes: &[u8], at: usize) -> Point
     requires { ⌜ at ≤ length (now bytes) ⌝ }
     ensures { λ r. ⌜ r ≡ pointAt (now (bytes .entry)) at ⌝ }
 {
-    ended(bytes, number_at(bytes, at, 16))
+    ended(bytes, hex_number(bytes, at))
+}
+
+// The number of a code point that was judged: every byte from 0 on is a digit, and the first other ends it.
+fn judged_number(bytes: &[u8], at: usize) -> Judged
+    requires { ⌜ Stands (now bytes) at ⌝ }
+    ensures { λ r. ⌜ pointAt (now (bytes .entry)) at ≡ endedAt (now (bytes .entry)) (Number.Value (r .value) (r .next)) ⌝ }
+{
+    let mut n = edit_format::digit(bytes[at]);
+    let mut k: usize = 1;
+    'digits: while k < 6 {
+        let b = bytes[at + k];
+        if b < b'0' {
+            return Judged {
+                value: n,
+                next: at + k,
+            };
+        }
+        n = n * 16 + edit_format::digit(b);
+        k += 1;
+    }
+    Judged {
+        value: n,
+        next: at + 6,
+    }
+}
+
+// A code point that was judged.
+pub fn judged_at(bytes: &[u8], at: usize) -> Point
+    requires { ⌜ Stands (now bytes) at ⌝ }
+    ensures { λ r. ⌜ r ≡ pointAt (now (bytes .entry)) at ⌝ }
+{
+    let number = judged_number(bytes, at);
+    let point = number.value;
+    let next = number.next;
+    if bytes[next] == b'\n' {
+        return Point::Last {
+            point,
+            next: next + 1,
+        };
+    }
+    Point::More {
+        point,
+        next: next + 1,
+    }
 }

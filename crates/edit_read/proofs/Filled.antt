@@ -22,7 +22,7 @@ use Rattle.edit_format.proofs.RecordLaws.{length-records, records-snoc, added-c
 use Rattle.edit_format.proofs.ReadBack.{added-append}
 use Rattle.edit_format.proofs.Rests.{at-least, no-more}
 use Rattle.edit_read.specs.Judged.{Judged}
-use Rattle.edit_read.specs.Filled.{ItemPut, Fillable, recordsFound, textFound}
+use Rattle.edit_read.specs.Filled.{ItemPut, Accepting, Fillable, recordsFound, textFound}
 use Rattle.edit_read.specs.Answer.{answerOf, itemsLeft, textLeft, ReadInto}
 use Rattle.edit_read.specs.declared.Spot.the-variants.{Good as GoodSpot, Bad as BadSpot}
 use Rattle.edit_read.specs.declared.Verdict.the-variants.{Accepted as Yes, Refused as No}
@@ -96,6 +96,17 @@ module _ {p : List ℕ} {count : ℕ} {d₀ : List ℤ} {e₀ : List ℕ} {d : L
 
   here-left : i < count → found (open′ (f .head) (f .done)) (drop at p) ≡ Accepted (f .items)
   here-left g = rw (opened-more (f .head) (f .done) (omega (arith, f .here, f .many, f .counted))) at (f .left)
+
+  pub accepting : i < count → Accepting open′ p at start (length e)
+  accepting g = record {
+    head = f .head;
+    done = f .done;
+    items = f .items;
+    few = few g;
+    place = sym (f .place);
+    text = omega (arith, text-long, f .text);
+    left = here-left g;
+  }
 
   pub never-bad : {d′ : List ℤ} {e′ : List ℕ} → i < count → ItemPut open′ p at start (i * 3) d d′ e e′ BadSpot → ⊥
   never-bad g q = q .says (f .head) (f .done) (f .items) (few g) (sym (f .place)) (omega (arith, text-long, f .text)) (here-left g)

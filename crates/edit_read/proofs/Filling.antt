@@ -25,12 +25,12 @@ use Rattle.edit_format.proofs.NoBeginning.{never}
 use Rattle.edit_format.proofs.Finding.{key-on, key-off, open-as}
 use Rattle.edit_format.proofs.Rests.{one-more}
 use Rattle.edit_lines.proofs.Leaves.{at-byte}
-use Rattle.edit_lines.specs.Scan.{cap, lineAt, pointAt}
+use Rattle.edit_lines.specs.Scan.{cap, lineAt, pointAt, Stands}
 use Rattle.edit_lines.specs.declared.Number.{Number}
 use Rattle.edit_lines.specs.declared.Number.the-variants.{Value, Bad}
 use Rattle.edit_lines.specs.declared.Point.the-variants.{More, Last, Bad as NoPoint}
 use Rattle.edit_lines.proofs.Scanning.{Lined, lined, Pointed, pointed, crowded}
-use Rattle.edit_read.specs.Filled.{PointsPut, NumberIn, NumberPut, ItemIn, ItemPut}
+use Rattle.edit_read.specs.Filled.{PointsPut, NumberIn, NumberPut, ItemIn, ItemPut, Accepting}
 use Rattle.edit_read.specs.declared.Spot.{Spot}
 use Rattle.edit_read.specs.declared.Spot.the-variants.{Good as GoodSpot, Bad as BadSpot}
 use Rattle.edit_read.proofs.Adding.{inside}
@@ -107,6 +107,13 @@ module _ {p : List ℕ} {at start : ℕ} {d o : List ℕ} {place i : ℕ} (q : P
         );
   }
 
+  -- so a code point stands there
+  pub stands : Accepting (λ (h : Head). λ (is : List Item). gap (item h is adding) []) p at start (length d) → Stands p i
+  stands a e =
+      let r = q .reads (a .head) (a .done) (a .items) (a .few) (a .place) (a .text) (a .left) in
+      let t : Pointed (a .head) (a .done) (r .0) p i NoPoint = rw e at (pointed (a .head) (a .done) (a .few) (r .0) p i (roomy (a .head) (a .done) (a .few) (r .0) p i (r .3))) in
+      never (sym t ∙ r .3)
+
   pub fails : pointAt p i ≡ NoPoint → PointsPut p at start d o BadSpot
   fails e = record {
     inside = tt;
@@ -158,42 +165,66 @@ module _ (p : List ℕ) (k : Kind) (one : hexes k ≡ false) (at start place : �
   pub number-none : lineAt (kindKey k) p at ≡ Bad → NumberPut p k at start place d d BadSpot
   number-none e = record { says = λ h is js a g. never (sym (line h is Bad e) ∙ g) }
 
--- an add line of an accepted file
-module _ (p : List ℕ) (at start place : ℕ) (d : List ℤ) (e : List ℕ) where
+-- what stands at a place, and what is left there, as the line's kind and its key are read
+module _ (p : List ℕ) (at : ℕ) where
   to-points : (h : Head) (is : List Item) → begins addKey (drop at p) ≡ true → found (key (item h is adding) 0) (drop at p) ≡ found (gap (item h is adding) []) (drop (at + 4) p)
   unfolding keyOf kindKey
   to-points h is b = key-on (item h is adding) (drop at p) b ∙ rw (drop-drop 4 at p)
 
+  pub to-text : {start m : ℕ} → begins addKey (drop at p) ≡ true → Accepting (λ (h : Head). λ (is : List Item). key (item h is adding) 0) p at start m → Accepting (λ (h : Head). λ (is : List Item). gap (item h is adding) []) p (at + 4) start m
+  to-text b a = record {
+    head = a .head;
+    done = a .done;
+    items = a .items;
+    few = a .few;
+    place = a .place;
+    text = a .text;
+    left = sym (to-points (a .head) (a .done) b) ∙ a .left;
+  }
+
+  -- the kind by the line's first byte
+  same-line : (k : Kind) (h : Head) (is : List Item) → at < length p → kindOf (getD p at 0) ≡ k → found (open′ h is) (drop at p) ≡ found (key (item h is k) 0) (drop at p)
+  same-line k h is g f = rw (at-byte p at g) (open-as h is (getD p at 0) (drop (at + 1) p) ∙ rw f)
+
+  pub to-add : {start m : ℕ} → at < length p → kindOf (getD p at 0) ≡ adding → Accepting open′ p at start m → Accepting (λ (h : Head). λ (is : List Item). key (item h is adding) 0) p at start m
+  to-add g f a = record {
+    head = a .head;
+    done = a .done;
+    items = a .items;
+    few = a .few;
+    place = a .place;
+    text = a .text;
+    left = sym (same-line adding (a .head) (a .done) g f) ∙ a .left;
+  }
+
+-- an add line of an accepted file
+module _ (p : List ℕ) (at start place : ℕ) (d : List ℤ) (e : List ℕ) where
   pub add-put : {d′ : List ℤ} {e′ : List ℕ} {s j : ℕ} → begins addKey (drop at p) ≡ true → PointsPut p (at + 4) start e e′ (GoodSpot s j) → d′ ≡ placed d place (pos 1 ∷ pos start ∷ pos (s - start) ∷ []) → ItemPut (λ (h : Head). λ (is : List Item). key (item h is adding) 0) p at start place d d′ e e′ (GoodSpot s j)
   unfolding recordOf size texts
   add-put {d′} {e′} {s} {j} b q f = record {
     says = λ h is js x y z g.
-        let t = q .says h is js x y z (sym (to-points h is b) ∙ g) in
+        let t = q .says h is js x y z (sym (to-points p at h is b) ∙ g) in
         let w : s ≡ start + length (t .0) = t .1 in
         let l : s - start ≡ length (t .0) = omega arith in
         (Add (t .0), w, q .inside .2, f ∙ rw l, t .2 ∙ rw (append-nil (t .0)), t .3);
   }
 
   pub add-none : {e′ : List ℕ} → begins addKey (drop at p) ≡ true → PointsPut p (at + 4) start e e′ BadSpot → ItemPut (λ (h : Head). λ (is : List Item). key (item h is adding) 0) p at start place d d e e′ BadSpot
-  add-none b q = record { says = λ h is js x y z g. q .says h is js x y z (sym (to-points h is b) ∙ g) }
+  add-none b q = record { says = λ h is js x y z g. q .says h is js x y z (sym (to-points p at h is b) ∙ g) }
 
   pub add-off : begins addKey (drop at p) ≡ false → ItemPut (λ (h : Head). λ (is : List Item). key (item h is adding) 0) p at start place d d e e BadSpot
   unfolding keyOf kindKey
   add-off b = record { says = λ h is js x y z g. never (sym (key-off (item h is adding) (drop at p) b) ∙ g) }
-
-  -- the kind by the line's first byte
-  same-line : (k : Kind) (h : Head) (is : List Item) → at < length p → kindOf (getD p at 0) ≡ k → found (open′ h is) (drop at p) ≡ found (key (item h is k) 0) (drop at p)
-  same-line k h is g f = rw (at-byte p at g) (open-as h is (getD p at 0) (drop (at + 1) p) ∙ rw f)
 
   number-in : (d′ : List ℤ) (h : Head) (is js : List Item) (r : Spot) → NumberIn h is js p start place d d′ r → ItemIn h is js p start place d d′ e e r
   number-in d′ h is js (GoodSpot s j) (x, a, b, c, t, f, g) = (x, omega arith, c, f, rw t (sym (placed-none e start)), g)
   number-in d′ h is js BadSpot q = q
 
   pub as-number : (k : Kind) {d′ : List ℤ} {r : Spot} → at < length p → kindOf (getD p at 0) ≡ k → NumberPut p k at start place d d′ r → ItemPut open′ p at start place d d′ e e r
-  as-number k {d′} {r} g f q = record { says = λ h is js x y z w. number-in d′ h is js r (q .says h is js x (sym (same-line k h is g f) ∙ w)) }
+  as-number k {d′} {r} g f q = record { says = λ h is js x y z w. number-in d′ h is js r (q .says h is js x (sym (same-line p at k h is g f) ∙ w)) }
 
   pub as-add : {d′ : List ℤ} {e′ : List ℕ} {r : Spot} → at < length p → kindOf (getD p at 0) ≡ adding → ItemPut (λ (h : Head). λ (is : List Item). key (item h is adding) 0) p at start place d d′ e e′ r → ItemPut open′ p at start place d d′ e e′ r
-  as-add g f q = record { says = λ h is js x y z w. q .says h is js x y z (sym (same-line adding h is g f) ∙ w) }
+  as-add g f q = record { says = λ h is js x y z w. q .says h is js x y z (sym (same-line p at adding h is g f) ∙ w) }
 
   pub cut-off : length p ≤ at → ItemPut open′ p at start place d d e e BadSpot
   unfolding finish run

@@ -13,6 +13,16 @@ use Rattle.edit_format.specs.Records.{recordOf, recordsOf, size}
 use Rattle.edit_read.specs.declared.Spot.{Spot}
 use Rattle.edit_read.specs.declared.Spot.the-variants.{Good as GoodSpot, Bad as BadSpot}
 
+-- from a place on, what is left of the bytes is accepted in the state that stands there, with text that fits a room of m
+pub record Accepting (st : Head → List Item → State) (p : List ℕ) (at start m : ℕ) : Type 0 where
+  pub head : Head
+  pub done : List Item
+  pub items : List Item
+  pub few : length done < 8192
+  pub place : added done ≡ start
+  pub text : added items ≤ m
+  pub left : found (st head done) (drop at p) ≡ Accepted items
+
 -- a line of an accepted file is never bad
 abbrev pub PointsIn : Head → List Item → List Item → List ℕ → ℕ → List ℕ → List ℕ → Spot → Type 0
 PointsIn h is js p start d d′ (GoodSpot e j) =

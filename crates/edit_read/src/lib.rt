@@ -1,15 +1,15 @@
 // The reader of edit files: line by line from any bytes. All of a file is judged first, in one pass that writes nothing; an accepted
 // file's items and text then go into the rooms in a second pass over its item lines.
 ghost use mathlib.Core.Path.{_≡_};
-ghost use mathlib.Core.List.{List};
+ghost use mathlib.Core.List.{List, []};
 ghost use Prim.Native.Nat.{ℕ, _+_, _*_, _≤_, _<_};
 ghost use lib.ListN.{length, drop};
 ghost use Rattle.room.specs.Placed.{answered};
 ghost use Rattle.edit_format.specs.Items.{Item};
 ghost use Rattle.edit_format.specs.Written.{Head};
-ghost use Rattle.edit_format.specs.Reading.{State, key, item, keeping, dropping, adding, open′, readFile, believes};
+ghost use Rattle.edit_format.specs.Reading.{State, key, gap, item, keeping, dropping, adding, open′, readFile, believes};
 ghost use Rattle.edit_read.specs.Judged.{HeadRead, PointsRead, Holds, Within, ItemRead, Judging, Judged};
-ghost use Rattle.edit_read.specs.Filled.{recordsFound, textFound, PointsPut, NumberPut, ItemPut, Fillable};
+ghost use Rattle.edit_read.specs.Filled.{recordsFound, textFound, PointsPut, NumberPut, ItemPut, Accepting, Fillable};
 ghost use Rattle.edit_read.specs.Answer.{lengthsOf, ReadInto};
 use edit_lines::Number;
 use edit_lines::Point;
@@ -350,15 +350,15 @@ pub fn believed(bytes: &[u8], original: usize) -> bool
     }
 }
 
-// The code points of an add line into the text's room, from a place on.
+// The code points of an add line into the text's room, from a place on. All was judged, so that no digit is tested again.
 fn put_points(bytes: &[u8], at: usize, text: &mut [u32], start: usize) -> Spot
-    requires { ⌜ (at ≤ length (now bytes)) × (start ≤ length (now text)) ⌝ }
+    requires { ⌜ (at ≤ length (now bytes)) × (start ≤ length (now text)) × Accepting (λ (h : Head). λ (is : List Item). gap (item h is adding) []) (now bytes) at start (length (now text)) ⌝ }
     ensures { λ r. ⌜ PointsPut (now (bytes .entry)) at start (now (text .entry)) (now (text .exit)) r ⌝ }
 {
     let mut i = at;
     let mut place = start;
     'points: while place < text.len() {
-        match edit_lines::point_at(bytes, i) {
+        match edit_lines::judged_at(bytes, i) {
             Point::More { point, next } => {
                 text[place] = point;
                 place += 1;
@@ -416,7 +416,7 @@ fn put_add(
     text: &mut [u32],
     start: usize,
 ) -> Spot
-    requires { ⌜ (at ≤ length (now bytes)) × (place + 3 ≤ length (now items)) × (start ≤ length (now text)) ⌝ }
+    requires { ⌜ (at ≤ length (now bytes)) × (place + 3 ≤ length (now items)) × (start ≤ length (now text)) × Accepting (λ (h : Head). λ (is : List Item). key (item h is adding) 0) (now bytes) at start (length (now text)) ⌝ }
     ensures { λ r. ⌜ ItemPut (λ (h : Head). λ (is : List Item). key (item h is adding) 0) (now (bytes .entry)) at start place (now (items .entry)) (now (items .exit)) (now (text .entry)) (now (text .exit)) r ⌝ }
 {
     if edit_lines::has_key(bytes, at, b"add=") {
@@ -448,7 +448,7 @@ fn put_item(
     text: &mut [u32],
     start: usize,
 ) -> Spot
-    requires { ⌜ (at ≤ length (now bytes)) × (place + 3 ≤ length (now items)) × (start ≤ length (now text)) ⌝ }
+    requires { ⌜ (at ≤ length (now bytes)) × (place + 3 ≤ length (now items)) × (start ≤ length (now text)) × Accepting open′ (now bytes) at start (length (now text)) ⌝ }
     ensures { λ r. ⌜ ItemPut open′ (now (bytes .entry)) at start place (now (items .entry)) (now (items .exit)) (now (text .entry)) (now (text .exit)) r ⌝ }
 {
     if bytes.len() <= at {

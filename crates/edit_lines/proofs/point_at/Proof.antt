@@ -1,21 +1,18 @@
 -- Shown: `point_at` answers `pointAt`.
--- How: its steps are those of the definition.
-use mathlib.Core.Path.{ap, _∙_}
-use native.Mathlib.Omega.{arith}
-use Rattle.edit_lines.specs.Scan.{pointAt, endedAt}
+-- How: by the contracts of what it calls.
+use mathlib.Core.Path.{sym, _∙_}
 use borrow.Author.Needs.{needs}
 use Rattle.edit_lines.proofs.point_at.Statement.{statement}
 use Rattle.edit_lines.proofs.point_at.Tie as tie
 
-number-at-requires : tie.Need-number-at-requires
-number-at-requires c κs = (c .before .pre, omega arith, omega arith)
+hex-number-requires : tie.Need-hex-number-requires
+hex-number-requires c κs = search needs
 
 ended-requires : tie.Need-ended-requires
 ended-requires c κs = search needs
 
 returns : tie.Need-returns
-unfolding pointAt
-returns c = c .ended .ensures ∙ ap (endedAt _) (c .before .number-at .ensures)
+returns c = c .ended .ensures ∙ sym (c .before .hex-number .ensures)
 
 pub point-at-spec : {M : Type 1} → statement M
-point-at-spec = tie.close (tie.spec number-at-requires ended-requires returns)
+point-at-spec = tie.close (tie.spec hex-number-requires ended-requires returns)

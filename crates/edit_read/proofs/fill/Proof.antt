@@ -3,7 +3,7 @@
 use Prim.Native.Nat.{_-_}
 use mathlib.Core.Path.{sym, _∙_}
 use native.Mathlib.Omega.{arith}
-use Rattle.edit_read.proofs.Filled.{Filling, begins, items-long, text-long, record-fits, text-fits, never-bad, goes-on, items-all, text-all}
+use Rattle.edit_read.proofs.Filled.{Filling, begins, items-long, text-long, record-fits, text-fits, accepting, never-bad, goes-on, items-all, text-all}
 use borrow.Author.Needs.{needs}
 use Rattle.edit_read.proofs.fill.Statement.{statement}
 use Rattle.edit_read.proofs.fill.Tie as tie
@@ -21,7 +21,7 @@ mul-put-item : tie.Need-mul-put-item Inv-items μ-items
 mul-put-item c = omega (arith, record-fits (c .before .before .items .inv) (c .before .items-test .taken))
 
 put-item-requires : tie.Need-put-item-requires Inv-items μ-items
-put-item-requires c κs = (c .before .before .before .items .inv .next, record-fits (c .before .before .before .items .inv) (c .before .before .items-test .taken), text-fits (c .before .before .before .items .inv))
+put-item-requires c κs = (c .before .before .before .items .inv .next, record-fits (c .before .before .before .items .inv) (c .before .before .items-test .taken), text-fits (c .before .before .before .items .inv), accepting (c .before .before .before .items .inv) (c .before .before .items-test .taken))
 
 enum-known-end : tie.Need-enum-known-end Inv-items μ-items
 enum-known-end c = search needs

@@ -7,7 +7,7 @@ use mathlib.Core.Path.{sym, _∙_}
 use native.Mathlib.Omega.{arith}
 use Rattle.edit_format.specs.Written.{addKey}
 use Rattle.edit_lines.proofs.Begins.{long}
-use Rattle.edit_read.proofs.Filling.{add-put, add-none, add-off}
+use Rattle.edit_read.proofs.Filling.{to-text, add-put, add-none, add-off}
 use borrow.Author.Needs.{needs}
 use Rattle.edit_read.proofs.put_add.Statement.{statement}
 use Rattle.edit_read.proofs.put_add.Tie as tie
@@ -22,7 +22,7 @@ add-put-points : tie.Need-add-put-points
 add-put-points c = let w = rw length-drop at (long addKey _ (sym (c .before .has-key .ensures) ∙ c .if1 .taken)) in omega arith
 
 put-points-requires : tie.Need-put-points-requires
-put-points-requires c κs = let w = rw length-drop at (long addKey _ (sym (c .before .before .has-key .ensures) ∙ c .before .if1 .taken)) in (omega arith, c .before .before .before .before .before .before .pre .2)
+put-points-requires c κs = let w = rw length-drop at (long addKey _ (sym (c .before .before .has-key .ensures) ∙ c .before .if1 .taken)) in (omega arith, c .before .before .before .before .before .before .pre .2, to-text _ _ (sym (c .before .before .has-key .ensures) ∙ c .before .if1 .taken) (c .before .before .before .before .before .before .pre .3))
 
 enum-known-end : tie.Need-enum-known-end
 enum-known-end c = search needs

@@ -3,7 +3,7 @@
 use native.Mathlib.Omega.{arith}
 use borrow.Author.Tests.{eq-eqb, ne-eqb}
 use Rattle.edit_format.specs.Reading.{keeping, dropping, kindOf}
-use Rattle.edit_read.proofs.Filling.{cut-off, as-number, as-add}
+use Rattle.edit_read.proofs.Filling.{cut-off, to-add, as-number, as-add}
 use borrow.Author.Needs.{needs}
 use Rattle.edit_read.proofs.put_item.Statement.{statement}
 use Rattle.edit_read.proofs.put_item.Tie as tie
@@ -35,7 +35,8 @@ unfolding kindOf
 returns-3 c = as-number _ _ _ _ _ _ dropping (c .before .before .before .before .before .before .if1 .left) (rw (ne-eqb _ _ (c .before .before .before .before .if2 .left), eq-eqb _ _ (c .before .before .before .if3 .taken))) (c .before .put-drop .ensures)
 
 put-add-requires : tie.Need-put-add-requires
-put-add-requires c κs = c .before .before .before .before .before .before .before .before .pre
+unfolding kindOf
+put-add-requires c κs = (c .before .before .before .before .before .before .before .before .pre .0, c .before .before .before .before .before .before .before .before .pre .1, c .before .before .before .before .before .before .before .before .pre .2, to-add _ _ (c .before .before .before .before .before .if1 .left) (rw (ne-eqb _ _ (c .before .before .before .if2 .left), ne-eqb _ _ (c .before .before .if3 .left))) (c .before .before .before .before .before .before .before .before .pre .3))
 
 same-length-3 : tie.Need-same-length-3
 same-length-3 c = search needs

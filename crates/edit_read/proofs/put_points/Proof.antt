@@ -4,7 +4,7 @@ use Prim.Native.Nat.{_-_}
 use mathlib.Core.Path.{sym, _∙_}
 use native.Mathlib.Omega.{arith}
 use lib.ListN.{length, length-set}
-use Rattle.edit_read.proofs.Filling.{Putting, starts, goes-on, ends, fails, is-full}
+use Rattle.edit_read.proofs.Filling.{Putting, starts, stands, goes-on, ends, fails, is-full}
 use borrow.Author.Needs.{needs}
 use Rattle.edit_read.proofs.put_points.Statement.{statement}
 use Rattle.edit_read.proofs.put_points.Tie as tie
@@ -18,8 +18,8 @@ abbrev μ-points : tie.MeasureT-points
 points-holds : tie.Need-points-holds Inv-points μ-points
 points-holds c = starts _ _ _ _ (c .before .before .pre .0) (c .before .before .pre .1)
 
-point-at-requires : tie.Need-point-at-requires Inv-points μ-points
-point-at-requires c κs = c .before .points .inv .most
+judged-at-requires : tie.Need-judged-at-requires Inv-points μ-points
+judged-at-requires c κs = stands (c .before .points .inv) (c .before .before .before .before .pre .2)
 
 enum-known-point : tie.Need-enum-known-point Inv-points μ-points
 enum-known-point c = search needs
@@ -37,7 +37,7 @@ points-less : tie.Need-points-less Inv-points μ-points
 points-less c = omega (arith, c .before .before .before .before .before .points .inv .same)
 
 points-again : tie.Need-points-again Inv-points μ-points
-points-again c = goes-on (c .before .before .before .before .before .points .inv) (c .before .before .before .before .points-test .taken) (sym (c .before .before .before .point-at .ensures) ∙ c .before .point .given .1)
+points-again c = goes-on (c .before .before .before .before .before .points .inv) (c .before .before .before .before .points-test .taken) (sym (c .before .before .before .judged-at .ensures) ∙ c .before .point .given .1)
 
 enum-known-point-2 : tie.Need-enum-known-point-2 Inv-points μ-points
 enum-known-point-2 c = search needs
@@ -55,7 +55,7 @@ same-length : tie.Need-same-length Inv-points μ-points
 same-length c = simp length-set (c .before .before .before .before .before .points .inv .same)
 
 returns : tie.Need-returns Inv-points μ-points
-returns c = ends (c .before .before .before .before .before .points .inv) (c .before .before .before .before .points-test .taken) (sym (c .before .before .before .point-at .ensures) ∙ c .before .point2 .given .1)
+returns c = ends (c .before .before .before .before .before .points .inv) (c .before .before .before .before .points-test .taken) (sym (c .before .before .before .judged-at .ensures) ∙ c .before .point2 .given .1)
 
 enum-told : tie.Need-enum-told Inv-points μ-points
 enum-told c = search needs
@@ -64,7 +64,7 @@ same-length-2 : tie.Need-same-length-2 Inv-points μ-points
 same-length-2 c = c .before .before .before .before .points .inv .same
 
 returns-2 : tie.Need-returns-2 Inv-points μ-points
-returns-2 c = fails (c .before .before .before .before .points .inv) (sym (c .before .before .point-at .ensures) ∙ c .enum-told .given .1)
+returns-2 c = fails (c .before .before .before .before .points .inv) (sym (c .before .before .judged-at .ensures) ∙ c .enum-told .given .1)
 
 same-length-3 : tie.Need-same-length-3 Inv-points μ-points
 same-length-3 c = c .before .points .inv .same
@@ -79,7 +79,7 @@ put-points-spec =
     Inv-points
     μ-points
     points-holds
-    point-at-requires
+    judged-at-requires
     enum-known-point
     mul-text
     slice-write-text
