@@ -1,17 +1,21 @@
 -- Shown: how many items and code points a file of so many bytes can have.
 -- How: by the shortest line of each kind, over the file's written form. Assumes nothing.
 use mathlib.Core.Path.{_≡_, ap}
+use mathlib.Core.Bool.{Bool, true, false, not}
 use mathlib.Core.List.{List, [], _∷_, _++_}
 use Prim.Native.Nat.{ℕ, zero, suc, _+_, _*_, _/_, _%_, _≤_}
 use native.Mathlib.Omega.{arith}
 use lib.ListN.{length, length-append}
-use lib.Dec.{ltb}
+use lib.Dec.{leb, ltb}
+use borrow.Author.Tests.{leb-true}
+use Rattle.edit_format.specs.Tests.{both}
 use Rattle.edit_format.specs.Digits.{digit, digits, digitsIn}
-use Rattle.edit_format.specs.Items.{Item, Keep, Drop, Add, texts}
+use Rattle.edit_format.specs.Items.{Item, Keep, Drop, Add, texts, allPoints, itemsGood}
 use Rattle.edit_format.specs.Written.{keepKey, dropKey, addKey, endKey, numberLine, points, itemLine, itemLines, headLines, headOf, written}
 use Rattle.edit_format.specs.Reading.{readFile, Accepted}
 use Rattle.edit_format.specs.Records.{size}
-use Rattle.edit_format.proofs.Picks.{pick-elim}
+use Rattle.edit_format.proofs.Accepts.{accepted-good}
+use Rattle.edit_format.proofs.Picks.{pick-elim, both-0, both-1}
 use Rattle.edit_format.proofs.Canonical.{canonical}
 
 some-in : (f m n : ℕ) → 1 ≤ length (digitsIn f m n)
@@ -32,9 +36,9 @@ points-long (c ∷ []) = omega (arith, some-digits 16 c)
 points-long (c ∷ d ∷ cs) =
     omega (arith, some-digits 16 c, length-append (digits 16 c) (32 ∷ points (d ∷ cs)), points-long (d ∷ cs))
 
-number-long : (k : List ℕ) (n : ℕ) → length k ≤ length (numberLine k n)
+number-long : (k : List ℕ) (n : ℕ) → length k + 2 ≤ length (numberLine k n)
 unfolding numberLine
-number-long k n = omega (arith, length-append (k ++ digits 10 n) (10 ∷ []), length-append k (digits 10 n))
+number-long k n = omega (arith, length-append (k ++ digits 10 n) (10 ∷ []), length-append k (digits 10 n), some-digits 10 n)
 
 item-long : (x : Item) → 4 + 2 * size x ≤ length (itemLine x)
 unfolding itemLine size
@@ -55,15 +59,45 @@ items-long [] = omega arith
 items-long (x ∷ is) =
     omega (arith, item-long x, items-long is, texts-cons x is, length-append (itemLine x) (itemLines is))
 
-written-long : (is : List Item) → 4 * length is + 2 * length (texts is) ≤ length (written is)
-unfolding written
-written-long is =
+-- an item that a file can hold is a line of six bytes or more
+good-long : (k : Bool) (is : List Item) → itemsGood k is ≡ true → 6 * length is ≤ length (itemLines is)
+unfolding itemLines itemLine itemsGood size
+good-long k [] g = omega arith
+good-long k (Keep n ∷ is) g =
     omega (
       arith,
-      items-long is,
+      number-long keepKey n,
+      length-append (itemLine (Keep n)) (itemLines is),
+      good-long true is (both-1 (both (leb 1 n) (not k)) (itemsGood true is) g),
+    )
+good-long k (Drop n ∷ is) g =
+    omega (
+      arith,
+      number-long dropKey n,
+      length-append (itemLine (Drop n)) (itemLines is),
+      good-long false is (both-1 (leb 1 n) (itemsGood false is) g),
+    )
+good-long k (Add cs ∷ is) g =
+    let a = both-0 (both (leb 1 (length cs)) (allPoints cs)) (itemsGood false is) g in
+    omega (
+      arith,
+      leb-true 1 (length cs) (both-0 (leb 1 (length cs)) (allPoints cs) a),
+      item-long (Add cs),
+      length-append (itemLine (Add cs)) (itemLines is),
+      good-long false is (both-1 (both (leb 1 (length cs)) (allPoints cs)) (itemsGood false is) g),
+    )
+
+lines-most : (is : List Item) → length (itemLines is) ≤ length (written is)
+unfolding written
+lines-most is =
+    omega (
+      arith,
       length-append (headLines (headOf is) ++ itemLines is) (numberLine endKey (length is)),
       length-append (headLines (headOf is)) (itemLines is),
     )
 
 pub file-long : (p : List ℕ) {is : List Item} → readFile p ≡ Accepted is → 4 * length is + 2 * length (texts is) ≤ length p
-file-long p {is} e = omega (arith, written-long is, ap length (canonical p e))
+file-long p {is} e = omega (arith, items-long is, lines-most is, ap length (canonical p e))
+
+pub file-items : (p : List ℕ) {is : List Item} → readFile p ≡ Accepted is → 6 * length is ≤ length p
+file-items p {is} e = omega (arith, good-long false is (accepted-good p e .each), lines-most is, ap length (canonical p e))

@@ -28,7 +28,7 @@ use Rattle.edit_read.specs.declared.FileRead.the-variants.{Counts, Refused as N
 use Rattle.edit_list.specs.declared.Sizes.{Sizes}
 use Rattle.edit_list.specs.Raws.{runsOf, itemsIn}
 use Rattle.edit_list.specs.Steps.{runsIn, ItemsLent, Fits, Filled, Readable, ItemsRead, Makeable, RawsMade}
-use Rattle.edit_list.proofs.Bounds.{file-long}
+use Rattle.edit_list.proofs.Bounds.{file-long, file-items}
 use Rattle.edit_list.proofs.Decoding.{edits}
 use Rattle.edit_list.proofs.Runs.{runs-length, runs-size, runs-tokens, runs-good, runs-small}
 
@@ -47,8 +47,8 @@ rest-placed d t s at h e =
     ∙ sym (append-assoc (take at d) s (drop (at + length s) d))
 
 module _ (file : List ℕ) (is : List Item) (a : readFile file ≡ Accepted is) (short : length file ≤ 2048) where
-  pub few : length is ≤ 512
-  few = omega (arith, file-long file a)
+  pub few : length is ≤ 341
+  few = omega (arith, file-items file a)
 
   pub little : length (texts is) ≤ 1024
   little = omega (arith, file-long file a)
@@ -61,7 +61,7 @@ module _ (file : List ℕ) (is : List Item) (a : readFile file ≡ Accepted is) 
 
   -- reading
 
-  module _ (at : ℕ) (text : List ℕ) (items : List ℤ) (ft : at + 1024 ≤ length text) (fi : 1536 ≤ length items) where
+  module _ (at : ℕ) (text : List ℕ) (items : List ℤ) (ft : at + 1024 ≤ length text) (fi : 1023 ≤ length items) where
     answers : answerOf (readFile file) (length items) (length (midOf at (length text - at) text)) ≡ Counts (length is) (length (texts is))
     unfolding answerOf
     answers =
@@ -91,7 +91,7 @@ module _ (file : List ℕ) (is : List Item) (a : readFile file ≡ Accepted is) 
 
   -- the raw list
 
-  module _ (at : ℕ) (text raw s k : List ℕ) (ft : at + 1024 ≤ length text) (most : length text ≤ 131070) (fr : 1536 ≤ length raw)
+  module _ (at : ℕ) (text raw s k : List ℕ) (ft : at + 1024 ≤ length text) (most : length text ≤ 131070) (fr : 1023 ≤ length raw)
       (fs : 2048 ≤ length s) (fk : 1024 ≤ length k)
       {text′ : List ℕ} {items items′ : List ℤ} {z : Sizes} (h : ItemsRead is at text text′ items items′ z) where
     text-long : length text′ ≡ length text

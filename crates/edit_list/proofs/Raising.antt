@@ -138,7 +138,7 @@ module _ {raw s k text : List ℕ} {first : ℕ} {o s₀ k₀ : List ℕ} (f : E
 -- `list_of`
 
 module _ {file : List ℕ} {at first : ℕ} {text o s₀ k₀ : List ℕ} (p : Listable file at first text o s₀ k₀) {raw s k : List ℕ}
-    (lr : length raw ≡ 1536) (ls : length s ≡ 2048) (lk : length k ≡ 1024)
+    (lr : length raw ≡ 1023) (ls : length s ≡ 2048) (lk : length k ≡ 1024)
     {text′ raw′ s′ k′ : List ℕ} {z : Made} (h : RawsMade (itemsIn (readFile file)) at text text′ raw s k raw′ s′ k′ z) where
   abbrev is : List Item
   is = itemsIn (readFile file)
@@ -152,10 +152,10 @@ module _ {file : List ℕ} {at first : ℕ} {text o s₀ k₀ : List ℕ} (p : L
   tokens-most : length (allTokens rs) ≤ 1024
   tokens-most = tokens-few file is (p .accepted) (p .short) at
 
-  items-few : length is ≤ 512
+  items-few : length is ≤ 341
   items-few = few file is (p .accepted) (p .short)
 
-  raw-long : length raw′ ≡ 1536
+  raw-long : length raw′ ≡ 1023
   raw-long = ap length (h .raws .in-raw) ∙ same-room (flatRaws 0 rs) raw (omega (arith, length-raws 0 rs, length-is, items-few)) ∙ lr
 
   pub end-most : z .items * 3 ≤ length raw′
@@ -202,7 +202,7 @@ module _ {file : List ℕ} {at first : ℕ} {text o s₀ k₀ : List ℕ} (p : L
         in-joins = omega (arith, c, tokens-most);
       } in
       let q : pointsFrom text′ 0 ≡ Fine = rw (h .text-is) (good-text text at is (p .good) (good file is (p .accepted) (p .short) .each)) in
-      let g = runs-good (length text′) false at is (good file is (p .accepted) (p .short) .each) (omega (arith, sums, text-long, p .long))
+      let g = runs-good (length text′) false at is (good file is (p .accepted) (p .short) .each) (omega (arith, text-long, p .long))
       (omega (arith, added-is, tm, text-long, p .text-fits)) in
       record {
         fine = rw raws-are (passes (rawList 0 rs) s′ k′ joinable text′ (length o) (length s₀ - first * 2) (length k₀ - first) 1024 sized q (rw runs-are g));

@@ -50,7 +50,7 @@ unfolding pointTokens Joins
 points-join a [] = tt
 points-join a (c ∷ cs) = (refl, points-join (a + 1) cs)
 
-points-in : (a n : ℕ) (cs : List ℕ) → a + length cs ≤ n → PiecesIn n (pointTokens a cs)
+pub points-in : (a n : ℕ) (cs : List ℕ) → a + length cs ≤ n → PiecesIn n (pointTokens a cs)
 unfolding pointTokens PiecesIn
 points-in a n [] h = tt
 points-in a n (c ∷ cs) h = (omega arith, (omega arith, points-in (a + 1) n cs (omega arith)))

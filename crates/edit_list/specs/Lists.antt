@@ -9,21 +9,25 @@ use Rattle.verdict.specs.declared.Verdict.the-variants.{Accepted as Fine}
 use Rattle.verdict.specs.Points.{pointsFrom}
 use Rattle.raw_lists.specs.Raws.{flatSpans, flatKeys}
 use Rattle.elongate.specs.Elongated.{cookedFrom, allTokens}
-use Rattle.edit_format.specs.Items.{Item, texts}
+use Rattle.edit_format.specs.Items.{Item, kept, dropped, texts}
 use Rattle.edit_format.specs.Reading.{readFile, Accepted}
 use Rattle.edit_list.specs.declared.Listed.{Listed}
 use Rattle.edit_list.specs.Raws.{listOf, itemsIn}
 
+-- "Keep plus drop is original": how much of the original a file's items use
+abbrev pub usedBy : List ℕ → ℕ
+usedBy file = kept (itemsIn (readFile file)) + dropped (itemsIn (readFile file))
+
 -- "at most 2,048 bytes each"; a text that is long enough for every keep and drop, and rooms for all that so short a file can hold: its items
--- are at most 512, its code points and its tokens at most 1,024
+-- are at most 341, its code points and its tokens at most 1,024
 pub record Listable (file : List ℕ) (at first : ℕ) (text operations spans keys : List ℕ) : Type 0 where
   pub accepted : readFile file ≡ Accepted (itemsIn (readFile file))
   pub short : length file ≤ 2048
   pub good : pointsFrom text 0 ≡ Fine
-  pub long : 65535 ≤ length text
+  pub long : usedBy file ≤ length text
   pub most : length text ≤ 131070
   pub text-fits : at + 1024 ≤ length text
-  pub operations-fit : 3072 ≤ length operations
+  pub operations-fit : 2046 ≤ length operations
   pub spans-fit : (first + 1024) * 2 ≤ length spans
   pub keys-fit : first + 1024 ≤ length keys
 
@@ -37,6 +41,6 @@ pub record Lists (is : List Item) (at first : ℕ) (text text′ operations oper
   pub many-tokens : r .tokens ≡ length (allTokens (listOf at is))
   pub many-points : r .text ≡ length (texts is)
   -- bounds that callers need
-  pub operations-most : r .operations ≤ 512
+  pub operations-most : r .operations ≤ 341
   pub tokens-most : r .tokens ≤ 1024
   pub points-most : r .text ≤ 1024

@@ -96,7 +96,7 @@ pub record Readable (file : List ℕ) (at : ℕ) (text : List ℕ) (items : List
   pub accepted : readFile file ≡ Accepted (itemsIn (readFile file))
   pub short : length file ≤ 2048
   pub text-fits : at + 1024 ≤ length text
-  pub items-fit : 1536 ≤ length items
+  pub items-fit : 1023 ≤ length items
 
 pub record ItemsRead (is : List Item) (at : ℕ) (text text′ : List ℕ) (items items′ : List ℤ) (r : Sizes) : Type 0 where
   pub text-is : text′ ≡ placed text at (texts is)
@@ -110,7 +110,7 @@ pub record Makeable (file : List ℕ) (at : ℕ) (text raw s k : List ℕ) : Typ
   pub short : length file ≤ 2048
   pub text-fits : at + 1024 ≤ length text
   pub most : length text ≤ 131070
-  pub in-raw : 1536 ≤ length raw
+  pub in-raw : 1023 ≤ length raw
   pub in-spans : 2048 ≤ length s
   pub in-keys : 1024 ≤ length k
 

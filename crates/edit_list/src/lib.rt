@@ -165,7 +165,7 @@ fn raws_of(
     requires { ⌜ Makeable (now file) at (now text) (now raw) (now spans) (now keys) ⌝ }
     ensures { λ r. ⌜ RawsMade (itemsIn (readFile (now (file .entry)))) at (now (text .entry)) (now (text .exit)) (now (raw .entry)) (now (spans .entry)) (now (keys .entry)) (now (raw .exit)) (now (spans .exit)) (now (keys .exit)) r ⌝ }
 {
-    let mut items = [0i64; 1536];
+    let mut items = [0i64; 1023];
     let sizes = read_at(file, at, text, &mut items);
     let tokens = fill(&items, sizes.items, sizes.text, text, at, raw, spans, keys);
     Made {
@@ -245,7 +245,7 @@ pub fn list_of(
     requires { ⌜ Listable (now file) at first (now text) (now operations) (now spans) (now keys) ⌝ }
     ensures { λ r. ⌜ Lists (itemsIn (readFile (now (file .entry)))) at first (now (text .entry)) (now (text .exit)) (now (operations .entry)) (now (operations .exit)) (now (spans .entry)) (now (spans .exit)) (now (keys .entry)) (now (keys .exit)) r ⌝ }
 {
-    let mut raw = [0usize; 1536];
+    let mut raw = [0usize; 1023];
     let mut raw_spans = [0u32; 2048];
     let mut raw_keys = [0u32; 1024];
     let made = raws_of(file, at, text, &mut raw, &mut raw_spans, &mut raw_keys);

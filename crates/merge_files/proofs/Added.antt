@@ -3,7 +3,7 @@
 use Prim.Native.Nat.{ℕ, _+_, _*_, _≤_}
 use mathlib.Core.Path.{_≡_, refl, sym, _∙_, ap}
 use mathlib.Core.Bool.{Bool, true, false, _&&_}
-use mathlib.Core.List.{List, [], _∷_, _++_, append-assoc}
+use mathlib.Core.List.{List, [], _∷_, _++_, append-assoc, append-nil}
 use mathlib.Core.Logic.{inl}
 use native.Mathlib.Omega.{arith}
 use lib.ListN.{length, drop, getD}
@@ -16,15 +16,15 @@ use Rattle.elongate.specs.Elongated.{piecesLength, consumes, cookedFrom, allTok
 use Rattle.elongate.specs.Kept.{chosen}
 use Rattle.elongate.proofs.Lengths.{pieces-append}
 use Rattle.elongate.proofs.Laws.{keeps}
-use Rattle.edit_format.specs.Items.{Item, Keep, Drop, Add, added}
+use Rattle.edit_format.specs.Items.{Item, Keep, Drop, Add, added, texts}
 use Rattle.edit_format.specs.Records.{size}
 use Rattle.edit_list.specs.Raws.{pointTokens, runOf, runsOf, listOf}
 use Rattle.edit_list.proofs.Back.{drop-past, left-at}
-use Rattle.raw_lists.proofs.Pieces.{length-spans}
-use Rattle.merge_files.proofs.Edits.{spans-append}
+use Rattle.raw_lists.proofs.Pieces.{length-spans, spans-append}
+use Rattle.merge_files.specs.Program.{tokensOf, leftOf, rightOf}
 
 -- the kind of inserts
-abbrev inserts : ℕ → Bool
+abbrev pub inserts : ℕ → Bool
 inserts k = eqb k 1
 
 picked : (b : Bool) (n m : ℕ) → n ≤ m → pick b n 0 ≤ m
@@ -85,7 +85,7 @@ runs-added at (Add cs ∷ is) =
       points-size at cs,
     )
 
-pub list-adds : (n : ℕ) (spans keys : List ℕ) (is : List Item) (at place f : ℕ) (q : List ℕ) → drop (f * 2) spans ≡ flatSpans (allTokens (listOf at is)) ++ q
+list-adds : (n : ℕ) (spans keys : List ℕ) (is : List Item) (at place f : ℕ) (q : List ℕ) → drop (f * 2) spans ≡ flatSpans (allTokens (listOf at is)) ++ q
     → total (insertedBy n spans keys) (cookedFrom (listOf at is) place f) ≤ added is
 unfolding listOf
 list-adds n spans keys is at place f q e =
@@ -95,3 +95,26 @@ list-adds n spans keys is at place f q e =
       ap piecesLength (keeps inserts (inl refl) (runsOf at is)),
       runs-added at is,
     )
+
+-- the tokens of both lists, left before right
+module _ (ls rs : List Item) where
+  abbrev lt : List Piece
+  lt = allTokens (listOf 0 ls)
+
+  abbrev rt : List Piece
+  rt = allTokens (listOf (length (texts ls)) rs)
+
+  pub left-stand : flatSpans (tokensOf ls rs) ≡ flatSpans lt ++ flatSpans rt
+  unfolding tokensOf
+  left-stand = spans-append lt rt
+
+  pub right-stand : drop (length lt * 2) (flatSpans (tokensOf ls rs)) ≡ flatSpans rt ++ []
+  right-stand =
+      let e : flatSpans (tokensOf ls rs) ≡ flatSpans lt ++ (flatSpans rt ++ []) = left-stand ∙ ap (λ (z : List ℕ). flatSpans lt ++ z) (sym (append-nil (flatSpans rt))) in
+      drop-past 0 (length lt * 2) (length lt * 2) (flatSpans (tokensOf ls rs)) (flatSpans lt) (flatSpans rt ++ []) e (sym (length-spans lt)) (omega arith)
+
+  pub left-adds : (n : ℕ) (keys : List ℕ) → total (insertedBy n (flatSpans (tokensOf ls rs)) keys) (leftOf ls) ≤ added ls
+  left-adds n keys = list-adds n (flatSpans (tokensOf ls rs)) keys ls 0 0 0 (flatSpans rt) left-stand
+
+  pub right-adds : (n : ℕ) (keys : List ℕ) → total (insertedBy n (flatSpans (tokensOf ls rs)) keys) (rightOf ls rs) ≤ added rs
+  right-adds n keys = list-adds n (flatSpans (tokensOf ls rs)) keys rs (length (texts ls)) 0 (length lt) [] right-stand

@@ -1,8 +1,8 @@
 -- Shown: the diff of a merged list always fits the program's rooms and can be written, so the only way to fail is a short room for the file.
--- How: an accepted list's diff is good items, no more than its operations.
+-- How: an accepted list's diff is good items, no more than its operations, with no more text than its inserts have.
 use Prim.Native.Nat.{ℕ, _*_, _≤_, _<_}
 use mathlib.Core.Path.{_≡_, sym, _∙_, subst}
-use mathlib.Core.List.{List}
+use mathlib.Core.List.{List, []}
 use mathlib.Core.Logic.{⊎-elim}
 use native.Mathlib.Omega.{arith}
 use lib.ListN.{length, take}
@@ -19,6 +19,8 @@ use Rattle.records.specs.Operations.{operationsOf}
 use Rattle.cursors.proofs.Sinks.{le-or-lt}
 use Rattle.verdict.specs.declared.Verdict.the-variants as W
 use Rattle.verdict.specs.Verdicts.{andThen, roomed as roomFits}
+use Rattle.sizes.specs.declared.Limits.{Limits}
+use Rattle.shapes.specs.Accepted.{AcceptedList}
 use Rattle.edit_format.specs.Items.{Item, texts}
 use Rattle.edit_format.specs.Records.{recordsOf}
 use Rattle.edit_format.specs.Written.{written}
@@ -31,12 +33,13 @@ use Rattle.merging.specs.Operations.{opsFrom}
 use Rattle.merging.specs.Outputs.{toDiff}
 use Rattle.merging.proofs.OutputLaws.{diff-items}
 use Rattle.merging_laws.proofs.Decoding.{length-ops}
+use Rattle.merging_laws.proofs.Outputs.{diff-fits}
 use Rattle.to_diff.specs.declared.Diffed.{Diffed}
 use Rattle.to_diff.specs.declared.Diffed.the-variants as D
 use Rattle.to_diff.specs.Items.{diffOf}
 use Rattle.to_diff.specs.Answers.{verdictIn, roomFor, Diffs}
-use Rattle.to_diff.proofs.Joining.{length-items}
-use Rattle.outputs.proofs.GoodItems.{accepts, diff-good}
+use Rattle.to_diff.proofs.Joining.{length-items, added-items}
+use Rattle.outputs.proofs.GoodItems.{accepts}
 use Rattle.outputs.proofs.Replaying.{written-of}
 use Rattle.outputs.proofs.Filing.{file-items, file-writable, files}
 use Rattle.merge_files.specs.declared.Outcome.the-variants as O
@@ -54,15 +57,35 @@ module _ (original text spans keys ops : List ℕ) (K : Diffable original text s
   abbrev is : List Item
   is = diffOf lent os
 
-  few-items : length is ≤ 1024
+  few-items : length is ≤ 682
   unfolding diffOf
   few-items =
       omega (arith, length-items (toDiff lent (opsFrom 0 os)), diff-items lent (opsFrom 0 os), length-ops os 0, K .few)
 
-  few-points : length (texts is) ≤ 131070
-  few-points = omega (arith, texts-length is, diff-good lent os (accepts lent os (K .accepted)) .text)
+  -- what the list has at most of text
+  abbrev most : Limits
+  most = record { operations = 8192; tokens = 16384; text = 2048; cursors = 512 }
 
-  module _ (d : List ℤ) (e : List ℕ) (nd : length d ≡ 3072) (ne : length e ≡ 131070) where
+  listed : AcceptedList most original text spans keys os []
+  listed =
+      let a = accepts lent os (K .accepted) .list in
+      record {
+        original-most = a .original-most;
+        text-most = a .text-most;
+        operations-most = a .operations-most;
+        cursors-most = a .cursors-most;
+        tokens-most = a .tokens-most;
+        inserted-most = K .little;
+        shapes = a .shapes;
+        tiles = a .tiles;
+        within = a .within;
+      }
+
+  few-points : length (texts is) ≤ 2048
+  unfolding diffOf
+  few-points = omega (arith, texts-length is, added-items (toDiff lent (opsFrom 0 os)), diff-fits lent most os [] listed .text)
+
+  module _ (d : List ℤ) (e : List ℕ) (nd : length d ≡ 2046) (ne : length e ≡ 2048) where
     in-rooms : verdictIn lent os d e ≡ W.Accepted
     unfolding verdictIn roomFor roomFits andThen
     in-rooms =
@@ -82,7 +105,7 @@ module _ (original text spans keys ops : List ℕ) (K : Diffable original text s
       h : Diffs lent os d e d′ e′ (D.Counts n m)
       h = subst (λ (y : Diffed). Diffs lent os d e d′ e′ y) t h₀
 
-      pub items-small : n ≤ 1024
+      pub items-small : n ≤ 682
       items-small = omega (arith, written-of lent os h .many, few-items)
 
       pub items-in : n * 3 ≤ length d′

@@ -1,9 +1,9 @@
 -- Shown: whatever the three files, the program writes at most 14,393 bytes.
 -- How: short files have few items and add few code points, the merge has no more of either than both together, and each line of its file is short.
 use Prim.Native.Nat.{ℕ, _+_, _*_, _≤_}
-use mathlib.Core.Path.{_≡_, refl, sym, _∙_, ap}
+use mathlib.Core.Path.{_≡_, refl}
 use mathlib.Core.Bool.{Bool, true, false, _&&_}
-use mathlib.Core.List.{List, [], _++_, append-nil}
+use mathlib.Core.List.{List, []}
 use native.Mathlib.Omega.{arith}
 use lib.ListN.{length}
 use borrow.Author.Tests.{leb-true, le-leb}
@@ -14,12 +14,10 @@ use Rattle.records.specs.declared.Operation.{Operation}
 use Rattle.sizes.specs.declared.Limits.{Limits}
 use Rattle.verdict.specs.declared.Verdict.{Verdict}
 use Rattle.verdict.specs.declared.Verdict.the-variants as W
-use Rattle.sizes.specs.Texts.{total, insertedBy}
 use Rattle.sizes.specs.Sizes.{merging}
 use Rattle.shapes.specs.Accepted.{AcceptedList}
 use Rattle.checks.proofs.Accepted.{accepted-left, accepted-right}
 use Rattle.verdict.proofs.Bools.{and-left, and-right}
-use Rattle.raw_lists.specs.Raws.{Piece, flatSpans}
 use Rattle.elongate.specs.Elongated.{allTokens}
 use Rattle.elongate.proofs.Joining.{cooked-length}
 use Rattle.elongate.proofs.Laws.{no-longer}
@@ -39,16 +37,13 @@ use Rattle.to_diff.specs.Items.{diffOf}
 use Rattle.to_diff.proofs.Joining.{length-items, added-items}
 use Rattle.outputs.proofs.GoodItems.{accepts, diff-good}
 use Rattle.edit_list.specs.Raws.{runsOf, listOf}
-use Rattle.edit_list.proofs.Back.{drop-past}
 use Rattle.edit_list.proofs.Bounds.{file-long}
 use Rattle.edit_list.proofs.Runs.{runs-length}
 use Rattle.merge_files.specs.declared.Outcome.{Outcome}
-use Rattle.merge_files.specs.Program.{Result, refused, refusedKey, bytesOf, padding, tokensOf, lentOf, leftOf, rightOf, verdictOf, fileOf, judged, mergedOf, ofFiles, sized, utf8, resultOf, kindOf, outcomeOf, roomAfter, Written}
+use Rattle.merge_files.specs.Program.{Result, refused, refusedKey, bytesOf, padding, lentOf, leftOf, rightOf, verdictOf, fileOf, judged, mergedOf, ofFiles, sized, utf8, resultOf, kindOf, outcomeOf, roomAfter, Written}
 use Rattle.merge_files.proofs.Merging.{number-most, merged-fine}
-use Rattle.raw_lists.proofs.Pieces.{length-spans}
-use Rattle.merge_files.proofs.Edits.{spans-append}
 use Rattle.merge_files.proofs.Short.{file-most}
-use Rattle.merge_files.proofs.Added.{list-adds}
+use Rattle.merge_files.proofs.Added.{left-adds, right-adds}
 
 refusal-most : (n : ℕ) → n ≤ 10 → length (bytesOf (refused n)) ≤ 14393
 unfolding bytesOf
@@ -64,26 +59,6 @@ module _ (d original : List ℕ) (ls rs : List Item) where
   abbrev lent : Lent
   lent = lentOf d original ls rs
 
-  abbrev lt : List Piece
-  lt = allTokens (listOf 0 ls)
-
-  abbrev rt : List Piece
-  rt = allTokens (listOf (length (texts ls)) rs)
-
-  abbrev adds : List Operation → ℕ
-  adds os = total (insertedBy (length (lent .inserted)) (lent .spans) (lent .keys)) os
-
-  left-adds : adds (leftOf ls) ≤ added ls
-  unfolding tokensOf
-  left-adds = list-adds (length (lent .inserted)) (lent .spans) (lent .keys) ls 0 0 0 (flatSpans rt) (spans-append lt rt)
-
-  right-adds : adds (rightOf ls rs) ≤ added rs
-  unfolding tokensOf
-  right-adds =
-      let e : lent .spans ≡ flatSpans lt ++ (flatSpans rt ++ []) = spans-append lt rt ∙ ap (λ (z : List ℕ). flatSpans lt ++ z) (sym (append-nil (flatSpans rt))) in
-      list-adds (length (lent .inserted)) (lent .spans) (lent .keys) rs (length (texts ls)) 0 (length lt) []
-      (drop-past 0 (length lt * 2) (length lt * 2) (lent .spans) (flatSpans lt) (flatSpans rt ++ []) e (sym (length-spans lt)) (omega arith))
-
   left-few : length (leftOf ls) ≤ length ls
   unfolding listOf
   left-few = omega (arith, cooked-length (listOf 0 ls) 0 0, no-longer (runsOf 0 ls), runs-length 0 ls)
@@ -93,7 +68,7 @@ module _ (d original : List ℕ) (ls rs : List Item) where
   right-few =
       omega (
         arith,
-        cooked-length (listOf (length (texts ls)) rs) 0 (length lt),
+        cooked-length (listOf (length (texts ls)) rs) 0 (length (allTokens (listOf 0 ls))),
         no-longer (runsOf (length (texts ls)) rs),
         runs-length (length (texts ls)) rs,
       )
@@ -124,7 +99,7 @@ module _ (d original : List ℕ) (ls rs : List Item) where
             operations-most = omega (arith, merged-operations-most lent (leftOf ls) (rightOf ls rs) [] [] al ar, left-few, right-few);
             cursors-most = m .cursors-most;
             tokens-most = m .tokens-most;
-            inserted-most = omega (arith, merged-text-most lent (leftOf ls) (rightOf ls rs) [] [] al ar, left-adds, right-adds);
+            inserted-most = omega (arith, merged-text-most lent (leftOf ls) (rightOf ls rs) [] [] al ar, left-adds ls rs (length (lent .inserted)) (lent .keys), right-adds ls rs (length (lent .inserted)) (lent .keys));
             shapes = m .shapes;
             tiles = m .tiles;
             within = m .within;

@@ -5,8 +5,8 @@ use mathlib.Core.Path.{_≡_, refl, sym, _∙_, ap, subst}
 use mathlib.Core.Bool.{Bool, true, false, _&&_}
 use mathlib.Core.List.{List, [], _∷_}
 use native.Mathlib.Omega.{arith}
-use lib.ListN.{length, take, replicate, length-replicate}
-use borrow.Author.Tests.{leb-true, le-ltb}
+use lib.ListN.{length, take, replicate, length-append, length-take, length-replicate}
+use borrow.Author.Tests.{leb-true, le-ltb, eqb-true}
 use Rattle.refusal.specs.declared.Refusal.{Refusal}
 use Rattle.refusal.specs.declared.Counted.{Counted}
 use Rattle.refusal.specs.declared.Counted.the-variants as C
@@ -20,12 +20,17 @@ use Rattle.utf8_read.specs.Grammar.{utf8-char}
 use Rattle.utf8_read.specs.Table.{decode}
 use Rattle.utf8_read.specs.Reading.{good-end, points, points-from}
 use Rattle.utf8.specs.Answers.{read-of, Answered, leaves}
-use Rattle.edit_format.specs.Reading.{Found, Accepted, Refused, readFile}
+use Rattle.edit_format.specs.Items.{Item, texts}
+use Rattle.edit_format.specs.Reading.{Found, Accepted, Refused, readFile, believes}
+use Rattle.edit_format.proofs.Accepts.{accepted-good}
 use Rattle.outputs.proofs.Replaying.{front}
 use Rattle.edit_list.specs.Raws.{itemsIn}
+use Rattle.edit_list.specs.Lists.{usedBy}
+use Rattle.edit_list.proofs.Bounds.{file-long}
 use Rattle.merge_files.specs.declared.Outcome.{Outcome}
 use Rattle.merge_files.specs.Program.{Result, refused, padding, ofFiles, sized, utf8, resultOf, Written}
-use Rattle.merge_files.specs.Steps.{isEdit, firstOf, Files, Rooms, goodResult}
+use Rattle.merge_files.specs.Steps.{isEdit, firstOf, Files, Texted, goodResult}
+use Rattle.merge_files.proofs.Padding.{padded}
 
 -- no more code points than bytes
 few-points : (s : List ℕ) (k : ℕ) → length (points-from k s) ≤ length s
@@ -140,25 +145,31 @@ module _ (o l r : List ℕ) where
               let s : length d′ ≡ length d = rw room-is (same-room (points o) d (omega (arith, few-points o 0, o-short))) in
               omega (arith, count, few-points o 0, o-short)
 
-          pub result : (text : List ℕ) → text ≡ padding → (out out′ : List ℕ) (z : Outcome)
-              → Written (goodResult text (take k d′) (readFile l) (readFile r)) out out′ z → Written (resultOf o l r) out out′ z
-          unfolding resultOf ofFiles
-          result text et out out′ z v =
-              let p : take k d′ ≡ points o = front (points o) d d′ k count room-is in
-              rw (passed .first, passed .second, passed .left, passed .right) (rw (et, p) at v)
+          pub points-short : length (take k d′) ≤ 2048
+          points-short = omega (arith, length-take k d′, count, few-points o 0, o-short)
 
--- zeros in rooms of these lengths
-pub rooms : (text lefts rights spans keys : List ℕ) → text ≡ padding → length lefts ≡ 3072 → length rights ≡ 3072 → length spans ≡ 4096
-    → length keys ≡ 2048 → Rooms text lefts rights spans keys
-unfolding padding
-rooms text lefts rights spans keys e nl nr ns nk =
-    let n : length text ≡ 67583 = ap length e ∙ length-replicate {A = ℕ} 67583 0 in
-    record {
-      good = rw e (zeros-fine 67583 0);
-      text-long = omega arith;
-      text-most = omega arith;
-      lefts-fit = omega arith;
-      rights-fit = omega arith;
-      spans-fit = omega arith;
-      keys-fit = omega arith;
-    }
+          pub result : (out out′ : List ℕ) (z : Outcome) → Written (goodResult (take k d′) (readFile l) (readFile r)) out out′ z → Written (resultOf o l r) out out′ z
+          unfolding resultOf ofFiles padding
+          result out out′ z v =
+              let p : take k d′ ≡ points o = front (points o) d d′ k count room-is in
+              let ls : List Item = itemsIn (readFile l) in
+              let rs : List Item = itemsIn (readFile r) in
+              let gl = accepted-good l (passed .left) in
+              let gr = accepted-good r (passed .right) in
+              let e = padded (points o) ls rs (gl .each) (gr .each) (replicate 67583 0) (zeros-fine 67583 0) (omega (arith, length-replicate {A = ℕ} 67583 0))
+              (omega (arith, length-append (texts ls) (texts rs), file-long l (passed .left), file-long r (passed .right), files .left-short, files .right-short)) in
+              rw (passed .first, passed .second, passed .left, passed .right) (rw e (rw p at v))
+
+-- a room of so many zeros for what the files add
+pub texted : (l r : List ℕ) (n : ℕ) → 2048 ≤ n → n ≤ 131070 → usedBy l ≤ n → usedBy r ≤ n → Texted l r (replicate n 0)
+texted l r n h k ul ur =
+    let e : length {A = ℕ} (replicate n 0) ≡ n = length-replicate {A = ℕ} n 0 in
+    record { good = zeros-fine n 0; text-long = omega arith; text-most = omega arith; left-long = omega arith; right-long = omega arith }
+
+-- what a file uses of the original: no more than any has, and where it is believed what the original has
+pub used-most : (l : List ℕ) → readFile l ≡ Accepted (itemsIn (readFile l)) → usedBy l ≤ 65535
+used-most l e = accepted-good l e .original
+
+pub used-all : (l : List ℕ) (n : ℕ) → readFile l ≡ Accepted (itemsIn (readFile l)) → believes (readFile l) n ≡ true → usedBy l ≡ n
+unfolding believes
+used-all l n e b = eqb-true (usedBy l) n (rw e at b)

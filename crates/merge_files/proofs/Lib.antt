@@ -2,8 +2,10 @@ pub mod Lines
 pub mod Checking
 pub mod Diffing
 pub mod Merging
+pub mod Added
 pub mod Edits
+pub mod Unread
+pub mod Padding
 pub mod Files
 pub mod Short
-pub mod Added
 pub mod Enough

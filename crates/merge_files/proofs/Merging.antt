@@ -26,7 +26,7 @@ use Rattle.verdict.proofs.Chains.{first-passed, rest-passed}
 use Rattle.checks.proofs.Accepted.{accepted-left, accepted-right, verdict-yes}
 use Rattle.merging.specs.Lent.{Lent, rulesOf, lentOf as given}
 use Rattle.merging.specs.Merge.{Merged, mergeOf}
-use Rattle.merging_laws.proofs.Accepted.{merged-accepted, merged-operations-most}
+use Rattle.merging_laws.proofs.Accepted.{merged-accepted, merged-operations-most, merged-text-most}
 use Rattle.to_diff.specs.Answers.{verdictOn}
 use Rattle.edited_text.specs.declared.Counts.{Counts}
 use Rattle.edited_text.specs.declared.Answer.{Answer}
@@ -84,7 +84,7 @@ merged-fine lent ls rs passed =
     } in
     verdict-yes otherwise (lent .original) (lent .inserted) (lent .spans) (lent .keys) (mergeOf (rulesOf lent) ls rs [] [] .operations) [] a p
 
-module _ (original text spans keys left right : List ℕ) (K : Mergeable left right) (o c w o′ c′ w′ : List ℕ) (no : length o ≡ 6144) (nw : length w ≡ 4096) where
+module _ (original text spans keys left right : List ℕ) (K : Mergeable text spans keys left right) (o c w o′ c′ w′ : List ℕ) (no : length o ≡ 4092) (nw : length w ≡ 4096) where
   abbrev lent : Lent
   lent = given original text spans keys
 
@@ -133,7 +133,7 @@ module _ (original text spans keys left right : List ℕ) (K : Mergeable left ri
     count : n .operations ≡ length ops
     count = counts-of (asked original text spans keys left right [] [] o c w) (mergeOn original text spans keys left right [] []) n (sym t ∙ M .answer) .1 ∙ ap (λ (m : Merged). length (m .operations)) merged-is
 
-    pub small : n .operations ≤ 1024
+    pub small : n .operations ≤ 682
     small = omega (arith, count, merged-operations-most lent ls rs [] [] al ar, K .left-few, K .right-few)
 
     room-is : o′ ≡ answered (flatOperations ops) o
@@ -149,7 +149,12 @@ module _ (original text spans keys left right : List ℕ) (K : Mergeable left ri
     back = rw room-is (of-answered ops o (n .operations * 6) (ap (λ (k : ℕ). k * 6) count))
 
     pub diffable : Diffable original text spans keys (take (n .operations * 6) o′)
-    diffable = record { accepted = rw back (merged-fine lent ls rs passed); few = rw back (omega (arith, count, small)) }
+    diffable =
+        record {
+          accepted = rw back (merged-fine lent ls rs passed);
+          few = rw back (omega (arith, count, small));
+          little = rw back (omega (arith, merged-text-most lent ls rs [] [] al ar, K .left-little, K .right-little));
+        }
 
     pub merges : (out out′ : List ℕ) (z : Outcome) → Written (diffResult original text spans keys (take (n .operations * 6) o′)) out out′ z
         → Written (mergeResult original text spans keys left right) out out′ z

@@ -1,22 +1,24 @@
 -- What the program's steps say to one another. Assumes nothing.
-use Prim.Native.Nat.{ℕ, _+_, _*_, _≤_}
+use Prim.Native.Nat.{ℕ, _≤_}
 use mathlib.Core.Path.{_≡_}
 use mathlib.Core.Bool.{Bool, true, false, _&&_}
-use mathlib.Core.List.{List, []}
+use mathlib.Core.List.{List, _++_}
 use lib.ListN.{length}
 use Rattle.room.specs.Choice.{pick}
-use Rattle.records.specs.declared.Operation.{Operation}
 use Rattle.records.specs.Operations.{operationsOf}
 use Rattle.verdict.specs.declared.Verdict.the-variants as W
-use Rattle.sizes.specs.Texts.{total, claimedBy}
+use Rattle.sizes.specs.Texts.{total, claimedBy, insertedBy}
 use Rattle.verdict.specs.Points.{pointsFrom}
+use Rattle.raw_lists.specs.Raws.{flatSpans, flatKeys}
+use Rattle.edit_format.specs.Items.{texts}
 use Rattle.edit_format.specs.Reading.{Found, Accepted, Refused, readFile}
 use Rattle.edit_format.specs.Written.{written}
 use Rattle.merging.specs.Lent.{lentOf as given}
 use Rattle.to_diff.specs.Items.{diffOf}
 use Rattle.to_diff.specs.Answers.{verdictOn}
 use Rattle.edit_list.specs.Raws.{itemsIn}
-use Rattle.merge_files.specs.Program.{Result, merged, mergedOf, lentOf, leftOf, rightOf, sized, utf8}
+use Rattle.edit_list.specs.Lists.{usedBy}
+use Rattle.merge_files.specs.Program.{Result, merged, mergedOf, tokensOf, leftOf, rightOf, sized, utf8}
 
 -- the edit file of a list
 abbrev pub diffResult : List ℕ → List ℕ → List ℕ → List ℕ → List ℕ → Result
@@ -25,18 +27,21 @@ diffResult original text spans keys ops = merged (written (diffOf (given origina
 -- a list whose diff can be written
 pub record Diffable (original text spans keys ops : List ℕ) : Type 0 where
   pub accepted : verdictOn (given original text spans keys) (operationsOf ops) ≡ W.Accepted
-  pub few : length (operationsOf ops) ≤ 1024
+  pub few : length (operationsOf ops) ≤ 682
+  pub little : total (insertedBy (length text) spans keys) (operationsOf ops) ≤ 2048
 
 -- two lists merged, or the refusal
 abbrev pub mergeResult : List ℕ → List ℕ → List ℕ → List ℕ → List ℕ → List ℕ → Result
 mergeResult original text spans keys left right = mergedOf (given original text spans keys) (operationsOf left) (operationsOf right)
 
 -- lists for which the program's rooms are long enough
-pub record Mergeable (left right : List ℕ) : Type 0 where
-  pub left-few : length (operationsOf left) ≤ 512
-  pub right-few : length (operationsOf right) ≤ 512
+pub record Mergeable (text spans keys left right : List ℕ) : Type 0 where
+  pub left-few : length (operationsOf left) ≤ 341
+  pub right-few : length (operationsOf right) ≤ 341
   pub left-tokens : total claimedBy (operationsOf left) ≤ 1024
   pub right-tokens : total claimedBy (operationsOf right) ≤ 1024
+  pub left-little : total (insertedBy (length text) spans keys) (operationsOf left) ≤ 1024
+  pub right-little : total (insertedBy (length text) spans keys) (operationsOf right) ≤ 1024
 
 -- the first refusal before the merge's own; 0 is none
 unfoldable pub isEdit : Found → Bool
@@ -56,17 +61,24 @@ pub record Files (left right : List ℕ) : Type 0 where
   pub left-accepted : readFile left ≡ Accepted (itemsIn (readFile left))
   pub right-accepted : readFile right ≡ Accepted (itemsIn (readFile right))
 
--- rooms for their lists
-pub record Rooms (text lefts rights spans keys : List ℕ) : Type 0 where
+-- a room for the code points that they add, as long as what either uses of the original
+pub record Texted (left right text : List ℕ) : Type 0 where
   pub good : pointsFrom text 0 ≡ W.Accepted
-  pub text-long : 67583 ≤ length text
+  pub text-long : 2048 ≤ length text
   pub text-most : length text ≤ 131070
-  pub lefts-fit : 3072 ≤ length lefts
-  pub rights-fit : 3072 ≤ length rights
+  pub left-long : usedBy left ≤ length text
+  pub right-long : usedBy right ≤ length text
+
+-- rooms for their lists
+pub record Rooms (lefts rights spans keys : List ℕ) : Type 0 where
+  pub lefts-fit : 2046 ≤ length lefts
+  pub rights-fit : 2046 ≤ length rights
   pub spans-fit : 4096 ≤ length spans
   pub keys-fit : 2048 ≤ length keys
 
--- their merge, their text in the text d
-abbrev pub goodResult : List ℕ → List ℕ → Found → Found → Result
-goodResult d original l r =
-    mergedOf (lentOf d original (itemsIn l) (itemsIn r)) (leftOf (itemsIn l)) (rightOf (itemsIn l) (itemsIn r))
+-- their merge, over the code points that they add and nothing behind them
+abbrev pub goodResult : List ℕ → Found → Found → Result
+goodResult original l r =
+    mergedOf
+    (given original (texts (itemsIn l) ++ texts (itemsIn r)) (flatSpans (tokensOf (itemsIn l) (itemsIn r))) (flatKeys (tokensOf (itemsIn l) (itemsIn r))))
+    (leftOf (itemsIn l)) (rightOf (itemsIn l) (itemsIn r))

@@ -4,9 +4,10 @@ use refusal::Counted;
 use refusal::Refusal;
 ghost use mathlib.Core.Path.{_≡_};
 ghost use Prim.Native.Nat.{_≤_};
+ghost use lib.ListN.{length};
 ghost use Rattle.edit_format.specs.Reading.{readFile};
 ghost use Rattle.merge_files.specs.Program.{refused, utf8, resultOf, Written};
-ghost use Rattle.merge_files.specs.Steps.{isEdit, firstOf, Mergeable, Diffable, Files, Rooms, mergeResult, diffResult, goodResult};
+ghost use Rattle.merge_files.specs.Steps.{isEdit, firstOf, Mergeable, Diffable, Files, Texted, mergeResult, diffResult, goodResult};
 
 // How many bytes stand in the room: a merged edit file, or a refusal's line; or that it is too short.
 pub enum Outcome {
@@ -90,8 +91,8 @@ fn write_merged(
     requires { ⌜ Diffable (now original) (now text) (now spans) (now keys) (now operations) ⌝ }
     ensures { λ r. ⌜ Written (diffResult (now (original .entry)) (now (text .entry)) (now (spans .entry)) (now (keys .entry)) (now (operations .entry))) (now (out .entry)) (now (out .exit)) r ⌝ }
 {
-    let mut items = [0i64; 3072];
-    let mut added = [0u32; 131070];
+    let mut items = [0i64; 2046];
+    let mut added = [0u32; 2048];
     match to_diff::to_diff(
         original,
         text,
@@ -124,10 +125,10 @@ fn merge_lists(
     right: &[usize],
     out: &mut [u8],
 ) -> Outcome
-    requires { ⌜ Mergeable (now left) (now right) ⌝ }
+    requires { ⌜ Mergeable (now text) (now spans) (now keys) (now left) (now right) ⌝ }
     ensures { λ r. ⌜ Written (mergeResult (now (original .entry)) (now (text .entry)) (now (spans .entry)) (now (keys .entry)) (now (left .entry)) (now (right .entry))) (now (out .entry)) (now (out .exit)) r ⌝ }
 {
-    let mut merged = [0usize; 6144];
+    let mut merged = [0usize; 4092];
     let mut cursors = [0usize; 1];
     let mut work = [0u32; 4096];
     match edited_text::merge(
@@ -155,33 +156,67 @@ fn merge_lists(
     }
 }
 
-// The merge of two accepted edit files, with rooms for their lists.
+// The merge of two accepted edit files, with a room for the code points that they add.
 fn merge_edits(
     original: &[u32],
     left: &[u8],
     right: &[u8],
     text: &mut [u32],
-    lefts: &mut [usize],
-    rights: &mut [usize],
-    spans: &mut [u32],
-    keys: &mut [u32],
     out: &mut [u8],
 ) -> Outcome
-    requires { ⌜ Files (now left) (now right) × Rooms (now text) (now lefts) (now rights) (now spans) (now keys) ⌝ }
-    ensures { λ r. ⌜ Written (goodResult (now (text .entry)) (now (original .entry)) (readFile (now (left .entry))) (readFile (now (right .entry)))) (now (out .entry)) (now (out .exit)) r ⌝ }
+    requires { ⌜ Files (now left) (now right) × Texted (now left) (now right) (now text) ⌝ }
+    ensures { λ r. ⌜ Written (goodResult (now (original .entry)) (readFile (now (left .entry))) (readFile (now (right .entry)))) (now (out .entry)) (now (out .exit)) r ⌝ }
 {
-    let l = edit_list::list_of(left, 0, 0, text, lefts, spans, keys);
-    let r = edit_list::list_of(right, l.text, l.tokens, text, rights, spans, keys);
+    let mut lefts = [0usize; 2046];
+    let mut rights = [0usize; 2046];
+    let mut spans = [0u32; 4096];
+    let mut keys = [0u32; 2048];
+    let l = edit_list::list_of(left, 0, 0, text, &mut lefts, &mut spans, &mut keys);
+    let r = edit_list::list_of(
+        right,
+        l.text,
+        l.tokens,
+        text,
+        &mut rights,
+        &mut spans,
+        &mut keys,
+    );
+    let points = l.text + r.text;
     let tokens = l.tokens + r.tokens;
     merge_lists(
         original,
-        text,
+        &text[..points],
         &spans[..tokens * 2],
         &keys[..tokens],
         &lefts[..l.operations * 6],
         &rights[..r.operations * 6],
         out,
     )
+}
+
+// The same where a file's counts do not fit the original: its keeps may be as long as any original.
+fn merge_unfit(original: &[u32], left: &[u8], right: &[u8], out: &mut [u8]) -> Outcome
+    requires { ⌜ Files (now left) (now right) ⌝ }
+    ensures { λ r. ⌜ Written (goodResult (now (original .entry)) (readFile (now (left .entry))) (readFile (now (right .entry)))) (now (out .entry)) (now (out .exit)) r ⌝ }
+{
+    let mut text = [0u32; 65535];
+    merge_edits(original, left, right, &mut text, out)
+}
+
+// The merge of two accepted edit files. Where both are for an original of this length, as good as always, a short room is enough, and nothing long is
+// cleared.
+fn merge_fit(original: &[u32], left: &[u8], right: &[u8], out: &mut [u8]) -> Outcome
+    requires { ⌜ Files (now left) (now right) × (length (now original) ≤ 2048) ⌝ }
+    ensures { λ r. ⌜ Written (goodResult (now (original .entry)) (readFile (now (left .entry))) (readFile (now (right .entry)))) (now (out .entry)) (now (out .exit)) r ⌝ }
+{
+    let n = original.len();
+    if edit_read::believed(left, n) {
+        if edit_read::believed(right, n) {
+            let mut text = [0u32; 2048];
+            return merge_edits(original, left, right, &mut text, out);
+        }
+    }
+    merge_unfit(original, left, right, out)
 }
 
 // What the program writes for three files that it could read.
@@ -193,23 +228,8 @@ pub fn merge_files(original: &[u8], left: &[u8], right: &[u8], out: &mut [u8]) -
         return put_refused(number, out);
     }
     let mut points = [0u32; 2048];
-    let mut text = [0u32; 67583];
-    let mut lefts = [0usize; 3072];
-    let mut rights = [0usize; 3072];
-    let mut spans = [0u32; 4096];
-    let mut keys = [0u32; 2048];
     match utf8::read(original, &mut points) {
         Counted::Refused(_) => Outcome::Room,
-        Counted::Count(count) => merge_edits(
-            &points[..count],
-            left,
-            right,
-            &mut text,
-            &mut lefts,
-            &mut rights,
-            &mut spans,
-            &mut keys,
-            out,
-        ),
+        Counted::Count(count) => merge_fit(&points[..count], left, right, out),
     }
 }

@@ -3,8 +3,7 @@
 use borrow.Author.Needs.{needs}
 use mathlib.Core.Path.{refl, sym}
 use lib.Seq.{length-take-le}
-use Rattle.merge_files.specs.Program.{padding}
-use Rattle.merge_files.proofs.Files.{number-small, refuses, files, rooms, points-in, not-refused, result}
+use Rattle.merge_files.proofs.Files.{number-small, refuses, files, points-in, points-short, not-refused, result}
 use Rattle.merge_files.proofs.merge_files.Statement.{statement}
 use Rattle.merge_files.proofs.merge_files.Tie as tie
 
@@ -13,16 +12,18 @@ check-files-requires c κs = search needs
 
 put-refused-requires : tie.Need-put-refused-requires
 put-refused-requires c κs =
-    let s = c .before .before .before .before .before .before .before in
-    number-small (s .args .original .now) (s .args .left .now) (s .args .right .now) _ (c .before .before .check-files .ensures)
+    let b = c .before .before in
+    let s = b .before .before .before .before .before in
+    number-small (s .args .original .now) (s .args .left .now) (s .args .right .now) _ (b .check-files .ensures)
 
 same-length : tie.Need-same-length
 same-length c = search needs
 
 returns : tie.Need-returns
 returns c =
-    let s = c .before .before .before .before .before .before .before .before .before .before in
-    refuses (s .args .original .now) (s .args .left .now) (s .args .right .now) _ (c .before .before .before .before .before .check-files .ensures) (c .before .before .before .before .if1 .taken) (s .args .out .now) _ _ (c .before .before .put-refused .ensures)
+    let b = c .before .before .before .before .before in
+    let s = b .before .before .before .before .before in
+    refuses (s .args .original .now) (s .args .left .now) (s .args .right .now) _ (b .check-files .ensures) (c .before .before .before .before .if1 .taken) (s .args .out .now) _ _ (c .before .before .put-refused .ensures)
 
 slice-aggregate-read : tie.Need-slice-aggregate-read
 slice-aggregate-read c = search needs
@@ -38,48 +39,36 @@ enum-known-count c = search needs
 
 array-share-prefix-points : tie.Need-array-share-prefix-points
 array-share-prefix-points c =
-    let s = c .before .before .before .before .before .before .before .before .before .before .before .before in
-    points-in (s .args .original .now) (s .args .left .now) (s .args .right .now) _ (c .before .before .before .before .before .before .before .check-files .ensures) (c .before .before .before .before .before .before .if1 .left) _ _ refl (c .before .before .before .before .read .ensures) (c .before .count .given .1)
+    let b = c .before .before .before .before .before .before .before in
+    let s = b .before .before .before .before .before in
+    points-in (s .args .original .now) (s .args .left .now) (s .args .right .now) _ (b .check-files .ensures) (c .before .before .before .before .before .before .if1 .left) _ _ refl (c .before .before .before .before .read .ensures) (c .before .count .given .1)
 
-slice-aggregate-merge-edits : tie.Need-slice-aggregate-merge-edits
-slice-aggregate-merge-edits c =
-    let s = c .before .before .before .before .before .before .before .before .before .before .before .before .before in
-    sym (length-take-le _ _ (points-in (s .args .original .now) (s .args .left .now) (s .args .right .now) _ (c .before .before .before .before .before .before .before .before .check-files .ensures) (c .before .before .before .before .before .before .before .if1 .left) _ _ refl (c .before .before .before .before .before .read .ensures) (c .before .before .count .given .1)))
+slice-aggregate-merge-fit : tie.Need-slice-aggregate-merge-fit
+slice-aggregate-merge-fit c =
+    let b = c .before .before .before .before .before .before .before .before in
+    let s = b .before .before .before .before .before in
+    sym (length-take-le _ _ (points-in (s .args .original .now) (s .args .left .now) (s .args .right .now) _ (b .check-files .ensures) (c .before .before .before .before .before .before .before .if1 .left) _ _ refl (c .before .before .before .before .before .read .ensures) (c .before .before .count .given .1)))
 
-slice-aggregate-merge-edits-2 : tie.Need-slice-aggregate-merge-edits-2
-slice-aggregate-merge-edits-2 c = search needs
-
-slice-aggregate-merge-edits-3 : tie.Need-slice-aggregate-merge-edits-3
-slice-aggregate-merge-edits-3 c = search needs
-
-slice-aggregate-merge-edits-4 : tie.Need-slice-aggregate-merge-edits-4
-slice-aggregate-merge-edits-4 c = search needs
-
-slice-aggregate-merge-edits-5 : tie.Need-slice-aggregate-merge-edits-5
-slice-aggregate-merge-edits-5 c = search needs
-
-slice-aggregate-merge-edits-6 : tie.Need-slice-aggregate-merge-edits-6
-slice-aggregate-merge-edits-6 c = search needs
-
-merge-edits-requires : tie.Need-merge-edits-requires
-unfolding padding
-merge-edits-requires c κs =
-    let s = c .before .before .before .before .before .before .before .before .before .before .before .before .before .before .before .before .before .before .before in
-    (files (s .args .original .now) (s .args .left .now) (s .args .right .now) _ (c .before .before .before .before .before .before .before .before .before .before .before .before .before .before .check-files .ensures) (c .before .before .before .before .before .before .before .before .before .before .before .before .before .if1 .left), rooms _ _ _ _ _ refl refl refl refl refl)
+merge-fit-requires : tie.Need-merge-fit-requires
+merge-fit-requires c κs =
+    let b = c .before .before .before .before .before .before .before .before .before in
+    let s = b .before .before .before .before .before in
+    (files (s .args .original .now) (s .args .left .now) (s .args .right .now) _ (b .check-files .ensures) (c .before .before .before .before .before .before .before .before .if1 .left), points-short (s .args .original .now) (s .args .left .now) (s .args .right .now) _ (b .check-files .ensures) (c .before .before .before .before .before .before .before .before .if1 .left) _ _ refl (c .before .before .before .before .before .before .read .ensures) (c .before .before .before .count .given .1))
 
 returns-2 : tie.Need-returns-2
 returns-2 c =
-    let s = c .before .before .before .before .before .before .before .before .before .before .before in
-    not-refused (s .args .original .now) (s .args .left .now) (s .args .right .now) _ (c .before .before .before .before .before .before .check-files .ensures) (c .before .before .before .before .before .if1 .left) _ _ refl (c .before .before .before .read .ensures) (c .enum-told .given .1)
+    let b = c .before .before .before .before .before .before in
+    let s = b .before .before .before .before .before in
+    not-refused (s .args .original .now) (s .args .left .now) (s .args .right .now) _ (b .check-files .ensures) (c .before .before .before .before .before .if1 .left) _ _ refl (c .before .before .before .read .ensures) (c .enum-told .given .1)
 
 same-length-2 : tie.Need-same-length-2
 same-length-2 c = search needs
 
 returns-3 : tie.Need-returns-3
-unfolding padding
 returns-3 c =
-    let s = c .before .before .before .before .before .before .before .before .before .before .before .before .before .before .before .before .before .before .before .before .before .before .before .before .before .before .before in
-    result (s .args .original .now) (s .args .left .now) (s .args .right .now) _ (c .before .before .before .before .before .before .before .before .before .before .before .before .before .before .before .before .before .before .before .before .before .before .check-files .ensures) (c .before .before .before .before .before .before .before .before .before .before .before .before .before .before .before .before .before .before .before .before .before .if1 .left) _ _ refl (c .before .before .before .before .before .before .before .before .before .before .before .before .before .before .before .before .before .before .before .read .ensures) (c .before .before .before .before .before .before .before .before .before .before .before .before .before .before .before .before .count .given .1) _ refl (s .args .out .now) _ _ (c .before .before .before .before .before .before .before .merge-edits .ensures)
+    let b = c .before .before .before .before .before .before .before .before .before .before .before .before in
+    let s = b .before .before .before .before .before in
+    result (s .args .original .now) (s .args .left .now) (s .args .right .now) _ (b .check-files .ensures) (c .before .before .before .before .before .before .before .before .before .before .before .if1 .left) _ _ refl (c .before .before .before .before .before .before .before .before .before .read .ensures) (c .before .before .before .before .before .before .count .given .1) (s .args .out .now) _ _ (c .before .before .merge-fit .ensures)
 
 pub merge-files-spec : {M : Type 1} → statement M
 merge-files-spec =
@@ -94,13 +83,8 @@ merge-files-spec =
     enum-told
     enum-known-count
     array-share-prefix-points
-    slice-aggregate-merge-edits
-    slice-aggregate-merge-edits-2
-    slice-aggregate-merge-edits-3
-    slice-aggregate-merge-edits-4
-    slice-aggregate-merge-edits-5
-    slice-aggregate-merge-edits-6
-    merge-edits-requires
+    slice-aggregate-merge-fit
+    merge-fit-requires
     returns-2
     same-length-2
     returns-3)
