@@ -1,6 +1,6 @@
 -- The code points of a text, read one after another: the loop's invariant and its ways.
 -- What is left of the text, from where the loop stands, gives the answer of the whole. Assumes nothing.
-use Prim.Native.Nat.{ℕ, _+_, _≤_, _<_, zero-le}
+use Prim.Native.Nat.{ℕ, _+_, _≤_, _<_}
 use mathlib.Core.Path.{_≡_, refl, _∙_, subst}
 use mathlib.Core.Bool.{true, false}
 use mathlib.Core.List.{List}
@@ -8,6 +8,8 @@ use native.Mathlib.Omega.{arith}
 use native.Mathlib.Numerals.{add-one}
 use lib.ListN.{length, getD, drop, drop-of-length-le}
 use lib.Seq.{drop-cons}
+use lib.Bits.{bitOr, or-add-and, and-le-l, and-le-r}
+use borrow.Author.Tests.{lt-ltb}
 use Rattle.refusal.specs.declared.Refusal.the-variants.{CodePoint}
 use Rattle.verdict.specs.declared.Verdict.the-variants.{Accepted, Refused}
 use Rattle.verdict.specs.Points.{isPoint, pointsFrom, Reading, Searched}
@@ -34,32 +36,29 @@ module _ {text : List ℕ} {from i : ℕ} (h : Reading text from i) where
   pub reads-further : {j : ℕ} → Reading text i j → Reading text from j
   reads-further g = record { most = g .most; rest = g .rest ∙ h .rest }
 
--- The loop over a block: with no high number yet, all before the loop's place are code points.
-pub record Scanning (text : List ℕ) (at highs i : ℕ) : Type 0 where
-  pub within : i ≤ 16
-  pub few : highs ≤ i
-  pub read : highs ≡ 0 → Reading text at (at + i)
+-- The loop over a block: as long as its test holds, all before the loop's place are code points.
+pub record Scanning (text : List ℕ) (at end i : ℕ) (clear : Type 0) : Type 0 where
+  pub most : i ≤ end
+  pub read : clear → Reading text at i
 
-pub scan-begin : (text : List ℕ) (at : ℕ) → at + 16 ≤ length text → Scanning text at 0 0
-scan-begin text at l = record {
-  within = zero-le;
-  few = zero-le;
-  read = λ e. let z : at ≡ at + 0 = omega arith in subst (λ (k : ℕ). Reading text at k) z (reads-begin text at (omega arith));
+pub scan-begin : (text : List ℕ) (at end : ℕ) (clear : Type 0) → at ≤ end → end ≤ length text → Scanning text at end at clear
+scan-begin text at end clear l m = record { most = l; read = λ e. reads-begin text at (omega arith) }
+
+pub scan-on : {text : List ℕ} {at end i : ℕ} {clear still : Type 0} → Scanning text at end i clear → end ≤ length text → i < end
+    → (still → clear × (isPoint (getD text i 0) ≡ true)) → Scanning text at end (i + 1) still
+scan-on {text} {at} {end} {i} h l m f = record {
+  most = omega arith;
+  read = λ e. reads-on (h .read (f e .0)) (omega arith) (f e .1);
 }
 
-pub scan-on : {text : List ℕ} {at highs i : ℕ} (high : ℕ) → Scanning text at highs i → at + 16 ≤ length text → i < 16
-    → (high ≤ 1) × (high ≡ 0 → isPoint (getD text (at + i) 0) ≡ true) → Scanning text at (highs + high) (i + 1)
-scan-on {text} {at} {highs} {i} high h l m e = record {
-  within = omega arith;
-  few = omega (arith, h .few, e .0);
-  read = λ z.
-      let next : at + i + 1 ≡ at + (i + 1) = omega arith in
-      subst (λ (k : ℕ). Reading text at k) next (reads-on (h .read (omega (arith, z))) (omega arith) (e .1 (omega (arith, z))));
-}
+pub scan-end : {text : List ℕ} {at end i : ℕ} {clear : Type 0} → Scanning text at end i clear → end ≤ i → clear → Reading text at end
+scan-end {text} {at} {end} {i} h l e = let all : i ≡ end = omega (arith, h .most) in subst (λ (k : ℕ). Reading text at k) all (h .read e)
 
-pub scan-end : {text : List ℕ} {at highs i : ℕ} → Scanning text at highs i → 16 ≤ i → highs ≡ 0 → Reading text at (at + 16)
-scan-end {text} {at} {highs} {i} h l z =
-    let all : at + i ≡ at + 16 = omega (arith, h .within) in subst (λ (k : ℕ). Reading text at k) all (h .read z)
+-- bits of two numbers together that are below the surrogates: so are both numbers
+pub low-both : (bits c : ℕ) → bitOr bits c < 55296 → (bits < 55296) × (isPoint c ≡ true)
+low-both bits c h =
+    let l : c < 55296 = omega (arith, or-add-and bits c, and-le-l bits c) in
+    (omega (arith, or-add-and bits c, and-le-r bits c), rw (lt-ltb c 55296 l))
 
 -- a search that found none
 pub none-bad : {text : List ℕ} {from to i : ℕ} → Reading text from i → i ≤ to → to ≤ i → Searched text from to to

@@ -1,6 +1,6 @@
 // The verdict of a check, and refusal 4 of a text.
 ghost use mathlib.Core.Path.{_≡_};
-ghost use Prim.Native.Nat.{_+_, _≤_};
+ghost use Prim.Native.Nat.{_<_, _≤_};
 ghost use lib.ListN.{length};
 ghost use mathlib.Core.Bool.{true};
 ghost use Rattle.verdict.specs.Points.{isPoint, pointsFrom, pointsVerdict, Reading, Searched};
@@ -14,35 +14,37 @@ pub enum Verdict {
 fn is_point(c: u32) -> bool
     ensures { λ r. ⌜ r ≡ isPoint c ⌝ }
 {
-    if c < 0xD800 {
-        return true;
-    }
-    if c <= 0xDFFF {
-        return false;
-    }
-    c <= 0x10FFFF
+    (c < 0xD800) | ((0xDFFF < c) & (c <= 0x10FFFF))
 }
 
-// 0 for a number below the surrogates, else 1.
-fn high(c: u32) -> u32
-    ensures { λ r. ⌜ (r ≤ 1) × (r ≡ 0 → isPoint c ≡ true) ⌝ }
+// Whether the numbers from one place to another are below the surrogates; they may be and it is not told,
+// since only the bits of all together are looked at. No way out before the end: it is made of vectors.
+fn all_low(text: &[u32], at: usize, end: usize) -> bool
+    requires { ⌜ (at ≤ end) × (end ≤ length (now text)) ⌝ }
+    ensures { λ r. ⌜ (r ≡ true → Reading (now (text .entry)) at end) ⌝ }
 {
-    if c < 0xD800 { 0 } else { 1 }
-}
-
-// Whether the next 16 numbers are below the surrogates. All are read, with no way out between them, so
-// that a machine with wide registers reads several at once.
-fn all_low(text: &[u32], at: usize) -> bool
-    requires { ⌜ at + 16 ≤ length (now text) ⌝ }
-    ensures { λ r. ⌜ (r ≡ true → Reading (now (text .entry)) at (at + 16)) ⌝ }
-{
-    let mut highs: u32 = 0;
-    let mut i: usize = 0;
-    'block: while i < 16 {
-        highs += high(text[at + i]);
+    let mut bits: u32 = 0;
+    let mut i = at;
+    'block: while i < end {
+        bits = bits | text[i];
         i += 1;
     }
-    highs == 0
+    bits < 0xD800
+}
+
+// Whether the numbers from one place to another are code points. No way out before the end: it is made of
+// vectors.
+fn all_points(text: &[u32], at: usize, end: usize) -> bool
+    requires { ⌜ (at ≤ end) × (end ≤ length (now text)) ⌝ }
+    ensures { λ r. ⌜ (r ≡ true → Reading (now (text .entry)) at end) ⌝ }
+{
+    let mut points = true;
+    let mut i = at;
+    'block: while i < end {
+        points = points & is_point(text[i]);
+        i += 1;
+    }
+    points
 }
 
 // The first place from `at` on that holds no code point, or the end.
@@ -62,26 +64,34 @@ fn points_to(text: &[u32], at: usize, end: usize) -> usize
     end
 }
 
-// Refusal 4 of one text.
+// The end of the next block: 256 numbers, or what is left.
+fn block_end(at: usize, len: usize) -> usize
+    requires { ⌜ at < len ⌝ }
+    ensures { λ r. ⌜ (at < r) × (r ≤ len) ⌝ }
+{
+    if len - at < 256 { len } else { at + 256 }
+}
+
+// Refusal 4 of one text, by blocks: most hold low numbers alone, nearly all others code points.
 pub fn check_text(text: &[u32]) -> Verdict
     ensures { λ r. ⌜ r ≡ pointsFrom (now (text .entry)) 0 ⌝ }
 {
     let mut i: usize = 0;
-    'sixteens: while 16 <= text.len() - i {
-        let end = i + 16;
-        if all_low(text, i) {
+    'parts: while i < text.len() {
+        let end = block_end(i, text.len());
+        if all_low(text, i, end) {
             i = end;
-            continue 'sixteens;
+            continue 'parts;
+        }
+        if all_points(text, i, end) {
+            i = end;
+            continue 'parts;
         }
         let bad = points_to(text, i, end);
         if bad < end {
             return Verdict::Refused(refusal::Refusal::CodePoint { index: bad });
         }
         i = end;
-    }
-    let bad = points_to(text, i, text.len());
-    if bad < text.len() {
-        return Verdict::Refused(refusal::Refusal::CodePoint { index: bad });
     }
     Verdict::Accepted
 }

@@ -1,35 +1,26 @@
--- `all_low` tells that 16 numbers are code points.
+-- `all_low` tells that a block's numbers are code points.
 -- The loop keeps `Scanning`, whose ways are in Points. Assumes nothing.
-use Rattle.verdict.proofs.Points.{Scanning, scan-begin, scan-on, scan-end}
-use Prim.Native.Nat.{_-_}
-use borrow.Author.Tests.{eqb-true}
+use Rattle.verdict.proofs.Points.{Scanning, scan-begin, scan-on, scan-end, low-both}
+use Prim.Native.Nat.{_-_, _<_}
+use borrow.Author.Tests.{ltb-true}
 use borrow.Author.Needs.{needs}
 use Rattle.verdict.proofs.all_low.Statement.{statement}
 use Rattle.verdict.proofs.all_low.Tie as tie
 
 abbrev Inv-block : tie.InvT-block
-Inv-block text at highs₀ i₀ highs i = Scanning text at highs i
+Inv-block text at end bits₀ i₀ bits i = Scanning text at end i (bits < 55296)
 
 abbrev μ-block : tie.MeasureT-block
-μ-block text at highs₀ i₀ highs i = 16 - i
+μ-block text at end bits₀ i₀ bits i = end - i
 
 block-holds : tie.Need-block-holds Inv-block μ-block
-block-holds c = scan-begin _ _ (c .before .pre)
+block-holds c = scan-begin _ _ _ _ (c .pre .0) (c .pre .1)
 
-add-high : tie.Need-add-high Inv-block μ-block
-add-high c = search needs
+mul-bits : tie.Need-mul-bits Inv-block μ-block
+mul-bits c = search needs
 
-mul-high : tie.Need-mul-high Inv-block μ-block
-mul-high c = search needs
-
-shared-slice-read-high : tie.Need-shared-slice-read-high Inv-block μ-block
-shared-slice-read-high c = search needs
-
-high-requires : tie.Need-high-requires Inv-block μ-block
-high-requires c κs = search needs
-
-add-highs : tie.Need-add-highs Inv-block μ-block
-add-highs c = search needs
+shared-slice-read-bits : tie.Need-shared-slice-read-bits Inv-block μ-block
+shared-slice-read-bits c = search needs
 
 add-i : tie.Need-add-i Inv-block μ-block
 add-i c = search needs
@@ -39,13 +30,10 @@ block-less c = search needs
 
 block-again : tie.Need-block-again Inv-block μ-block
 block-again c =
-    let c2 = c .before .before in
-    let c3 = c2 .before in
-    let c5 = c3 .before .before in
-    scan-on _ (c3 .block .inv) (c5 .pre) (c2 .block-test .taken) (c .high .ensures)
+    scan-on (c .before .before .block .inv) (c .before .before .before .pre .1) (c .before .block-test .taken) (low-both _ _)
 
 returns : tie.Need-returns Inv-block μ-block
-returns c = λ e. scan-end (c .before .block .inv) (c .block-test .left) (eqb-true _ _ e)
+returns c = λ e. scan-end (c .before .block .inv) (c .block-test .left) (ltb-true _ _ e)
 
 pub all-low-spec : {M : Type 1} → statement M
 all-low-spec =
@@ -54,11 +42,8 @@ all-low-spec =
     Inv-block
     μ-block
     block-holds
-    add-high
-    mul-high
-    shared-slice-read-high
-    high-requires
-    add-highs
+    mul-bits
+    shared-slice-read-bits
     add-i
     block-less
     block-again
