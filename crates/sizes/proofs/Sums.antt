@@ -1,9 +1,9 @@
 -- Sums that stop at a cap: of the tokens of a run, and of what each operation of a list adds.
 -- The sum so far with what is left, capped, is the whole, capped. Assumes nothing.
 use Prim.Native.Nat.{ℕ, _+_, _-_, _/_, _≤_, _<_, min, zero-le}
-use mathlib.Core.Path.{_≡_, sym, _∙_}
+use mathlib.Core.Path.{_≡_, refl, sym, _∙_}
 use mathlib.Core.Bool.{true, false}
-use mathlib.Core.List.{List}
+use mathlib.Core.List.{List, [], _∷_}
 use native.Mathlib.Omega.{arith}
 use native.Mathlib.Nat.{sub-zero, zero-add}
 use lib.ListN.{length}
@@ -16,7 +16,7 @@ use Rattle.records.specs.Operations.{operationAt, operationsFrom, operationsOf}
 use Rattle.records.specs.Tokens.{tokensLent, tokenAt, tokensFrom}
 use Rattle.records.proofs.Operations as O
 use Rattle.records.proofs.Tokens as T
-use Rattle.sizes.specs.Texts.{total, inText, runText, runLent, insertedBy}
+use Rattle.sizes.specs.Texts.{total, inText, runText, runLent, insertedBy, retainedBy}
 use Rattle.verdict.proofs.Bools.{leb-same}
 
 abbrev pub cap : ℕ
@@ -100,6 +100,16 @@ module _ (n : ℕ) (spans keys : List ℕ) (o : Operation) where
       → r ≡ min cap (insertedBy n spans keys o)
   inserted-run r h e f = rw (eq-eqb _ _ h, e, insertedBy) f
 
+  -- what an operation adds to the text is retained or inserted
+
+  pub text-insert : (r : ℕ) → o .kind ≡ 1 → r ≡ min cap (insertedBy n spans keys o) → min cap r ≡ min cap (retainedBy o + insertedBy n spans keys o)
+  text-insert r h e =
+      let z : retainedBy o ≡ 0 = rw (ne-eqb (o .kind) 2 (λ k. omega arith)) in
+      omega arith
+
+  pub text-part : (r : ℕ) → (o .kind ≡ 1 → ⊥) → r ≡ retainedBy o → min cap r ≡ min cap (retainedBy o + insertedBy n spans keys o)
+  text-part r h e = omega (arith, inserted-other h)
+
 pub lent-fits : (spans keys : List ℕ) (o : Operation) → runLent spans keys o ≡ true → o .first + o .count ≤ tokensLent spans keys
 lent-fits spans keys o e = leb-true _ _ e
 
@@ -132,3 +142,9 @@ module _ {f : Operation → ℕ} {xs : List ℕ} {count i sum : ℕ} (h : Totals
   totals-end l =
       let z : min cap (sum + 0) ≡ min cap (total f (operationsOf xs)) = rw (O.from-none xs i count l) at (h .adds) in
       omega (arith, h .small)
+
+-- two sums over a list in one
+pub total-both : (f g : Operation → ℕ) (os : List Operation) → total (λ o. f o + g o) os ≡ total f os + total g os
+unfolding total
+total-both f g [] = refl
+total-both f g (o ∷ os) = omega (arith, total-both f g os)

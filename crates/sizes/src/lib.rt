@@ -40,7 +40,7 @@ pub fn other_limits() -> Limits
     }
 }
 
-fn wide(x: u32) -> usize
+pub fn wide(x: u32) -> usize
     ensures { λ r. ⌜ r ≡ x ⌝ }
 {
     x as usize
@@ -134,22 +134,6 @@ pub fn claimed(operations: &[usize]) -> usize
     sum
 }
 
-// The original that a list retains, capped.
-fn retained(operations: &[usize]) -> usize
-    ensures { λ r. ⌜ r ≡ min 1000000 (total retainedBy (operationsOf (now (operations .entry)))) ⌝ }
-{
-    let count = operations.len() / 6;
-    let mut i = 0;
-    let mut sum = 0;
-    'sum: while i < count {
-        let o = records::operation_at(operations, i);
-        let more = retained_by(o);
-        sum = capped(sum, more);
-        i += 1;
-    }
-    sum
-}
-
 // The text that a list inserts, capped.
 fn inserted(spans: &[u32], keys: &[u32], n: usize, operations: &[usize]) -> usize
     ensures { λ r. ⌜ r ≡ min 1000000 (total (insertedBy n (now (spans .entry)) (now (keys .entry))) (operationsOf (now (operations .entry)))) ⌝ }
@@ -166,14 +150,31 @@ fn inserted(spans: &[u32], keys: &[u32], n: usize, operations: &[usize]) -> usiz
     sum
 }
 
+// What an operation adds to its list's text, capped.
+fn text_by(spans: &[u32], keys: &[u32], n: usize, o: records::Operation) -> usize
+    ensures { λ r. ⌜ min 1000000 r ≡ min 1000000 (retainedBy o + insertedBy n (now (spans .entry)) (now (keys .entry)) o) ⌝ }
+{
+    if o.kind == 1 {
+        return inserted_by(spans, keys, n, o);
+    }
+    retained_by(o)
+}
+
 // The length of a list's text, capped: that of an accepted list is below the cap. n is the length of
 // the lent inserted text.
 pub fn text_length(spans: &[u32], keys: &[u32], n: usize, operations: &[usize]) -> usize
     ensures { λ r. ⌜ r ≡ min 1000000 (textLength n (now (spans .entry)) (now (keys .entry)) (operationsOf (now (operations .entry)))) ⌝ }
 {
-    let kept = retained(operations);
-    let added = inserted(spans, keys, n, operations);
-    capped(kept, added)
+    let count = operations.len() / 6;
+    let mut i = 0;
+    let mut sum = 0;
+    'sum: while i < count {
+        let o = records::operation_at(operations, i);
+        let more = text_by(spans, keys, n, o);
+        sum = capped(sum, more);
+        i += 1;
+    }
+    sum
 }
 
 // Whether the original and the lent inserted text keep their sizes.
