@@ -5,31 +5,61 @@ use mathlib.Core.Path.{_≡_, refl, sym, _∙_}
 use mathlib.Core.Bool.{true}
 use mathlib.Core.List.{List}
 use native.Mathlib.Omega.{arith}
+use native.Mathlib.Decide.{ℕ-discrete}
 use lib.ListN.{length}
-use borrow.Author.Tests.{le-leb}
+use lib.Dec.{leb}
+use borrow.Author.Tests.{eq-eqb, ne-eqb, le-leb, leb-true, lt-ltb}
 use Rattle.records.specs.declared.Operation.{Operation}
+use Rattle.records.specs.declared.Token.{Token}
 use Rattle.records.specs.declared.Cursor.{Cursor}
 use Rattle.records.specs.Operations.{operationAt, operationsOf}
+use Rattle.records.specs.Tokens.{tokenAt, tokensFrom}
 use Rattle.records.specs.Cursors.{cursorsOf}
+use Rattle.records.proofs.Operations as O
+use Rattle.records.proofs.Cursors as C
 use Rattle.verdict.specs.declared.Verdict.{Verdict}
 use Rattle.verdict.specs.declared.Verdict.the-variants.{Accepted, Refused}
 use Rattle.sizes.specs.declared.Limits.{Limits}
+use Rattle.checks.specs.declared.Run.{Run}
 use Rattle.checks.specs.declared.Pass.{Pass}
 use Rattle.verdict.specs.Verdicts.{andThen, sized}
 use Rattle.verdict.specs.Points.{pointsVerdict}
-use Rattle.sizes.specs.Texts.{total, claimedBy, insertedBy, retainedBy, textLength}
+use Rattle.sizes.specs.Texts.{total, inText, runLent, claimedBy, insertedBy, retainedBy}
 use Rattle.sizes.specs.Sizes.{Small, lentFits}
-use Rattle.shapes.specs.Shapes.{isRecord}
 use Rattle.shapes.specs.Tiling.{withinFrom}
 use Rattle.checks.specs.Lists.{listVerdict, listsVerdict}
-use Rattle.checks.specs.Passing.{Summed, Good}
-use Rattle.sizes.proofs.Sums.{cap, cap-cap, Totals, totals-begin, totals-on, totals-end}
-use Rattle.shapes.proofs.Shapely.{Recording, records-begin, records-on, records-end}
+use Rattle.checks.specs.Passing.{Whole, Inserts, Summed, Good}
+use Rattle.verdict.proofs.Bools.{and-left}
+use Rattle.sizes.proofs.Sums.{cap, cap-cap, Adding, adding-begins, adding-in, adding-ends, inserted-other, inserted-run, Totals, totals-begin, totals-on, totals-end}
+use Rattle.shapes.proofs.Shapely.{Looking, looks-begin, looks-on, looks-end, run-is, record-insert, record-part, Recording, records-begin, records-on, records-end}
 use Rattle.shapes.proofs.Tiled.{Tiled, tiled-begin, tiled-insert, tiled-on, tiled-end}
-use Rattle.sizes.proofs.Fits.{fits-text}
+
+-- a run: its tokens are good so far, and their text is summed up
+pub record Running (spans keys : List ℕ) (n first count end i sum : ℕ) : Type 0 where
+  pub looks : Looking spans keys n first count end i
+  pub adds : Adding spans keys n first count end i sum
+
+pub run-begins : (spans keys : List ℕ) (n first count end : ℕ) → end ≡ first + count → Running spans keys n first count end first 0
+run-begins spans keys n first count end e =
+    record { looks = looks-begin spans keys n first count end e; adds = adding-begins spans keys n first count end e }
+
+module _ {spans keys : List ℕ} {n first count end i sum : ℕ} (h : Running spans keys n first count end i sum) where
+  pub run-on : (t : Token) (s : ℕ) → i < end → t ≡ tokenAt spans keys i → (t .length ≡ 0 → ⊥) → inText n t ≡ true → s ≡ min cap (sum + t .length)
+      → Running spans keys n first count end (i + 1) s
+  run-on t s l e z b es = record { looks = looks-on (h .looks) t l e z b; adds = adding-in (h .adds) t s l e b es }
+
+  pub run-ends : end ≤ i → Whole n (tokensFrom spans keys first count) (record { good = true; text = sum })
+  run-ends l = record { good = sym (looks-end (h .looks) l); text = adding-ends (h .adds) l }
+
+pub whole-insert : (n : ℕ) (spans keys : List ℕ) (o : Operation) (r : Run) → o .kind ≡ 1 → (o .count ≡ 0 → ⊥) → runLent spans keys o ≡ true
+    → Whole n (tokensFrom spans keys (o .first) (o .count)) r → Inserts n spans keys o r
+whole-insert n spans keys o r k z l w =
+    record { good = sym (run-is n spans keys o true z l (sym (w .good))); text = inserted-run n spans keys o (r .text) k l (w .text) }
 
 pub record Passing (l : Limits) (n m : ℕ) (spans keys xs : List ℕ) (count i at tokens inserted retained : ℕ) : Type 0 where
   pub few : tokens ≤ l .tokens
+  pub short : inserted ≤ l .text
+  pub kept : retained ≤ at
   pub claims : Totals claimedBy xs count i tokens
   pub adds : Totals (insertedBy m spans keys) xs count i inserted
   pub keeps : Totals retainedBy xs count i retained
@@ -40,6 +70,8 @@ pub passing-begins : (l : Limits) (n m : ℕ) (spans keys xs : List ℕ) (count 
 passing-begins l n m spans keys xs count e =
     record {
       few = zero-le;
+      short = zero-le;
+      kept = zero-le;
       claims = totals-begin claimedBy xs count e;
       adds = totals-begin (insertedBy m spans keys) xs count e;
       keeps = totals-begin retainedBy xs count e;
@@ -47,52 +79,81 @@ passing-begins l n m spans keys xs count e =
       tiles = tiled-begin n xs count e;
     }
 
+pub retains-most : (o : Operation) → retainedBy o ≤ o .length
+retains-most o = go (ℕ-discrete (o .kind) 2)
+  where
+    go : Dec (o .kind ≡ 2) → retainedBy o ≤ o .length
+    go (yes e) = rw (eq-eqb (o .kind) 2 e) (omega arith)
+    go (no e) = rw (ne-eqb (o .kind) 2 e) zero-le
+
 module _ {l : Limits} {n m : ℕ} {spans keys xs : List ℕ} {count i at tokens inserted retained : ℕ}
     (h : Passing l n m spans keys xs count i at tokens inserted retained) where
-  -- what the pass found of an operation
-  module _ (o : Operation) (j : i < count) (e : o ≡ operationAt xs i) (x y z t u v : ℕ) (ex : x ≡ claimedBy o) (et : t ≡ min cap (tokens + x))
-      (w : t ≤ l .tokens) (b : isRecord m spans keys o ≡ true) (ey : y ≡ min cap (insertedBy m spans keys o)) (eu : u ≡ min cap (inserted + y)) (ez : z ≡ retainedBy o)
-      (ev : v ≡ min cap (retained + z)) where
-    passes : {at′ : ℕ} → Tiled n xs count (i + 1) at′ → Passing l n m spans keys xs count (i + 1) at′ t u v
-    passes g =
+  module _ (small : Small l) (o : Operation) (j : i < count) (e : o ≡ operationAt xs i) (side : o .side ≤ 1) where
+    pub passes-insert : (r : Run) → o .kind ≡ 1 → o .count ≤ l .tokens - tokens → Inserts m spans keys o r → r .text ≤ l .text - inserted
+        → Passing l n m spans keys xs count (i + 1) at (tokens + o .count) (inserted + r .text) retained
+    passes-insert r k c g d =
+        let none : retainedBy o ≡ 0 = rw (ne-eqb (o .kind) 2 (λ z. omega arith)) in
         record {
-          few = w;
-          claims = totals-on (h .claims) o x t j e (rw ex) et;
-          adds = totals-on (h .adds) o y u j e (cap-cap (insertedBy m spans keys o) y ey) eu;
-          keeps = totals-on (h .keeps) o z v j e (rw ez) ev;
-          records = records-on (h .records) o j e b;
-          tiles = g;
+          few = omega (arith, h .few);
+          short = omega (arith, h .short);
+          kept = h .kept;
+          claims = totals-on (h .claims) o (o .count) (tokens + o .count) j e (rw (eq-eqb (o .kind) 1 k)) (omega (arith, h .few, small .tokens));
+          adds =
+              totals-on (h .adds) o (r .text) (inserted + r .text) j e (cap-cap (insertedBy m spans keys o) (r .text) (g .text))
+              (omega (arith, h .short, small .text));
+          keeps = totals-on (h .keeps) o 0 retained j e (omega arith) (omega (arith, h .keeps .small));
+          records = records-on (h .records) o j e (sym (record-insert m spans keys o side true k (sym (g .good))));
+          tiles = tiled-insert (h .tiles) o j e k;
         }
 
-    pub passes-insert : o .kind ≡ 1 → Passing l n m spans keys xs count (i + 1) at t u v
-    passes-insert k = passes (tiled-insert (h .tiles) o j e k)
+    pub passes-part : (z : ℕ) → n ≤ 65535 → (o .kind ≡ 1 → ⊥) → o .kind ≤ 2 → (o .length ≡ 0 → ⊥) → o .order ≡ at → o .length ≤ n - at → z ≡ retainedBy o
+        → Passing l n m spans keys xs count (i + 1) (at + o .length) tokens inserted (retained + z)
+    passes-part z few k u some q g ez =
+        let none : claimedBy o ≡ 0 = rw (ne-eqb (o .kind) 1 k) in
+        record {
+          few = h .few;
+          short = h .short;
+          kept = omega (arith, h .kept, retains-most o);
+          claims = totals-on (h .claims) o 0 tokens j e (omega arith) (omega (arith, h .claims .small));
+          adds = totals-on (h .adds) o 0 inserted j e (omega (arith, inserted-other m spans keys o k)) (omega (arith, h .adds .small));
+          keeps = totals-on (h .keeps) o z (retained + z) j e (rw ez) (omega (arith, h .kept, h .tiles .inside, retains-most o));
+          records = records-on (h .records) o j e (sym (record-part m spans keys o side k u) ∙ lt-ltb 0 (o .length) (omega arith));
+          tiles = tiled-on (h .tiles) o j e k q g;
+        }
 
-    pub passes-part : (o .kind ≡ 1 → ⊥) → o .order ≡ at → o .length ≤ n - at → Passing l n m spans keys xs count (i + 1) (at + o .length) t u v
-    passes-part k q g = passes (tiled-on (h .tiles) o j e k q g)
-
-  pub passed : count ≤ i → at ≡ n → Summed l n m spans keys (operationsOf xs) (record { good = true; inserted = inserted; retained = retained })
-  passed j q =
+  pub passed : Small l → n ≤ 65535 → count ≤ i → at ≡ n
+      → Summed l n m spans keys (operationsOf xs) (record { good = true; inserted = inserted; retained = retained })
+  passed small few j q =
       record {
-        tokens = omega (arith, totals-end (h .claims) j, h .few);
-        inserted = totals-end (h .adds) j;
-        retained = totals-end (h .keeps) j;
+        tokens = omega (arith, totals-end (h .claims) j, h .few, small .tokens);
+        text = omega (arith, totals-end (h .adds) j, h .short, small .text);
+        inserted = omega (arith, totals-end (h .adds) j, h .short, small .text);
+        retained = omega (arith, totals-end (h .keeps) j, h .kept);
+        few = omega (arith, h .kept);
         records = records-end (h .records) j;
         tiles = tiled-end (h .tiles) j q;
       }
 
 -- the sizes and the cursors, behind a pass
-pub good-list : (l : Limits) (n m : ℕ) (spans keys xs ys : List ℕ) (p : Pass) (v : Verdict) → Small l → length xs / 6 ≤ l .operations → length ys / 2 ≤ l .cursors
-    → Summed l n m spans keys (operationsOf xs) p → p .inserted ≤ l .text → p .retained + p .inserted < 1000000
-    → v ≡ withinFrom (p .retained + p .inserted) (cursorsOf ys) 0 → v ≡ Accepted → Good l n m spans keys (operationsOf xs) (cursorsOf ys)
-good-list l n m spans keys xs ys p v s a b h u small e f =
-    let whole : p .retained + p .inserted ≡ textLength m spans keys (operationsOf xs) = omega (arith, h .inserted, h .retained) in
+pub good-list : (l : Limits) (n m : ℕ) (spans keys xs ys : List ℕ) (p : Pass) (v : Verdict) → length xs / 6 ≤ l .operations → length ys / 2 ≤ l .cursors
+    → Summed l n m spans keys (operationsOf xs) p → v ≡ withinFrom (p .retained + p .inserted) (cursorsOf ys) 0 → v ≡ Accepted
+    → Good l n m spans keys (operationsOf xs) (cursorsOf ys)
+good-list l n m spans keys xs ys p v a b h e f =
     record {
-      fits = sym (fits-text l m spans keys xs ys a b (min cap (total claimedBy (operationsOf xs))) refl s (h .tokens) (p .inserted) (h .inserted))
-          ∙ le-leb (p .inserted) (l .text) u;
+      fits =
+          rw (
+            le-leb (length (operationsOf xs)) (l .operations) (omega (arith, O.length-of xs)),
+            le-leb (length (cursorsOf ys)) (l .cursors) (omega (arith, C.length-of ys)),
+            le-leb (total claimedBy (operationsOf xs)) (l .tokens) (h .tokens),
+            le-leb (total (insertedBy m spans keys) (operationsOf xs)) (l .text) (h .text),
+          );
       records = sym (h .records);
       tiles = sym (h .tiles);
-      within = rw whole at (sym e ∙ f);
+      within = rw (h .retained, h .inserted) at (sym e ∙ f);
     }
+
+pub lent-few : (original text : List ℕ) → lentFits original text ≡ true → length original ≤ 65535
+lent-few original text h = leb-true (length original) 65535 (and-left (leb (length original) 65535) (leb (length text) 131070) h)
 
 then-none : (v : Verdict) → v ≡ andThen v Accepted
 unfolding andThen

@@ -3,12 +3,14 @@
 use sizes::Limits;
 use verdict::Verdict;
 ghost use mathlib.Core.Path.{_≡_};
+ghost use Prim.Native.Nat.{_+_, _≤_};
 ghost use Rattle.records.specs.Operations.{operationsOf};
+ghost use Rattle.records.specs.Tokens.{tokensLent, tokensFrom};
 ghost use Rattle.records.specs.Cursors.{cursorsOf};
 ghost use mathlib.Core.Bool.{true, false};
 ghost use Rattle.sizes.specs.Sizes.{Small};
 ghost use Rattle.checks.specs.Lists.{listVerdict, listsVerdict};
-ghost use Rattle.checks.specs.Passing.{Summed, Good};
+ghost use Rattle.checks.specs.Passing.{Whole, Inserts, Summed, Good};
 
 // Refusals 3, 4, 1, 2 and 5 of one list, in this order: check by check.
 fn judge_list(
@@ -96,8 +98,63 @@ fn judge_lists(
     }
 }
 
-// What one pass over a list's operations sums up, capped: the text that it inserts, and the original
-// that it retains; or that it may have found something to refuse.
+// What a look at an insert's tokens finds: their text, capped; or that something may be to refuse.
+struct Run {
+    good: bool,
+    text: usize,
+}
+
+fn no_run() -> Run
+    ensures { λ r. ⌜ r .good ≡ false ⌝ }
+{
+    Run {
+        good: false,
+        text: 0,
+    }
+}
+
+// A run of tokens, looked at and summed up at once.
+fn pass_run(spans: &[u32], keys: &[u32], n: usize, first: usize, count: usize) -> Run
+    requires { ⌜ first + count ≤ tokensLent (now spans) (now keys) ⌝ }
+    ensures { λ r. ⌜ (r .good ≡ true → Whole n (tokensFrom (now (spans .entry)) (now (keys .entry)) first count) r) ⌝ }
+{
+    let end = first + count;
+    let mut i = first;
+    let mut sum = 0;
+    'run: while i < end {
+        let t = records::token_at(spans, keys, i);
+        if t.length == 0 {
+            return no_run();
+        }
+        if !sizes::in_text(t, n) {
+            return no_run();
+        }
+        let length = sizes::wide(t.length);
+        sum = sizes::capped(sum, length);
+        i += 1;
+    }
+    Run {
+        good: true,
+        text: sum,
+    }
+}
+
+// An insert's tokens.
+fn pass_insert(spans: &[u32], keys: &[u32], n: usize, o: records::Operation) -> Run
+    requires { ⌜ o .kind ≡ 1 ⌝ }
+    ensures { λ r. ⌜ (r .good ≡ true → Inserts n (now (spans .entry)) (now (keys .entry)) o r) ⌝ }
+{
+    if o.count == 0 {
+        return no_run();
+    }
+    if !sizes::run_lent(spans, keys, o) {
+        return no_run();
+    }
+    pass_run(spans, keys, n, o.first, o.count)
+}
+
+// What one pass over a list's operations sums up: the text that it inserts, and the original that it
+// retains; or that it may have found something to refuse.
 struct Pass {
     good: bool,
     inserted: usize,
@@ -114,7 +171,8 @@ fn no_pass() -> Pass
     }
 }
 
-// Tokens are read only while they keep their size.
+// Tokens are read only while they keep their size. Of an operation's kind only whether it inserts is
+// a branch: kinds follow each other in no order that a processor could learn.
 fn pass_list(
     limits: Limits,
     n: usize,
@@ -123,6 +181,7 @@ fn pass_list(
     keys: &[u32],
     operations: &[usize],
 ) -> Pass
+    requires { ⌜ Small limits × (n ≤ 65535) ⌝ }
     ensures { λ r. ⌜ (r .good ≡ true → Summed limits n m (now (spans .entry)) (now (keys .entry)) (operationsOf (now (operations .entry))) r) ⌝ }
 {
     let count = operations.len() / 6;
@@ -134,24 +193,30 @@ fn pass_list(
     'pass: while i < count {
         let o = records::operation_at(operations, i);
         let next = i + 1;
-        let claims = sizes::claimed_by(o);
-        let claimed = sizes::capped(tokens, claims);
-        if limits.tokens < claimed {
+        if 1 < o.side {
             return no_pass();
         }
-        if !shapes::is_record(spans, keys, m, o) {
-            return no_pass();
-        }
-        let adds = sizes::inserted_by(spans, keys, m, o);
-        let added = sizes::capped(inserted, adds);
-        let keeps = sizes::retained_by(o);
-        let kept = sizes::capped(retained, keeps);
         if o.kind == 1 {
+            if limits.tokens - tokens < o.count {
+                return no_pass();
+            }
+            let run = pass_insert(spans, keys, m, o);
+            if !run.good {
+                return no_pass();
+            }
+            if limits.text - inserted < run.text {
+                return no_pass();
+            }
+            tokens += o.count;
+            inserted += run.text;
             i = next;
-            tokens = claimed;
-            inserted = added;
-            retained = kept;
             continue 'pass;
+        }
+        if 2 < o.kind {
+            return no_pass();
+        }
+        if o.length == 0 {
+            return no_pass();
         }
         if o.order != at {
             return no_pass();
@@ -159,11 +224,9 @@ fn pass_list(
         if n - at < o.length {
             return no_pass();
         }
+        retained += sizes::retained_by(o);
         at += o.length;
         i = next;
-        tokens = claimed;
-        inserted = added;
-        retained = kept;
     }
     if at == n {
         return Pass {
@@ -185,7 +248,7 @@ fn is_good(
     operations: &[usize],
     cursors: &[usize],
 ) -> bool
-    requires { ⌜ Small limits ⌝ }
+    requires { ⌜ Small limits × (n ≤ 65535) ⌝ }
     ensures { λ r. ⌜ (r ≡ true → Good limits n m (now (spans .entry)) (now (keys .entry)) (operationsOf (now (operations .entry))) (cursorsOf (now (cursors .entry)))) ⌝ }
 {
     if limits.operations < operations.len() / 6 {
@@ -198,16 +261,7 @@ fn is_good(
     if !sums.good {
         return false;
     }
-    if limits.text < sums.inserted {
-        return false;
-    }
-    if 900000 < sums.retained {
-        return false;
-    }
     let end = sums.retained + sums.inserted;
-    if 1000000 <= end {
-        return false;
-    }
     let verdict = shapes::check_cursors(cursors, end);
     match verdict {
         Verdict::Accepted => true,

@@ -2,7 +2,7 @@
 -- A good list leaves the texts; any other is judged check by check. Assumes nothing.
 use Rattle.verdict.proofs.Bools.{first-no}
 use Rattle.verdict.proofs.Chains.{too-big}
-use Rattle.checks.proofs.Passing.{good-alone}
+use Rattle.checks.proofs.Passing.{lent-few, good-alone}
 use Rattle.checks.specs.Lists.{listVerdict}
 use borrow.Author.Tests.{not-true, not-false}
 use mathlib.Core.Path.{sym, _∙_}
@@ -18,7 +18,9 @@ unfolding listVerdict
 returns c = too-big _ _ (first-no _ _ (sym (c .before .lent-fits .ensures) ∙ not-true _ (c .if1 .taken)))
 
 is-good-requires : tie.Need-is-good-requires
-is-good-requires c κs = search needs
+is-good-requires c κs =
+    let c8 = c .before .before .before .before .before .before .before .before in
+    (c8 .pre, lent-few (c8 .args .original .now) (c8 .args .text .now) (sym (c .before .lent-fits .ensures) ∙ not-false _ (c .if1 .left)))
 
 judge-list-requires : tie.Need-judge-list-requires
 judge-list-requires c κs = search needs

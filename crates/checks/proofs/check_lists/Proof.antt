@@ -2,7 +2,7 @@
 -- Two good lists leave the texts; any other are judged check by check. Assumes nothing.
 use Rattle.verdict.proofs.Bools.{first-no}
 use Rattle.verdict.proofs.Chains.{too-big}
-use Rattle.checks.proofs.Passing.{good-lists}
+use Rattle.checks.proofs.Passing.{lent-few, good-lists}
 use Rattle.checks.specs.Lists.{listsVerdict}
 use borrow.Author.Tests.{not-true, not-false}
 use mathlib.Core.Path.{sym, _∙_}
@@ -18,7 +18,9 @@ unfolding listsVerdict
 returns c = too-big _ _ (first-no _ _ (sym (c .before .lent-fits .ensures) ∙ not-true _ (c .if1 .taken)))
 
 is-good-requires : tie.Need-is-good-requires
-is-good-requires c κs = search needs
+is-good-requires c κs =
+    let c10 = c .before .before .before .before .before .before .before .before .before .before in
+    (c10 .pre, lent-few (c10 .args .original .now) (c10 .args .text .now) (sym (c .before .lent-fits .ensures) ∙ not-false _ (c .if1 .left)))
 
 judge-lists-requires : tie.Need-judge-lists-requires
 judge-lists-requires c κs = search needs
@@ -27,7 +29,10 @@ returns-2 : tie.Need-returns-2
 returns-2 c = search needs
 
 is-good-requires-2 : tie.Need-is-good-requires-2
-is-good-requires-2 c κs = search needs
+is-good-requires-2 c κs =
+    let c2 = c .before .before in
+    let c12 = c2 .before .before .before .before .before .before .before .before .before .before in
+    (c12 .pre, lent-few (c12 .args .original .now) (c12 .args .text .now) (sym (c2 .before .lent-fits .ensures) ∙ not-false _ (c2 .if1 .left)))
 
 judge-lists-requires-2 : tie.Need-judge-lists-requires-2
 judge-lists-requires-2 c κs = search needs

@@ -20,20 +20,12 @@ pass-list-requires c κs = search needs
 returns-3 : tie.Need-returns-3
 returns-3 c = λ e. no-way e
 
-returns-4 : tie.Need-returns-4
-returns-4 c = λ e. no-way e
-
-returns-5 : tie.Need-returns-5
-returns-5 c = λ e. no-way e
-
 add-end : tie.Need-add-end
 add-end c =
     let c3 = c .before .before .before in
-    let c17 = c3 .before .before .before .before .before .before .before .before .before .before .before .before .before .before in
-    omega (arith, c .before .if5 .left, c3 .if4 .left, c17 .pre .text)
-
-returns-6 : tie.Need-returns-6
-returns-6 c = λ e. no-way e
+    let c12 = c3 .before .before .before .before .before .before .before .before .before in
+    let s = c3 .pass-list .ensures (not-false _ (c .before .if3 .left)) in
+    omega (arith, s .few, s .inserted, s .text, c12 .pre .0 .text, c12 .pre .1)
 
 check-cursors-requires : tie.Need-check-cursors-requires
 check-cursors-requires c κs = search needs
@@ -44,24 +36,20 @@ enum-told c = search needs
 enum-known-verdict : tie.Need-enum-known-verdict
 enum-known-verdict c = search needs
 
-returns-7 : tie.Need-returns-7
-returns-7 c =
+returns-4 : tie.Need-returns-4
+returns-4 c =
     let c2 = c .before .before in
-    let c3 = c2 .before in
-    let c7 = c3 .before .before .before .before in
-    let c10 = c7 .before .before .before in
-    let c12 = c10 .before .before in
-    let c13 = c12 .before in
-    let c15 = c13 .before .before in
-    let c21 = c15 .before .before .before .before .before .before in
-    let a = c21 .args in
+    let c4 = c2 .before .before in
+    let c6 = c4 .before .before in
+    let c7 = c6 .before in
+    let c9 = c7 .before .before in
+    let a = c9 .before .before .before .before .before .before .args in
     λ e.
-    good-list (a .limits) (a .n) (a .m) (a .spans .now) (a .keys .now) (a .operations .now) (a .cursors .now) (c12 .pass-list .result) _ (c21 .pre)
-    (c15 .if1 .left) (c13 .if2 .left) (c12 .pass-list .ensures (not-false _ (c10 .if3 .left))) (c7 .if4 .left) (c3 .if6 .left)
-    (c2 .check-cursors .ensures) (c .enum-told .given .1)
+    good-list (a .limits) (a .n) (a .m) (a .spans .now) (a .keys .now) (a .operations .now) (a .cursors .now) (c6 .pass-list .result) _
+    (c9 .if1 .left) (c7 .if2 .left) (c6 .pass-list .ensures (not-false _ (c4 .if3 .left))) (c2 .check-cursors .ensures) (c .enum-told .given .1)
 
-returns-8 : tie.Need-returns-8
-returns-8 c = λ e. no-way e
+returns-5 : tie.Need-returns-5
+returns-5 c = λ e. no-way e
 
 pub is-good-spec : {M : Type 1} → statement M
 is-good-spec =
@@ -71,12 +59,9 @@ is-good-spec =
     returns-2
     pass-list-requires
     returns-3
-    returns-4
-    returns-5
     add-end
-    returns-6
     check-cursors-requires
     enum-told
     enum-known-verdict
-    returns-7
-    returns-8)
+    returns-4
+    returns-5)
