@@ -4,8 +4,8 @@ ghost use mathlib.Core.Path.{_≡_};
 ghost use Prim.Native.Nat.{_+_, _≤_};
 ghost use lib.ListN.{length, take, drop};
 ghost use Rattle.room.specs.Placed.{Put};
-ghost use Rattle.records.specs.Tokens.{spelling};
-ghost use Rattle.words.specs.Words.{Lends};
+ghost use Rattle.records.specs.Tokens.{tokensLent, tokensFrom, spelling};
+ghost use Rattle.words.specs.Words.{Lends, firstStart};
 
 fn wide(x: u32) -> usize
     ensures { λ r. ⌜ r ≡ x ⌝ }
@@ -28,7 +28,20 @@ pub fn put_original(
     room::put_u32(&original[from..end], out, at)
 }
 
-// The spelling of so many tokens from the first on.
+// Where the first of so many tokens starts; 0 where there is none.
+fn first_start(spans: &[u32], keys: &[u32], first: usize, count: usize) -> usize
+    requires { ⌜ first + count ≤ tokensLent (now spans) (now keys) ⌝ }
+    ensures { λ r. ⌜ r ≡ firstStart (tokensFrom (now (spans .entry)) (now (keys .entry)) first count) ⌝ }
+{
+    if count == 0 {
+        return 0;
+    }
+    let t = records::token_at(spans, keys, first);
+    wide(t.start)
+}
+
+// The spelling of so many tokens from the first on. Tokens that follow each other in the text are held
+// back and put at once, as most of an insert's are.
 pub fn put_tokens(
     text: &[u32],
     spans: &[u32],
@@ -44,12 +57,22 @@ pub fn put_tokens(
     let end = first + count;
     let mut i = first;
     let mut to = at;
+    let mut from = first_start(spans, keys, first, count);
+    let mut held = 0;
     'tokens: while i < end {
         let t = records::token_at(spans, keys, i);
-        let from = wide(t.start);
+        let start = wide(t.start);
         let length = wide(t.length);
-        to = put_original(text, from, length, out, to);
-        i += 1;
+        let next = i + 1;
+        if start == from + held {
+            held += length;
+            i = next;
+            continue 'tokens;
+        }
+        to = put_original(text, from, held, out, to);
+        from = start;
+        held = length;
+        i = next;
     }
-    to
+    put_original(text, from, held, out, to)
 }
