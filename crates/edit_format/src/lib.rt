@@ -11,6 +11,26 @@ fn wide(b: u8) -> u32
     b as u32
 }
 
+// The digit that a byte writes in lower-case hex, and 16 for every other byte.
+pub fn value(b: u8) -> u32
+    ensures { λ r. ⌜ r ≡ valueOf b ⌝ }
+{
+    let x = wide(b);
+    if x < 48 {
+        return 16;
+    }
+    if x < 58 {
+        return x - 48;
+    }
+    if x < 97 {
+        return 16;
+    }
+    if x < 103 {
+        return x - 87;
+    }
+    16
+}
+
 // The digit that a byte writes, of a byte that writes one: the last four bits of a letter are 9 less.
 pub fn digit(b: u8) -> u32
     requires { ⌜ valueOf b < 16 ⌝ }
@@ -20,9 +40,9 @@ pub fn digit(b: u8) -> u32
     (x & 15) + 9 * (x >> 6)
 }
 
-// The digit that a byte writes in lower-case hex, and 16 for every other byte. No branch tells 0 to 9 from a to f, since no processor
-// could foresee it: the bytes between them are those with more than 24 here.
-pub fn value(b: u8) -> u32
+// The same for numbers in hex. No branch tells 0 to 9 from a to f, since no processor could foresee it: the bytes between them are those
+// with more than 24 here. (Of a decimal number, a compiler leaves one test of `value`.)
+pub fn hex_value(b: u8) -> u32
     ensures { λ r. ⌜ r ≡ valueOf b ⌝ }
 {
     let x = wide(b);

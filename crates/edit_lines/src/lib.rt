@@ -147,14 +147,14 @@ fn short_number(bytes: &[u8], at: usize) -> Number
     requires { ⌜ at + 6 ≤ length (now bytes) ⌝ }
     ensures { λ r. ⌜ pointAt (now (bytes .entry)) at ≡ endedAt (now (bytes .entry)) r ⌝ }
 {
-    let first = edit_format::value(bytes[at]);
+    let first = edit_format::hex_value(bytes[at]);
     if 16 <= first {
         return Number::Bad;
     }
     let mut n = first;
     let mut k: usize = 1;
     'digits: while k < 6 {
-        let digit = edit_format::value(bytes[at + k]);
+        let digit = edit_format::hex_value(bytes[at + k]);
         if 16 <= digit {
             return Number::Value {
                 value: n,

@@ -2,9 +2,7 @@
 -- How: each way through it is a law of proofs/DigitLaws.antt.
 use mathlib.Core.Path.{sym}
 use native.Mathlib.Omega.{arith}
-use Prim.Native.Nat.{_+_}
-use lib.Bits.{and-mask}
-use Rattle.edit_format.proofs.DigitLaws.{value-low, value-high, value-between, value-writes}
+use Rattle.edit_format.proofs.DigitLaws.{value-low, value-ten, value-gap, value-six, value-high}
 use borrow.Author.Needs.{needs}
 use Rattle.edit_format.proofs.value.Statement.{statement}
 use Rattle.edit_format.proofs.value.Tie as tie
@@ -16,19 +14,20 @@ returns : tie.Need-returns
 returns c = sym (value-low (c .before .before .args .b) (omega arith))
 
 returns-2 : tie.Need-returns-2
-returns-2 c = sym (value-high (c .before .before .before .args .b) (omega arith))
-
-add-if3 : tie.Need-add-if3
-add-if3 c = omega arith
+returns-2 c = rw (value-ten (c .before .before .before .args .b) (omega arith) (omega arith)) (omega arith)
 
 returns-3 : tie.Need-returns-3
-returns-3 c = sym (value-between (c .before .before .before .before .args .b) (omega arith) (omega arith) (rw (c .before .before .before .wide .ensures, and-mask (c .before .before .before .before .args .b + 31) 6) at (c .if3 .taken)))
+returns-3 c = sym (value-gap (c .before .before .before .before .args .b) (omega arith) (omega arith))
 
-digit-requires : tie.Need-digit-requires
-digit-requires c κs = value-writes (c .before .before .before .before .args .b) (omega arith) (omega arith) (rw (c .before .before .before .wide .ensures, and-mask (c .before .before .before .before .args .b + 31) 6) at (c .if3 .left))
+sub-result : tie.Need-sub-result
+sub-result c = search needs
 
 returns-4 : tie.Need-returns-4
-returns-4 c = c .digit .ensures
+returns-4 c = rw (value-six (c .before .before .before .before .before .args .b) (omega arith) (omega arith)) (omega arith)
+
+returns-5 : tie.Need-returns-5
+returns-5 c = sym (value-high (c .before .before .before .before .before .args .b) (omega arith))
 
 pub value-spec : {M : Type 1} → statement M
-value-spec = tie.close (tie.spec wide-requires returns returns-2 add-if3 returns-3 digit-requires returns-4)
+value-spec =
+    tie.close (tie.spec wide-requires returns returns-2 returns-3 sub-result returns-4 returns-5)

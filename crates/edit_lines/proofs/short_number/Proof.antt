@@ -14,41 +14,41 @@ Inv-digits bytes at first n₀ k₀ n k = Digits bytes at k n
 abbrev μ-digits : tie.MeasureT-digits
 μ-digits bytes at first n₀ k₀ n k = 6 - k
 
-shared-slice-read-value : tie.Need-shared-slice-read-value Inv-digits μ-digits
-shared-slice-read-value c = search needs
+shared-slice-read-hex-value : tie.Need-shared-slice-read-hex-value Inv-digits μ-digits
+shared-slice-read-hex-value c = search needs
 
-value-requires : tie.Need-value-requires Inv-digits μ-digits
-value-requires c κs = search needs
+hex-value-requires : tie.Need-hex-value-requires Inv-digits μ-digits
+hex-value-requires c κs = search needs
 
 returns : tie.Need-returns Inv-digits μ-digits
 unfolding endedAt
-returns c = none (c .before .before .before .before .args .bytes .now) (c .before .before .before .before .args .at) (omega arith) (omega (arith, c .before .value .ensures))
+returns c = none (c .before .before .before .before .args .bytes .now) (c .before .before .before .before .args .at) (omega arith) (omega (arith, c .before .hex-value .ensures))
 
 digits-holds : tie.Need-digits-holds Inv-digits μ-digits
-digits-holds c = rw (c .before .value .ensures) (first (c .before .before .before .before .args .bytes .now) (c .before .before .before .before .args .at) (omega (arith, c .before .value .ensures)))
+digits-holds c = rw (c .before .hex-value .ensures) (first (c .before .before .before .before .args .bytes .now) (c .before .before .before .before .args .at) (omega (arith, c .before .hex-value .ensures)))
 
-add-value : tie.Need-add-value Inv-digits μ-digits
-add-value c = search needs
+add-hex-value : tie.Need-add-hex-value Inv-digits μ-digits
+add-hex-value c = search needs
 
-shared-slice-read-value-2 : tie.Need-shared-slice-read-value-2 Inv-digits μ-digits
-shared-slice-read-value-2 c = search needs
+shared-slice-read-hex-value-2 : tie.Need-shared-slice-read-hex-value-2 Inv-digits μ-digits
+shared-slice-read-hex-value-2 c = search needs
 
-value-requires-2 : tie.Need-value-requires-2 Inv-digits μ-digits
-value-requires-2 c κs = search needs
+hex-value-requires-2 : tie.Need-hex-value-requires-2 Inv-digits μ-digits
+hex-value-requires-2 c κs = search needs
 
 add-t14 : tie.Need-add-t14 Inv-digits μ-digits
 add-t14 c = search needs
 
 returns-2 : tie.Need-returns-2 Inv-digits μ-digits
-returns-2 c = stops (c .before .before .before .before .digits .inv) (omega (arith, c .before .value2 .ensures))
+returns-2 c = stops (c .before .before .before .before .digits .inv) (omega (arith, c .before .hex-value2 .ensures))
 
 returns-3 : tie.Need-returns-3 Inv-digits μ-digits
 unfolding endedAt
-returns-3 c = after-zero (c .before .before .before .before .before .digits .inv) (omega (arith, c .before .before .value2 .ensures)) (c .if3 .taken)
+returns-3 c = after-zero (c .before .before .before .before .before .digits .inv) (omega (arith, c .before .before .hex-value2 .ensures)) (c .if3 .taken)
 
 returns-4 : tie.Need-returns-4 Inv-digits μ-digits
 unfolding endedAt
-returns-4 c = after-last (c .before .before .before .before .before .before .digits .inv) (omega (arith, c .before .before .before .value2 .ensures)) (c .if4 .taken)
+returns-4 c = after-last (c .before .before .before .before .before .before .digits .inv) (omega (arith, c .before .before .before .hex-value2 .ensures)) (c .if4 .taken)
 
 mul-n : tie.Need-mul-n Inv-digits μ-digits
 mul-n c = omega arith
@@ -63,7 +63,7 @@ digits-less : tie.Need-digits-less Inv-digits μ-digits
 digits-less c = search needs
 
 digits-again : tie.Need-digits-again Inv-digits μ-digits
-digits-again c = rw (c .before .before .before .value2 .ensures) (further (c .before .before .before .before .before .before .digits .inv) (c .before .before .before .before .before .digits-test .taken) (omega (arith, c .before .before .before .value2 .ensures)) (c .before .if3 .left) (c .if4 .left))
+digits-again c = rw (c .before .before .before .hex-value2 .ensures) (further (c .before .before .before .before .before .before .digits .inv) (c .before .before .before .before .before .digits-test .taken) (omega (arith, c .before .before .before .hex-value2 .ensures)) (c .before .if3 .left) (c .if4 .left))
 
 add-t16 : tie.Need-add-t16 Inv-digits μ-digits
 add-t16 c = search needs
@@ -77,13 +77,13 @@ short-number-spec =
     (tie.spec
     Inv-digits
     μ-digits
-    shared-slice-read-value
-    value-requires
+    shared-slice-read-hex-value
+    hex-value-requires
     returns
     digits-holds
-    add-value
-    shared-slice-read-value-2
-    value-requires-2
+    add-hex-value
+    shared-slice-read-hex-value-2
+    hex-value-requires-2
     add-t14
     returns-2
     returns-3
