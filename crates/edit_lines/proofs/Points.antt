@@ -3,22 +3,22 @@
 use mathlib.Core.Path.{_≡_, refl, sym, ap, _∙_}
 use mathlib.Core.Bool.{Bool, true, false}
 use mathlib.Core.List.{List, [], _∷_}
-use Prim.Native.Nat.{ℕ, suc, _+_, _*_, _^_, _≤_, _<_, min}
-use native.Mathlib.Nat.{pow-suc, add-assoc}
+use Prim.Native.Nat.{ℕ, _+_, _*_, _^_, _≤_, _<_}
+use native.Mathlib.Nat.{pow-suc}
 use native.Mathlib.Numerals.{add-one}
 use native.Mathlib.Omega.{arith}
 use native.Mathlib.Decide.{decLt, ℕ-discrete}
 use lib.ListN.{length, getD, drop, List·getD-eq-default}
 use lib.Dec.{eqb}
-use borrow.Author.Tests.{lt-leb, eq-eqb, ne-eqb, eqb-true}
+use borrow.Author.Tests.{lt-leb, eq-eqb, ne-eqb}
 use Rattle.room.specs.Choice.{pick}
 use Rattle.edit_format.specs.Digits.{digitOf, isDigit, valueOf}
 use Rattle.edit_format.specs.Items.{isPoint}
 use Rattle.edit_format.proofs.DigitLaws.{value-low}
-use Rattle.edit_lines.specs.Scan.{cap, more, scan, endedAt, pointAt, Stands}
+use Rattle.edit_lines.specs.Scan.{cap, more, endedAt, pointAt, Stands}
 use Rattle.edit_lines.specs.declared.Number.the-variants.{Value, Bad}
 use Rattle.edit_lines.specs.declared.Point.the-variants.{More, Last, Bad as NoPoint}
-use Rattle.edit_lines.proofs.Leaves.{scan-end, scan-none, scan-on, more-end, more-none, more-zero, more-on, past-end}
+use Rattle.edit_lines.proofs.Leaves.{scan-end, scan-none, scan-on, more-end, more-none, more-zero, more-on}
 
 -- past the end stands no digit
 digit-in : (p : List ℕ) (i : ℕ) → valueOf (getD p i 0) < 16 → i < length p

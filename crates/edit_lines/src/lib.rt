@@ -161,7 +161,7 @@ fn short_number(bytes: &[u8], at: usize) -> Number
                 next: at + k,
             };
         }
-        if n == 0 {
+        if n < 1 {
             return Number::Bad;
         }
         if 69631 < n {

@@ -44,7 +44,7 @@ returns-2 c = stops (c .before .before .before .before .digits .inv) (omega (ari
 
 returns-3 : tie.Need-returns-3 Inv-digits μ-digits
 unfolding endedAt
-returns-3 c = after-zero (c .before .before .before .before .before .digits .inv) (omega (arith, c .before .before .hex-value2 .ensures)) (c .if3 .taken)
+returns-3 c = after-zero (c .before .before .before .before .before .digits .inv) (omega (arith, c .before .before .hex-value2 .ensures)) (omega arith)
 
 returns-4 : tie.Need-returns-4 Inv-digits μ-digits
 unfolding endedAt
@@ -63,7 +63,7 @@ digits-less : tie.Need-digits-less Inv-digits μ-digits
 digits-less c = search needs
 
 digits-again : tie.Need-digits-again Inv-digits μ-digits
-digits-again c = rw (c .before .before .before .hex-value2 .ensures) (further (c .before .before .before .before .before .before .digits .inv) (c .before .before .before .before .before .digits-test .taken) (omega (arith, c .before .before .before .hex-value2 .ensures)) (c .before .if3 .left) (c .if4 .left))
+digits-again c = rw (c .before .before .before .hex-value2 .ensures) (further (c .before .before .before .before .before .before .digits .inv) (c .before .before .before .before .before .digits-test .taken) (omega (arith, c .before .before .before .hex-value2 .ensures)) (λ z. omega arith) (c .if4 .left))
 
 add-t16 : tie.Need-add-t16 Inv-digits μ-digits
 add-t16 c = search needs
