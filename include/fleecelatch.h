@@ -237,7 +237,7 @@ fleecelatch_answer fleecelatch_edit_file_write(const int64_t *items, size_t item
 /* ---- The program ---- */
 
 /* Merges two edit files of an original, a text in UTF-8. Writes the merged edit file, and counts: bytes, 0; or a line `refused=` with one of the
-   numbers above, and counts: bytes, 1. Room: the exact length of the answer. Refusal 7, and no other. It takes 1 MB of stack. */
+   numbers above, and counts: bytes, 1. Room: the exact length of the answer. Refusal 7, and no other. It takes half a megabyte of stack. */
 fleecelatch_answer fleecelatch_merge_files(const uint8_t *original, size_t original_len, const uint8_t *left, size_t left_len,
     const uint8_t *right, size_t right_len, uint8_t *out, size_t out_len);
 

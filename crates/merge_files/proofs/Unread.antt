@@ -9,7 +9,7 @@ use native.Mathlib.Omega.{arith}
 use lib.ListN.{length, drop, getD, length-append, length-drop}
 use lib.Seq.{take-append-le, drop-append-le}
 use lib.Dec.{eqb}
-use borrow.Author.Tests.{eqb-true, le-leb, lt-ltb}
+use borrow.Author.Tests.{eqb-true, le-leb}
 use Rattle.refusal.specs.declared.Refusal.the-variants.{Record}
 use Rattle.records.specs.declared.Operation.{Operation}
 use Rattle.records.specs.declared.Token.{Token}
@@ -23,7 +23,6 @@ use Rattle.sizes.specs.Sizes.{merging}
 use Rattle.shapes.specs.Shapes.{runGood, isRecord, recordsFrom}
 use Rattle.shapes.specs.Tiling.{withinFrom}
 use Rattle.shapes.specs.Accepted.{AllIn}
-use Rattle.shapes.proofs.Accepted.{run-length}
 use Rattle.checks.specs.Lists.{listsVerdict}
 use Rattle.elongate.proofs.Joining.{by-test}
 use Rattle.merging.specs.declared.Op.{Op}
@@ -50,24 +49,31 @@ Reaches n spans keys (o ∷ os) = (o .kind ≡ 1 → AllIn n (tokensFrom spans k
 
 -- the checks
 
-all-further : (n m : ℕ) (ts : List Token) → n ≤ m → AllIn n ts → AllIn m ts
-unfolding AllIn
-all-further n m [] l h = tt
-all-further n m (t ∷ ts) l h = (h .0, (omega (arith, h .1 .0), all-further n m ts l (h .1 .1)))
-
-all-good : (n : ℕ) (ts : List Token) → AllIn n ts → runGood n ts ≡ true
+good-same : (n m : ℕ) (ts : List Token) → n ≤ m → AllIn n ts → runGood m ts ≡ runGood n ts
 unfolding AllIn runGood
-all-good n [] h = refl
-all-good n (t ∷ ts) h = rw (lt-ltb 0 (t .length) (h .0), le-leb (t .start + t .length) n (h .1 .0)) (all-good n ts (h .1 .1))
+good-same n m [] l h = refl
+good-same n m (t ∷ ts) l h =
+    rw (
+      le-leb (t .start + t .length) n (h .1 .0),
+      le-leb (t .start + t .length) m (omega (arith, h .1 .0)),
+      good-same n m ts l (h .1 .1),
+    )
+
+text-same : (n m : ℕ) (ts : List Token) → n ≤ m → AllIn n ts → runText m ts ≡ runText n ts
+unfolding AllIn runText
+text-same n m [] l h = refl
+text-same n m (t ∷ ts) l h =
+    rw (
+      le-leb (t .start + t .length) n (h .1 .0),
+      le-leb (t .start + t .length) m (omega (arith, h .1 .0)),
+      text-same n m ts l (h .1 .1),
+    )
 
 module _ (n m : ℕ) (l : n ≤ m) (spans keys : List ℕ) where
   record-same : (o : Operation) → (o .kind ≡ 1 → AllIn n (tokensFrom spans keys (o .first) (o .count))) → isRecord m spans keys o ≡ isRecord n spans keys o
   record-same o h =
       by-test (eqb (o .kind) 1) (isRecord m spans keys o ≡ isRecord n spans keys o)
-      (λ e.
-      let ts : List Token = tokensFrom spans keys (o .first) (o .count) in
-      let a : AllIn n ts = h (eqb-true (o .kind) 1 e) in
-      rw (e, all-good n ts a, all-good m ts (all-further n m ts l a)))
+      (λ e. rw (e, good-same n m (tokensFrom spans keys (o .first) (o .count)) l (h (eqb-true (o .kind) 1 e))))
       (λ e. rw e)
 
   records-same : (os : List Operation) (i : ℕ) → Reaches n spans keys os → recordsFrom m spans keys os i ≡ recordsFrom n spans keys os i
@@ -80,9 +86,7 @@ module _ (n m : ℕ) (l : n ≤ m) (spans keys : List ℕ) where
   inserted-same o h =
       by-test (eqb (o .kind) 1) (insertedBy m spans keys o ≡ insertedBy n spans keys o)
       (λ e.
-      let ts : List Token = tokensFrom spans keys (o .first) (o .count) in
-      let a : AllIn n ts = h (eqb-true (o .kind) 1 e) in
-      let r : runText m ts ≡ runText n ts = run-length m ts (all-further n m ts l a) ∙ sym (run-length n ts a) in
+      let r = text-same n m (tokensFrom spans keys (o .first) (o .count)) l (h (eqb-true (o .kind) 1 e)) in
       λ j. elim (eqb (o .kind) 1 && runLent spans keys o) as (λ (x : Bool). ℕ) [ true ↦ r j | false ↦ 0 ])
       (λ e. rw (e, insertedBy))
 

@@ -194,7 +194,7 @@ fn merge_edits(
     )
 }
 
-// The same where a file's counts do not fit the original: its keeps may be as long as any original.
+// The same where counts do not fit the original: a keep may be as long as any original.
 fn merge_unfit(original: &[u32], left: &[u8], right: &[u8], out: &mut [u8]) -> Outcome
     requires { ⌜ Files (now left) (now right) ⌝ }
     ensures { λ r. ⌜ Written (goodResult (now (original .entry)) (readFile (now (left .entry))) (readFile (now (right .entry)))) (now (out .entry)) (now (out .exit)) r ⌝ }
@@ -203,8 +203,8 @@ fn merge_unfit(original: &[u32], left: &[u8], right: &[u8], out: &mut [u8]) -> O
     merge_edits(original, left, right, &mut text, out)
 }
 
-// The merge of two accepted edit files. Where both are for an original of this length, as good as always, a short room is enough, and nothing long is
-// cleared.
+// The merge of two accepted edit files. Where both are believed for the original, no keep is longer than it, and a short room is
+// enough: a long one is cleared only where it is needed.
 fn merge_fit(original: &[u32], left: &[u8], right: &[u8], out: &mut [u8]) -> Outcome
     requires { ⌜ Files (now left) (now right) × (length (now original) ≤ 2048) ⌝ }
     ensures { λ r. ⌜ Written (goodResult (now (original .entry)) (readFile (now (left .entry))) (readFile (now (right .entry)))) (now (out .entry)) (now (out .exit)) r ⌝ }
