@@ -2,7 +2,7 @@
 -- Each is `placed-more` once; the loop says what is put and what is left of the whole. Assumes nothing.
 use mathlib.Core.Path.{_≡_, refl, sym, ap, _∙_}
 use mathlib.Core.List.{List, [], _∷_, _++_, append-assoc, append-nil}
-use Prim.Native.Nat.{ℕ, suc, _+_, _≤_, _<_}
+use Prim.Native.Nat.{ℕ, suc, _+_, _/_, _%_, _≤_, _<_}
 use native.Mathlib.Numerals.{add-one}
 use native.Mathlib.Omega.{arith}
 use native.Mathlib.Decide.{decLt}
@@ -10,10 +10,12 @@ use lib.ListN.{length, getD, drop, take, set, length-append, length-set}
 use lib.Seq.{set-split}
 use Rattle.room.specs.Placed.{placed, Put}
 use Rattle.diff.proofs.Building.{placed-length, placed-more, put-none}
-use Rattle.edit_format.specs.Digits.{digits}
+use Rattle.edit_format.specs.Digits.{digit, digits}
 use Rattle.edit_format.specs.Items.{Add}
 use Rattle.edit_format.specs.Written.{points, numberLine, addKey, itemLine}
-use Rattle.written_lines.specs.Lengths.{further}
+use Rattle.written_lines.specs.Lengths.{further, lastTwo}
+use Rattle.edit_format.proofs.DigitLaws.{digits-one, digits-last}
+use Rattle.written_lines.proofs.Numbers.{one-digit}
 use Rattle.written_lines.proofs.Counting.{line-length, add-length, first-point, next-point, no-point}
 
 pub put-length : {s d d₁ : List ℕ} {at a : ℕ} → Put s d at d₁ a → at + length s ≤ length d → length d₁ ≡ length d
@@ -31,6 +33,50 @@ one-byte d a v h = record { next = refl; stands = set-split d a v h ∙ rw (add-
 
 pub put-byte : {s d d₁ : List ℕ} {at a : ℕ} (v : ℕ) → Put s d at d₁ a → at + length s < length d → Put (s ++ v ∷ []) d at (set d₁ a v) (a + 1)
 put-byte {s} {d} {d₁} {at} {a} v p h = put-then (omega arith) p (one-byte d₁ a v (omega (arith, put-length p (omega arith), p .next)))
+
+-- numbers in hexadecimal, two digits at a time
+pub one-hex : (d : List ℕ) (at c : ℕ) → c < 16 → at + length (digits 16 c) ≤ length d → Put (digits 16 c) d at (set d at (digit c)) (at + 1)
+one-hex d at c h g = rw (digits-one 16 c h) (one-byte d at (digit c) (omega (arith, one-digit 16 c h)))
+
+pub pair-put : (d : List ℕ) (at c : ℕ) → at + 2 ≤ length d → Put (lastTwo c) d at (set (set d at (digit (c / 16 % 16))) (at + 1) (digit (c % 16))) (at + 2)
+unfolding lastTwo
+pair-put d at c h =
+    let p = put-byte (digit (c % 16)) (one-byte d at (digit (c / 16 % 16)) (omega arith)) (omega arith) in
+    record { next = refl; stands = p .stands }
+
+pub two-hex : (c : ℕ) → 16 ≤ c → c < 256 → digits 16 c ≡ lastTwo c
+unfolding lastTwo
+two-hex c g h =
+    let e : c / 16 % 16 ≡ c / 16 = omega arith in
+    digits-last 16 c (omega arith) g ∙ rw (digits-one 16 (c / 16) (omega arith), e)
+
+pub two-in : (c : ℕ) → 16 ≤ c → c < 256 → (at l : ℕ) → at + length (digits 16 c) ≤ l → at + 2 ≤ l
+unfolding lastTwo
+two-in c g h at l f = omega (arith, ap length (two-hex c g h))
+
+more-hex : (c : ℕ) → 256 ≤ c → digits 16 c ≡ digits 16 (c / 256) ++ lastTwo c
+unfolding lastTwo
+more-hex c h =
+    let e : c / 256 ≡ c / 16 / 16 = omega arith in
+    digits-last 16 c (omega arith) (omega arith)
+    ∙ rw (digits-last 16 (c / 16) (omega arith) (omega arith), e) (append-assoc (digits 16 (c / 16 / 16)) (digit (c / 16 % 16) ∷ []) (digit (c % 16) ∷ []))
+
+length-two : (c : ℕ) → length (lastTwo c) ≡ 2
+unfolding lastTwo
+length-two c = refl
+
+hex-split : (c : ℕ) → 256 ≤ c → length (digits 16 c) ≡ length (digits 16 (c / 256)) + 2
+hex-split c h = omega (arith, ap length (more-hex c h), length-append (digits 16 (c / 256)) (lastTwo c), length-two c)
+
+pub front-in : (c : ℕ) → 256 ≤ c → (at l : ℕ) → at + length (digits 16 c) ≤ l → at + length (digits 16 (c / 256)) ≤ l
+front-in c h at l g = omega (arith, hex-split c h)
+
+module _ (c : ℕ) (big : 256 ≤ c) {d d₁ : List ℕ} {at a : ℕ} (fits : at + length (digits 16 c) ≤ length d) (p : Put (digits 16 (c / 256)) d at d₁ a) where
+  pub pair-in : a + 2 ≤ length d₁
+  pair-in = omega (arith, hex-split c big, p .next, put-length p (front-in c big at (length d) fits))
+
+  pub hex-put : {d₂ : List ℕ} {b : ℕ} → Put (lastTwo c) d₁ a d₂ b → Put (digits 16 c) d at d₂ b
+  hex-put q = rw (more-hex c big) (put-then (omega arith) p q)
 
 -- the place of the next byte
 pub next-in : {s d d₁ : List ℕ} {at a : ℕ} → Put s d at d₁ a → at + length s < length d → a < length d₁

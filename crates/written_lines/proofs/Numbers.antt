@@ -33,6 +33,28 @@ one-digit m n h = rw (digits-one m n h)
 pub one-less : (m n : ℕ) → 1 < m → m ≤ n → length (digits m n) ≡ length (digits m (n / m)) + 1
 one-less m n h g = ap length (digits-last m n h g) ∙ length-append (digits m (n / m)) (digit (n % m) ∷ [])
 
+-- how many decimal digits a number has, by its size
+pub tens-2 : (n : ℕ) → 10 ≤ n → n < 100 → 2 ≡ length (digits 10 n)
+tens-2 n g h = omega (arith, one-less 10 n (omega arith) g, one-digit 10 (n / 10) (omega arith))
+
+pub tens-3 : (n : ℕ) → 100 ≤ n → n < 1000 → 3 ≡ length (digits 10 n)
+tens-3 n g h = omega (arith, one-less 10 n (omega arith) (omega arith), tens-2 (n / 10) (omega arith) (omega arith))
+
+pub tens-4 : (n : ℕ) → 1000 ≤ n → n < 10000 → 4 ≡ length (digits 10 n)
+tens-4 n g h = omega (arith, one-less 10 n (omega arith) (omega arith), tens-3 (n / 10) (omega arith) (omega arith))
+
+pub tens-5 : (n : ℕ) → 10000 ≤ n → n < 100000 → 5 ≡ length (digits 10 n)
+tens-5 n g h = omega (arith, one-less 10 n (omega arith) (omega arith), tens-4 (n / 10) (omega arith) (omega arith))
+
+-- the bytes of digits as sums
+pub decimal-digit : (d : ℕ) → d < 10 → d + 48 ≡ digit d
+unfolding digit
+decimal-digit d h = rw (lt-ltb d 10 h)
+
+pub hex-digit : (d : ℕ) → d < 16 → d + 48 + (d + 6) / 16 * 39 ≡ digit d
+unfolding digit
+hex-digit d h = elim (decLt d 10) [ yes g ↦ rw (lt-ltb d 10 g) (omega arith) | no g ↦ rw (le-ltb d 10 (omega arith)) (omega arith) ]
+
 pub some-digit : (m n : ℕ) → 1 < m → 1 ≤ length (digits m n)
 some-digit m n h = elim (decLt n m) [
   | yes g ↦ omega (arith, one-digit m n g)

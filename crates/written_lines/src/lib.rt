@@ -6,55 +6,114 @@ ghost use Rattle.room.specs.Placed.{Put};
 ghost use Rattle.edit_format.specs.Digits.{digit, digits};
 ghost use Rattle.edit_format.specs.Items.{Add};
 ghost use Rattle.edit_format.specs.Written.{points, numberLine, itemLine};
-ghost use Rattle.written_lines.specs.Lengths.{cap, further, step, hexes};
+ghost use Rattle.written_lines.specs.Lengths.{cap, further, lastTwo, step, hexes};
 
-// How many digits a number has.
-fn width(n: u64, base: u64) -> usize
-    requires { ⌜ 1 < base ⌝ }
-    ensures { λ r. ⌜ r ≡ length (digits base n) ⌝ }
+// How many decimal digits a number has: most have few, and are measured without a division.
+fn width(n: u64) -> usize
+    ensures { λ r. ⌜ r ≡ length (digits 10 n) ⌝ }
 {
+    if n < 10 {
+        return 1;
+    }
+    if n < 100 {
+        return 2;
+    }
+    if n < 1000 {
+        return 3;
+    }
+    if n < 10000 {
+        return 4;
+    }
+    if n < 100000 {
+        return 5;
+    }
     let mut m = n;
     let mut w: usize = 1;
-    'digits: while base <= m {
-        m = m / base;
+    'digits: while 10 <= m {
+        m = m / 10;
         w += 1;
     }
     w
 }
 
-// The byte of a digit.
-fn digit_byte(d: u64) -> u8
-    requires { ⌜ d < 16 ⌝ }
+// The byte of a decimal digit.
+fn decimal_byte(d: u64) -> u8
+    requires { ⌜ d < 10 ⌝ }
     ensures { λ r. ⌜ r ≡ digit d ⌝ }
 {
-    if d < 10 {
-        (d + 48) as u8
-    } else {
-        (d + 87) as u8
-    }
+    (d + 48) as u8
 }
 
-// A number at a place, its last digit first.
-fn put_digits(out: &mut [u8], at: usize, n: u64, base: u64) -> usize
-    requires { ⌜ (1 < base) × (base ≤ 16) × (at + length (digits base n) ≤ length (now out)) ⌝ }
-    ensures { λ r. ⌜ Put (digits base n) (now (out .entry)) at (now (out .exit)) r ⌝ }
+// A number in decimal at a place, its last digit first.
+fn put_decimal(out: &mut [u8], at: usize, n: u64) -> usize
+    requires { ⌜ at + length (digits 10 n) ≤ length (now out) ⌝ }
+    ensures { λ r. ⌜ Put (digits 10 n) (now (out .entry)) at (now (out .exit)) r ⌝ }
 {
-    let end = at + width(n, base);
+    let end = at + width(n);
     let mut m = n;
     let mut k = end;
-    'digits: while base <= m {
+    'digits: while 10 <= m {
         k -= 1;
-        out[k] = digit_byte(m % base);
-        m = m / base;
+        out[k] = decimal_byte(m % 10);
+        m = m / 10;
     }
-    out[k - 1] = digit_byte(m);
+    out[k - 1] = decimal_byte(m);
     end
 }
 
-fn wide(c: u32) -> u64
-    ensures { λ r. ⌜ r ≡ c ⌝ }
+// The byte of a hexadecimal digit: a sum, since which of them are letters no branch can foretell.
+fn hex_byte(d: u32) -> u8
+    requires { ⌜ d < 16 ⌝ }
+    ensures { λ r. ⌜ r ≡ digit d ⌝ }
 {
-    c as u64
+    (d + 48 + (d + 6) / 16 * 39) as u8
+}
+
+// The last two hexadecimal digits of a number at a place.
+fn put_pair(out: &mut [u8], at: usize, c: u32) -> usize
+    requires { ⌜ at + 2 ≤ length (now out) ⌝ }
+    ensures { λ r. ⌜ Put (lastTwo c) (now (out .entry)) at (now (out .exit)) r ⌝ }
+{
+    out[at] = hex_byte(c / 16 % 16);
+    out[at + 1] = hex_byte(c % 16);
+    at + 2
+}
+
+// A number of one or two hexadecimal digits at a place.
+fn put_two(out: &mut [u8], at: usize, c: u32) -> usize
+    requires { ⌜ (c < 256) × (at + length (digits 16 c) ≤ length (now out)) ⌝ }
+    ensures { λ r. ⌜ Put (digits 16 c) (now (out .entry)) at (now (out .exit)) r ⌝ }
+{
+    if c < 16 {
+        out[at] = hex_byte(c);
+        return at + 1;
+    }
+    put_pair(out, at, c)
+}
+
+// A number of up to four hexadecimal digits at a place.
+fn put_four(out: &mut [u8], at: usize, c: u32) -> usize
+    requires { ⌜ (c < 65536) × (at + length (digits 16 c) ≤ length (now out)) ⌝ }
+    ensures { λ r. ⌜ Put (digits 16 c) (now (out .entry)) at (now (out .exit)) r ⌝ }
+{
+    if c < 256 {
+        return put_two(out, at, c);
+    }
+    let a = put_two(out, at, c / 256);
+    put_pair(out, a, c)
+}
+
+// A number in hexadecimal at a place: no loop, and its digits are not counted.
+fn put_hex(out: &mut [u8], at: usize, c: u32) -> usize
+    requires { ⌜ at + length (digits 16 c) ≤ length (now out) ⌝ }
+    ensures { λ r. ⌜ Put (digits 16 c) (now (out .entry)) at (now (out .exit)) r ⌝ }
+{
+    if c < 65536 {
+        return put_four(out, at, c);
+    }
+    let a = put_four(out, at, c / 256 / 256);
+    let b = put_pair(out, a, c / 256);
+    put_pair(out, b, c)
 }
 
 // 1 for a number that is not below another.
@@ -108,7 +167,7 @@ pub fn line_length(key: usize, n: u64) -> usize
     requires { ⌜ key ≤ 9 ⌝ }
     ensures { λ r. ⌜ r ≡ cap (key + length (digits 10 n) + 1) ⌝ }
 {
-    plus(key + 1, width(n, 10))
+    plus(key + 1, width(n))
 }
 
 pub fn points_length(text: &[u32]) -> usize
@@ -133,7 +192,7 @@ pub fn put_line(out: &mut [u8], at: usize, key: &[u8], n: u64) -> usize
     ensures { λ r. ⌜ Put (numberLine (now (key .entry)) n) (now (out .entry)) at (now (out .exit)) r ⌝ }
 {
     let a = room::put_u8(key, out, at);
-    let b = put_digits(out, a, n, 10);
+    let b = put_decimal(out, a, n);
     out[b] = b'\n';
     b + 1
 }
@@ -146,9 +205,9 @@ fn put_further(out: &mut [u8], at: usize, text: &[u32]) -> usize
     let mut k = at;
     let mut i: usize = 1;
     'points: while i < text.len() {
-        let c = wide(text[i]);
+        let c = text[i];
         out[k] = b' ';
-        k = put_digits(out, k + 1, c, 16);
+        k = put_hex(out, k + 1, c);
         i += 1;
     }
     k
@@ -162,7 +221,7 @@ fn put_points(out: &mut [u8], at: usize, text: &[u32]) -> usize
     if text.len() == 0 {
         return at;
     }
-    let a = put_digits(out, at, wide(text[0]), 16);
+    let a = put_hex(out, at, text[0]);
     put_further(out, a, text)
 }
 

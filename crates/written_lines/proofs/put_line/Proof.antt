@@ -10,22 +10,22 @@ use Rattle.written_lines.proofs.put_line.Tie as tie
 put-u8-requires : tie.Need-put-u8-requires
 put-u8-requires c κs = omega (arith, c .before .before .before .pre, line-length (c .before .before .before .args .key .now) (c .before .before .before .args .n))
 
-put-digits-requires : tie.Need-put-digits-requires
-put-digits-requires c κs = (omega arith, omega arith, digits-in _ _ (c .before .before .before .before .before .before .before .pre) (c .before .before .before .put-u8 .ensures))
+put-decimal-requires : tie.Need-put-decimal-requires
+put-decimal-requires c κs = digits-in _ _ (c .before .before .before .before .before .before .before .pre) (c .before .before .before .put-u8 .ensures)
 
 slice-write-out : tie.Need-slice-write-out
-slice-write-out c = lf-in _ _ (c .before .before .before .before .before .before .before .before .before .before .pre) (c .before .before .before .before .before .before .put-u8 .ensures) (c .before .before .put-digits .ensures)
+slice-write-out c = lf-in _ _ (c .before .before .before .before .before .before .before .before .before .before .pre) (c .before .before .before .before .before .before .put-u8 .ensures) (c .before .before .put-decimal .ensures)
 
 add-result : tie.Need-add-result
-add-result c = omega (arith, lf-in _ _ (c .before .before .before .before .before .before .before .before .before .before .pre) (c .before .before .before .before .before .before .put-u8 .ensures) (c .before .before .put-digits .ensures))
+add-result c = omega (arith, lf-in _ _ (c .before .before .before .before .before .before .before .before .before .before .pre) (c .before .before .before .before .before .before .put-u8 .ensures) (c .before .before .put-decimal .ensures))
 
 same-length : tie.Need-same-length
-same-length c = line-long _ _ (c .before .before .before .before .before .before .before .before .before .before .pre) (c .before .before .before .before .before .before .put-u8 .ensures) (c .before .before .put-digits .ensures)
+same-length c = line-long _ _ (c .before .before .before .before .before .before .before .before .before .before .pre) (c .before .before .before .before .before .before .put-u8 .ensures) (c .before .before .put-decimal .ensures)
 
 returns : tie.Need-returns
-returns c = put-number-line _ _ (c .before .before .before .before .before .before .before .before .before .before .pre) (c .before .before .before .before .before .before .put-u8 .ensures) (c .before .before .put-digits .ensures)
+returns c = put-number-line _ _ (c .before .before .before .before .before .before .before .before .before .before .pre) (c .before .before .before .before .before .before .put-u8 .ensures) (c .before .before .put-decimal .ensures)
 
 pub put-line-spec : {M : Type 1} → statement M
 put-line-spec =
     tie.close
-    (tie.spec put-u8-requires put-digits-requires slice-write-out add-result same-length returns)
+    (tie.spec put-u8-requires put-decimal-requires slice-write-out add-result same-length returns)
