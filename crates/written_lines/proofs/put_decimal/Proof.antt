@@ -29,13 +29,19 @@ decimal-byte-requires : tie.Need-decimal-byte-requires Inv-digits μ-digits
 decimal-byte-requires c κs = omega arith
 
 slice-write-out : tie.Need-slice-write-out Inv-digits μ-digits
-slice-write-out c = omega (arith, inside (c .before .before .digits .inv) (omega arith) (c .before .before .before .before .before .pre), c .before .before .digits .inv .same, before (c .before .before .digits .inv) (omega arith) (c .before .before .before .before .before .pre))
+slice-write-out c =
+    let c2 = c .before .before in
+    let c5 = c2 .before .before .before in
+    omega (arith, inside (c2 .digits .inv) (omega arith) (c5 .pre), c2 .digits .inv .same, before (c2 .digits .inv) (omega arith) (c5 .pre))
 
 digits-less : tie.Need-digits-less Inv-digits μ-digits
 digits-less c = omega arith
 
 digits-again : tie.Need-digits-again Inv-digits μ-digits
-digits-again c = rw (c .decimal-byte .ensures) (goes-on (c .before .before .digits .inv) (omega arith) (c .before .before .before .before .before .pre) (c .before .digits-test .taken))
+digits-again c =
+    let c2 = c .before .before in
+    let c5 = c2 .before .before .before in
+    rw (c .decimal-byte .ensures) (goes-on (c2 .digits .inv) (omega arith) (c5 .pre) (c .before .digits-test .taken))
 
 decimal-byte-requires-2 : tie.Need-decimal-byte-requires-2 Inv-digits μ-digits
 decimal-byte-requires-2 c κs = omega arith
@@ -44,13 +50,20 @@ sub-out : tie.Need-sub-out Inv-digits μ-digits
 sub-out c = before (c .before .before .digits .inv) (omega arith) (c .before .before .before .before .before .pre)
 
 slice-write-out-2 : tie.Need-slice-write-out-2 Inv-digits μ-digits
-slice-write-out-2 c = omega (arith, inside (c .before .before .digits .inv) (omega arith) (c .before .before .before .before .before .pre), c .before .before .digits .inv .same, before (c .before .before .digits .inv) (omega arith) (c .before .before .before .before .before .pre))
+slice-write-out-2 c =
+    let c2 = c .before .before in
+    let c5 = c2 .before .before .before in
+    omega (arith, inside (c2 .digits .inv) (omega arith) (c5 .pre), c2 .digits .inv .same, before (c2 .digits .inv) (omega arith) (c5 .pre))
 
 same-length : tie.Need-same-length Inv-digits μ-digits
 same-length c = simp length-set (c .before .before .digits .inv .same)
 
 returns : tie.Need-returns Inv-digits μ-digits
-returns c = rw (c .decimal-byte2 .ensures) (ends (c .before .before .digits .inv) (omega arith) (c .before .before .before .before .before .pre) (c .before .digits-test .left) (omega (arith, c .before .before .before .width .ensures)))
+returns c =
+    let c2 = c .before .before in
+    let c3 = c2 .before in
+    let c5 = c3 .before .before in
+    rw (c .decimal-byte2 .ensures) (ends (c2 .digits .inv) (omega arith) (c5 .pre) (c .before .digits-test .left) (omega (arith, c3 .width .ensures)))
 
 pub put-decimal-spec : {M : Type 1} → statement M
 put-decimal-spec =

@@ -27,7 +27,11 @@ slice-write-out : tie.Need-slice-write-out Inv-points μ-points
 slice-write-out c = space-in (c .before .before .points .inv) (c .before .before .before .before .before .pre) (c .before .points-test .taken)
 
 add-put-hex : tie.Need-add-put-hex Inv-points μ-points
-add-put-hex c = omega (arith, space-in (c .before .before .before .points .inv) (c .before .before .before .before .before .before .pre) (c .before .before .points-test .taken))
+add-put-hex c =
+    let c2 = c .before .before in
+    let c3 = c2 .before in
+    let c6 = c3 .before .before .before in
+    omega (arith, space-in (c3 .points .inv) (c6 .pre) (c2 .points-test .taken))
 
 put-hex-requires : tie.Need-put-hex-requires Inv-points μ-points
 put-hex-requires c κs = point-in (c .before .before .before .points .inv) (c .before .before .before .before .before .before .pre) (c .before .before .points-test .taken)
@@ -39,7 +43,12 @@ points-less : tie.Need-points-less Inv-points μ-points
 points-less c = omega arith
 
 points-again : tie.Need-points-again Inv-points μ-points
-points-again c = points-more (c .before .before .before .before .before .before .points .inv) (c .before .before .before .before .before .before .before .before .before .pre) (c .before .before .before .before .before .points-test .taken) (c .before .before .put-hex .ensures)
+points-again c =
+    let c2 = c .before .before in
+    let c5 = c2 .before .before .before in
+    let c6 = c5 .before in
+    let c9 = c6 .before .before .before in
+    points-more (c6 .points .inv) (c9 .pre) (c5 .points-test .taken) (c2 .put-hex .ensures)
 
 same-length : tie.Need-same-length Inv-points μ-points
 same-length c = c .before .points .inv .same

@@ -16,19 +16,34 @@ returns : tie.Need-returns
 returns c = search needs
 
 put-four-requires-2 : tie.Need-put-four-requires-2
-put-four-requires-2 c κs = (omega (arith, c .before .before .before .fits .c), front-in _ (omega arith) _ _ (front-in _ (omega arith) _ _ (c .before .before .before .pre)))
+put-four-requires-2 c κs =
+    let c3 = c .before .before .before in
+    (omega (arith, c3 .fits .c), front-in _ (omega arith) _ _ (front-in _ (omega arith) _ _ (c3 .pre)))
 
 put-pair-requires : tie.Need-put-pair-requires
-put-pair-requires c κs = pair-in _ (omega arith) (front-in (c .before .before .before .before .before .before .before .args .c) (omega arith) _ _ (c .before .before .before .before .before .before .before .pre)) (c .before .before .before .put-four2 .ensures)
+put-pair-requires c κs =
+    let c3 = c .before .before .before in
+    let c7 = c3 .before .before .before .before in
+    pair-in _ (omega arith) (front-in (c7 .args .c) (omega arith) _ _ (c7 .pre)) (c3 .put-four2 .ensures)
 
 put-pair-requires-2 : tie.Need-put-pair-requires-2
-put-pair-requires-2 c κs = pair-in _ (omega arith) (c .before .before .before .before .before .before .before .before .before .before .before .pre) (hex-put _ (omega arith) (front-in _ (omega arith) _ _ (c .before .before .before .before .before .before .before .before .before .before .before .pre)) (c .before .before .before .before .before .before .before .put-four2 .ensures) (c .before .before .before .put-pair .ensures))
+put-pair-requires-2 c κs =
+    let c3 = c .before .before .before in
+    let c7 = c3 .before .before .before .before in
+    let c11 = c7 .before .before .before .before in
+    pair-in _ (omega arith) (c11 .pre) (hex-put _ (omega arith) (front-in _ (omega arith) _ _ (c11 .pre)) (c7 .put-four2 .ensures) (c3 .put-pair .ensures))
 
 same-length-2 : tie.Need-same-length-2
 same-length-2 c = search needs
 
 returns-2 : tie.Need-returns-2
-returns-2 c = hex-put _ (omega arith) (c .before .before .before .before .before .before .before .before .before .before .before .before .before .before .pre) (hex-put _ (omega arith) (front-in _ (omega arith) _ _ (c .before .before .before .before .before .before .before .before .before .before .before .before .before .before .pre)) (c .before .before .before .before .before .before .before .before .before .before .put-four2 .ensures) (c .before .before .before .before .before .before .put-pair .ensures)) (c .before .before .put-pair2 .ensures)
+returns-2 c =
+    let c2 = c .before .before in
+    let c6 = c2 .before .before .before .before in
+    let c10 = c6 .before .before .before .before in
+    let c14 = c10 .before .before .before .before in
+    hex-put _ (omega arith) (c14 .pre)
+    (hex-put _ (omega arith) (front-in _ (omega arith) _ _ (c14 .pre)) (c10 .put-four2 .ensures) (c6 .put-pair .ensures)) (c2 .put-pair2 .ensures)
 
 pub put-hex-spec : {M : Type 1} → statement M
 put-hex-spec =

@@ -12,16 +12,33 @@ shared-slice-read-put-hex : tie.Need-shared-slice-read-put-hex
 shared-slice-read-put-hex c = omega arith
 
 put-hex-requires : tie.Need-put-hex-requires
-put-hex-requires c κs = first-in (c .before .before .before .before .before .args .text .now) (c .before .before .before .before .before .args .out .now) _ (c .before .before .if1 .left) (c .before .before .before .before .before .pre)
+put-hex-requires c κs =
+    let c2 = c .before .before in
+    let c5 = c2 .before .before .before in
+    first-in (c5 .args .text .now) (c5 .args .out .now) _ (c2 .if1 .left) (c5 .pre)
 
 put-further-requires : tie.Need-put-further-requires
-put-further-requires c κs = further-in (c .before .before .before .before .before .before .before .before .before .args .text .now) (c .before .before .before .before .before .before .before .before .before .args .out .now) _ (c .before .before .before .before .before .before .if1 .left) (c .before .before .before .before .before .before .before .before .before .pre) (c .before .before .before .put-hex .ensures)
+put-further-requires c κs =
+    let c3 = c .before .before .before in
+    let c6 = c3 .before .before .before in
+    let c9 = c6 .before .before .before in
+    further-in (c9 .args .text .now) (c9 .args .out .now) _ (c6 .if1 .left) (c9 .pre) (c3 .put-hex .ensures)
 
 same-length : tie.Need-same-length
-same-length c = points-long (c .before .before .before .before .before .before .before .before .before .before .before .before .args .text .now) (c .before .before .before .before .before .before .before .before .before .before .before .before .args .out .now) _ (c .before .before .before .before .before .before .before .before .before .if1 .left) (c .before .before .before .before .before .before .before .before .before .before .before .before .pre) (c .before .before .before .before .before .before .put-hex .ensures) (c .before .before .put-further .ensures)
+same-length c =
+    let c2 = c .before .before in
+    let c6 = c2 .before .before .before .before in
+    let c9 = c6 .before .before .before in
+    let c12 = c9 .before .before .before in
+    points-long (c12 .args .text .now) (c12 .args .out .now) _ (c9 .if1 .left) (c12 .pre) (c6 .put-hex .ensures) (c2 .put-further .ensures)
 
 returns-2 : tie.Need-returns-2
-returns-2 c = all-points (c .before .before .before .before .before .before .before .before .before .before .before .before .args .text .now) (c .before .before .before .before .before .before .before .before .before .before .before .before .args .out .now) _ (c .before .before .before .before .before .before .before .before .before .if1 .left) (c .before .before .before .before .before .before .before .before .before .before .before .before .pre) (c .before .before .before .before .before .before .put-hex .ensures) (c .before .before .put-further .ensures)
+returns-2 c =
+    let c2 = c .before .before in
+    let c6 = c2 .before .before .before .before in
+    let c9 = c6 .before .before .before in
+    let c12 = c9 .before .before .before in
+    all-points (c12 .args .text .now) (c12 .args .out .now) _ (c9 .if1 .left) (c12 .pre) (c6 .put-hex .ensures) (c2 .put-further .ensures)
 
 pub put-points-spec : {M : Type 1} → statement M
 put-points-spec =

@@ -29,7 +29,11 @@ same-length-2 : tie.Need-same-length-2
 same-length-2 c = search needs
 
 returns-2 : tie.Need-returns-2
-returns-2 c = rw (two-hex _ (c .before .before .before .before .if1 .left) (c .before .before .before .before .before .before .pre .0)) (c .before .before .put-pair .ensures)
+returns-2 c =
+    let c2 = c .before .before in
+    let c4 = c2 .before .before in
+    let c6 = c4 .before .before in
+    rw (two-hex _ (c4 .if1 .left) (c6 .pre .0)) (c2 .put-pair .ensures)
 
 pub put-two-spec : {M : Type 1} → statement M
 put-two-spec =

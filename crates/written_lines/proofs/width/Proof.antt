@@ -40,7 +40,8 @@ digits-less : tie.Need-digits-less Inv-digits μ-digits
 digits-less c = omega arith
 
 digits-again : tie.Need-digits-again Inv-digits μ-digits
-digits-again c = (omega (arith, c .before .digits .inv .0, one-less 10 (c .before .digits .m) (omega arith) (c .digits-test .taken)), omega (arith, c .before .digits .inv .1))
+digits-again c =
+    (omega (arith, c .before .digits .inv .0, one-less 10 (c .before .digits .m) (omega arith) (c .digits-test .taken)), omega (arith, c .before .digits .inv .1))
 
 returns-6 : tie.Need-returns-6 Inv-digits μ-digits
 returns-6 c = omega (arith, c .before .digits .inv .0, one-digit 10 (c .before .digits .m) (c .digits-test .left))
