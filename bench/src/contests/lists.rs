@@ -70,20 +70,21 @@ pub fn contests(eighths: usize, seed: u64) -> Vec<Contest> {
     ]
 }
 
-pub fn small() -> Vec<Contest> {
-    let ten = Sizes {
-        original: 240,
-        operations: 10,
-        inserts: 4,
-        tokens: 12,
-        text: 40,
-        cursors: 2,
-        keys: 20,
-    };
+/// Ten operations.
+pub const TEN: Sizes = Sizes {
+    original: 240,
+    operations: 10,
+    inserts: 4,
+    tokens: 12,
+    text: 40,
+    cursors: 2,
+    keys: 20,
+};
 
+pub fn small() -> Vec<Contest> {
     vec![
         elongate("few", inputs::raw(8, 10, 20, 80, JOINABLE)),
-        merge("few", inputs::merge(6, ten, ten)),
+        merge("few", inputs::merge(6, TEN, TEN)),
         merge("a sheet of words", words()),
         merge("a sheet of lines", lines()),
     ]
@@ -91,27 +92,23 @@ pub fn small() -> Vec<Contest> {
 
 /// 600 words, up to 60 edits by each side.
 pub fn words() -> Merge {
-    let shape = Shape {
-        cut: Cut::Words,
-        items: (600, 600),
-        vocabulary: 400,
-        edits: 60,
-        cursors: 2,
-    };
-
-    sheets::merge(&mut Random::new(9), shape)
+    sheet(9, Cut::Words, 600, 400)
 }
 
 fn lines() -> Merge {
+    sheet(11, Cut::Lines, 400, 1_000)
+}
+
+fn sheet(seed: u64, cut: Cut, items: u64, vocabulary: u64) -> Merge {
     let shape = Shape {
-        cut: Cut::Lines,
-        items: (400, 400),
-        vocabulary: 1_000,
+        cut,
+        items: (items, items),
+        vocabulary,
         edits: 60,
         cursors: 2,
     };
 
-    sheets::merge(&mut Random::new(11), shape)
+    sheets::merge(&mut Random::new(seed), shape)
 }
 
 fn elongate(kind: &str, raw: Raw) -> Contest {

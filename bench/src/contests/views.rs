@@ -39,18 +39,8 @@ pub fn contests(eighths: usize, seed: u64) -> Vec<Contest> {
 }
 
 pub fn small() -> Vec<Contest> {
-    let ten = Sizes {
-        original: 240,
-        operations: 10,
-        inserts: 4,
-        tokens: 12,
-        text: 40,
-        cursors: 2,
-        keys: 20,
-    };
-
     [
-        views("few", inputs::single(23, ten)),
+        views("few", inputs::single(23, lists::TEN)),
         views("a merged sheet of words", merged(lists::words())),
     ]
     .into_iter()

@@ -4,7 +4,11 @@ use std::fmt::Debug;
 
 use oracle::{paper::refusal::Refusal, random::Random};
 
-use crate::{library::Answer, memory::Style, plan::Plan};
+use crate::{
+    library::Answer,
+    memory::{Number, Room, Style},
+    plan::Plan,
+};
 
 /// Calls the library with slices, each a name or a field that holds a pointer and a length.
 macro_rules! call {
@@ -150,5 +154,42 @@ pub fn fitted<T, const N: usize>(
     match answer {
         Ok(_) if short => Err(Refusal::Room),
         answer => answer.as_ref().map_err(|refusal| *refusal),
+    }
+}
+
+/// Chooses the room of calls that answer with one.
+pub struct OneRoom {
+    random: Random,
+    salt: u64,
+}
+
+impl OneRoom {
+    pub fn new(salt: u64) -> Self {
+        Self {
+            random: Random::new(salt),
+            salt,
+        }
+    }
+
+    /// Compares the call on the length, by what it answered, and the one after it, which fills the
+    /// room.
+    pub fn compare<T: Number>(
+        &mut self,
+        tally: &mut Tally,
+        call: usize,
+        answer: &Result<Vec<T>, Refusal>,
+        length: Answer,
+        room: &mut Room<T>,
+        fill: impl FnOnce((*mut T, usize)) -> Answer,
+    ) -> Result<(), String> {
+        let counts = |numbers: &Vec<T>| [numbers.len()];
+        tally.answer(call, length, fitted(answer, None, [0]).map(counts))?;
+
+        let asked = answer.as_ref().ok().map(counts);
+        let lent = rooms(&mut self.random, asked);
+        let got = fill(room.lend(lent[0], self.salt));
+        let answer = fitted(answer, asked, lent);
+        tally.answer(call + 1, got, answer.map(counts))?;
+        room.holds("out", answer.map_or(&[], |numbers| numbers))
     }
 }

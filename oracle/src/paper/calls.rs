@@ -47,12 +47,7 @@ pub fn apply(
 ) -> Result<Applied, Refusal> {
     check_list(lent, list)?;
     let applied = flat::apply(lent, list.operations, list.cursors);
-    room(applied.text.len(), 1, text_room)?;
-    room(
-        applied.cursors.len() / CURSOR_STRIDE,
-        CURSOR_STRIDE,
-        cursors_room,
-    )?;
+    applied_rooms(&applied, text_room, cursors_room)?;
     Ok(applied)
 }
 
@@ -64,12 +59,7 @@ pub fn apply_with_history(
 ) -> Result<Spans, Refusal> {
     check_list(lent, without_cursors(operations))?;
     let history = flat::apply_with_history(lent, operations);
-    room(
-        history.spans.len() / HISTORY_STRIDE,
-        HISTORY_STRIDE,
-        spans_room,
-    )?;
-    room(history.text.len(), 1, text_room)?;
+    history_rooms(&history, spans_room, text_room)?;
     Ok(history)
 }
 
@@ -83,18 +73,8 @@ pub fn apply_with_all(
 ) -> Result<(Applied, Spans), Refusal> {
     check_list(lent, list)?;
     let (applied, history) = flat::apply_with_all(lent, list.operations, list.cursors);
-    room(applied.text.len(), 1, text_room)?;
-    room(
-        applied.cursors.len() / CURSOR_STRIDE,
-        CURSOR_STRIDE,
-        cursors_room,
-    )?;
-    room(
-        history.spans.len() / HISTORY_STRIDE,
-        HISTORY_STRIDE,
-        spans_room,
-    )?;
-    room(history.text.len(), 1, history_room)?;
+    applied_rooms(&applied, text_room, cursors_room)?;
+    history_rooms(&history, spans_room, history_room)?;
     Ok((applied, history))
 }
 
@@ -109,6 +89,20 @@ pub fn to_diff(
     room(diff.items.len() / ITEM_STRIDE, ITEM_STRIDE, items_room)?;
     room(diff.text.len(), 1, text_room)?;
     Ok(diff)
+}
+
+fn applied_rooms(applied: &Applied, text: usize, cursors: usize) -> Result<(), Refusal> {
+    room(applied.text.len(), 1, text)?;
+    room(
+        applied.cursors.len() / CURSOR_STRIDE,
+        CURSOR_STRIDE,
+        cursors,
+    )
+}
+
+fn history_rooms(history: &Spans, spans: usize, text: usize) -> Result<(), Refusal> {
+    room(history.spans.len() / HISTORY_STRIDE, HISTORY_STRIDE, spans)?;
+    room(history.text.len(), 1, text)
 }
 
 fn without_cursors(operations: &[usize]) -> List<'_> {

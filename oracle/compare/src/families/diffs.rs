@@ -12,7 +12,7 @@ use oracle::{
 
 use crate::{
     damage::{damage, garbage, near_i64, near_u32},
-    family::{Family, Kind, Part, Tally, call, fitted, rooms},
+    family::{Family, Kind, OneRoom, Part, Tally, call},
     memory::{Lent, Room, Style},
     plan::Plan,
 };
@@ -206,35 +206,23 @@ impl Family for Replays {
     }
 
     fn compare(&mut self, input: &Diff, salt: u64, tally: &mut Tally) -> Result<(), String> {
-        let mut random = Random::new(salt);
+        let mut room = OneRoom::new(salt);
         let original = self.original.lend(&input.original, salt);
         let items = self.items.lend(&input.items, salt);
         let text = self.text.lend(&input.text, salt);
 
         let answer = diff::replay(&input.original, &input.items, &input.text, AMPLE);
         agree(input, &answer)?;
-        let got = call!(fleecelatch_from_diff_length(original, items, text));
-        tally.answer(0, got, fitted(&answer, None, [0]).map(|text| [text.len()]))?;
-
-        let asked = answer.as_ref().ok().map(|text| [text.len()]);
-        let lent = rooms(&mut random, asked);
-        let out = self.out.lend(lent[0], salt);
-        let got = call!(fleecelatch_from_diff(original, items, text, out));
-        let replayed = fitted(&answer, asked, lent);
-        tally.answer(1, got, replayed.map(|text| [text.len()]))?;
-        self.out.holds("out", replayed.map_or(&[], |text| text))?;
+        let length = call!(fleecelatch_from_diff_length(original, items, text));
+        room.compare(tally, 0, &answer, length, &mut self.out, |out| {
+            call!(fleecelatch_from_diff(original, items, text, out))
+        })?;
 
         let answer = diff::covering_replay(&input.original, &input.items, &input.text, AMPLE);
-        let got = call!(fleecelatch_from_covering_diff_length(original, items, text));
-        tally.answer(2, got, fitted(&answer, None, [0]).map(|text| [text.len()]))?;
-
-        let asked = answer.as_ref().ok().map(|text| [text.len()]);
-        let lent = rooms(&mut random, asked);
-        let out = self.out.lend(lent[0], salt);
-        let got = call!(fleecelatch_from_covering_diff(original, items, text, out));
-        let replayed = fitted(&answer, asked, lent);
-        tally.answer(3, got, replayed.map(|text| [text.len()]))?;
-        self.out.holds("out", replayed.map_or(&[], |text| text))
+        let length = call!(fleecelatch_from_covering_diff_length(original, items, text));
+        room.compare(tally, 2, &answer, length, &mut self.out, |out| {
+            call!(fleecelatch_from_covering_diff(original, items, text, out))
+        })
     }
 
     fn parts(input: &mut Diff) -> Vec<(&'static str, &mut dyn Part)> {

@@ -13,7 +13,7 @@ use oracle::{
 use super::diffs::{self, Diff};
 use crate::{
     damage::{damage, near_byte},
-    family::{Family, Kind, Part, Tally, call, fitted, rooms},
+    family::{Family, Kind, OneRoom, Part, Tally, call, fitted, rooms},
     memory::{Lent, Room, Style},
     plan::Plan,
 };
@@ -289,23 +289,12 @@ impl Family for Write {
 
     fn compare(&mut self, input: &Diff, salt: u64, tally: &mut Tally) -> Result<(), String> {
         let answer = edit_file::write(&input.items, &input.text, AMPLE);
-        let asked = answer.as_ref().ok().map(|bytes| [bytes.len()]);
         let items = self.items.lend(&input.items, salt);
         let text = self.text.lend(&input.text, salt);
-
-        let got = call!(fleecelatch_edit_file_write_length(items, text));
-        tally.answer(
-            0,
-            got,
-            fitted(&answer, None, [0]).map(|bytes| [bytes.len()]),
-        )?;
-
-        let lent = rooms(&mut Random::new(salt), asked);
-        let out = self.out.lend(lent[0], salt);
-        let got = call!(fleecelatch_edit_file_write(items, text, out));
-        let written = fitted(&answer, asked, lent);
-        tally.answer(1, got, written.map(|bytes| [bytes.len()]))?;
-        self.out.holds("out", written.map_or(&[], |bytes| bytes))
+        let length = call!(fleecelatch_edit_file_write_length(items, text));
+        OneRoom::new(salt).compare(tally, 0, &answer, length, &mut self.out, |out| {
+            call!(fleecelatch_edit_file_write(items, text, out))
+        })
     }
 
     fn parts(input: &mut Diff) -> Vec<(&'static str, &mut dyn Part)> {

@@ -7,7 +7,7 @@ use oracle::{
 
 use crate::{
     damage::{damage, near_byte, near_u32},
-    family::{Family, Kind, Part, Tally, call, fitted, rooms},
+    family::{Family, Kind, OneRoom, Part, Tally, call},
     memory::{Lent, Room, Style},
     plan::Plan,
 };
@@ -137,22 +137,11 @@ impl Family for Read {
 
     fn compare(&mut self, input: &Vec<u8>, salt: u64, tally: &mut Tally) -> Result<(), String> {
         let answer = utf8::read(input, AMPLE);
-        let asked = answer.as_ref().ok().map(|points| [points.len()]);
         let bytes = self.bytes.lend(input, salt);
-
-        let got = call!(fleecelatch_utf8_read_length(bytes));
-        tally.answer(
-            0,
-            got,
-            fitted(&answer, None, [0]).map(|points| [points.len()]),
-        )?;
-
-        let lent = rooms(&mut Random::new(salt), asked);
-        let out = self.out.lend(lent[0], salt);
-        let got = call!(fleecelatch_utf8_read(bytes, out));
-        let answer = fitted(&answer, asked, lent);
-        tally.answer(1, got, answer.map(|points| [points.len()]))?;
-        self.out.holds("out", answer.map_or(&[], |points| points))
+        let length = call!(fleecelatch_utf8_read_length(bytes));
+        OneRoom::new(salt).compare(tally, 0, &answer, length, &mut self.out, |out| {
+            call!(fleecelatch_utf8_read(bytes, out))
+        })
     }
 
     fn parts(input: &mut Vec<u8>) -> Vec<(&'static str, &mut dyn Part)> {
@@ -222,22 +211,11 @@ impl Family for Write {
 
     fn compare(&mut self, input: &Vec<u32>, salt: u64, tally: &mut Tally) -> Result<(), String> {
         let answer = utf8::write(input, AMPLE);
-        let asked = answer.as_ref().ok().map(|bytes| [bytes.len()]);
         let text = self.text.lend(input, salt);
-
-        let got = call!(fleecelatch_utf8_write_length(text));
-        tally.answer(
-            0,
-            got,
-            fitted(&answer, None, [0]).map(|bytes| [bytes.len()]),
-        )?;
-
-        let lent = rooms(&mut Random::new(salt), asked);
-        let out = self.out.lend(lent[0], salt);
-        let got = call!(fleecelatch_utf8_write(text, out));
-        let answer = fitted(&answer, asked, lent);
-        tally.answer(1, got, answer.map(|bytes| [bytes.len()]))?;
-        self.out.holds("out", answer.map_or(&[], |bytes| bytes))
+        let length = call!(fleecelatch_utf8_write_length(text));
+        OneRoom::new(salt).compare(tally, 0, &answer, length, &mut self.out, |out| {
+            call!(fleecelatch_utf8_write(text, out))
+        })
     }
 
     fn parts(input: &mut Vec<u32>) -> Vec<(&'static str, &mut dyn Part)> {

@@ -4,7 +4,11 @@ use oracle::{
     completed::Completed,
     flat::{Applied, CURSOR_STRIDE, Diff, HISTORY_STRIDE, ITEM_STRIDE, Spans},
     generate::{Merge, everywhere, limits, tiny},
-    paper::{calls, cases, lists::List, refusal::AMPLE},
+    paper::{
+        calls, cases,
+        lists::List,
+        refusal::{AMPLE, Refusal},
+    },
     random::Random,
 };
 
@@ -143,6 +147,20 @@ struct Slices {
     salt: u64,
 }
 
+/// Calls the library with a list, and with what follows it.
+macro_rules! of_list {
+    ($function:ident($slices:ident $(, $($more:ident).+)*)) => {
+        call!($function(
+            $slices.original,
+            $slices.text,
+            $slices.spans,
+            $slices.keys,
+            $slices.operations
+            $(, $($more).+)*
+        ))
+    };
+}
+
 impl Views {
     fn lend(&mut self, input: &Merge, salt: u64) -> Slices {
         Slices {
@@ -168,32 +186,20 @@ impl Views {
             |applied: &Applied| [applied.text.len(), applied.cursors.len() / CURSOR_STRIDE];
         let asked = |applied: &Applied| [applied.text.len(), applied.cursors.len()];
 
-        let got = call!(fleecelatch_apply_lengths(
-            slices.original,
-            slices.text,
-            slices.spans,
-            slices.keys,
-            slices.operations,
-            slices.cursors
-        ));
+        let got = of_list!(fleecelatch_apply_lengths(slices, slices.cursors));
         tally.answer(0, got, fitted(&answer, None, [0; 2]).map(counts))?;
 
         let asked = answer.as_ref().ok().map(asked);
         let lent = rooms(random, asked);
         let out = self.out.lend(lent[0], slices.salt);
         let moved = self.moved.lend(lent[1], slices.salt);
-        let got = call!(fleecelatch_apply(
-            slices.original,
-            slices.text,
-            slices.spans,
-            slices.keys,
-            slices.operations,
-            slices.cursors,
-            out,
-            moved
-        ));
+        let got = of_list!(fleecelatch_apply(slices, slices.cursors, out, moved));
         let answer = fitted(&answer, asked, lent);
         tally.answer(1, got, answer.map(counts))?;
+        self.holds_applied(answer)
+    }
+
+    fn holds_applied(&mut self, answer: Result<&Applied, Refusal>) -> Result<(), String> {
         self.out
             .holds("out", answer.map_or(&[], |applied| &applied.text))?;
         self.moved
@@ -211,28 +217,14 @@ impl Views {
         let counts = |history: &Spans| [history.spans.len() / HISTORY_STRIDE, history.text.len()];
         let asked = |history: &Spans| [history.spans.len(), history.text.len()];
 
-        let got = call!(fleecelatch_apply_with_history_lengths(
-            slices.original,
-            slices.text,
-            slices.spans,
-            slices.keys,
-            slices.operations
-        ));
+        let got = of_list!(fleecelatch_apply_with_history_lengths(slices));
         tally.answer(2, got, fitted(&answer, None, [0; 2]).map(counts))?;
 
         let asked = answer.as_ref().ok().map(asked);
         let lent = rooms(random, asked);
         let history = self.history.lend(lent[0], slices.salt);
         let out = self.out.lend(lent[1], slices.salt);
-        let got = call!(fleecelatch_apply_with_history(
-            slices.original,
-            slices.text,
-            slices.spans,
-            slices.keys,
-            slices.operations,
-            history,
-            out
-        ));
+        let got = of_list!(fleecelatch_apply_with_history(slices, history, out));
         let answer = fitted(&answer, asked, lent);
         tally.answer(3, got, answer.map(counts))?;
         self.history
@@ -264,14 +256,7 @@ impl Views {
             ]
         };
 
-        let got = call!(fleecelatch_apply_with_all_lengths(
-            slices.original,
-            slices.text,
-            slices.spans,
-            slices.keys,
-            slices.operations,
-            slices.cursors
-        ));
+        let got = of_list!(fleecelatch_apply_with_all_lengths(slices, slices.cursors));
         tally.answer(4, got, fitted(&answer, None, [0; 4]).map(counts))?;
 
         let asked = answer.as_ref().ok().map(asked);
@@ -280,12 +265,8 @@ impl Views {
         let moved = self.moved.lend(lent[1], slices.salt);
         let history = self.history.lend(lent[2], slices.salt);
         let history_text = self.history_text.lend(lent[3], slices.salt);
-        let got = call!(fleecelatch_apply_with_all(
-            slices.original,
-            slices.text,
-            slices.spans,
-            slices.keys,
-            slices.operations,
+        let got = of_list!(fleecelatch_apply_with_all(
+            slices,
             slices.cursors,
             out,
             moved,
@@ -294,12 +275,8 @@ impl Views {
         ));
         let answer = fitted(&answer, asked, lent);
         tally.answer(5, got, answer.map(counts))?;
-        let applied = answer.map(|(applied, _)| applied);
+        self.holds_applied(answer.map(|(applied, _)| applied))?;
         let history = answer.map(|(_, history)| history);
-        self.out
-            .holds("out", applied.map_or(&[], |applied| &applied.text))?;
-        self.moved
-            .holds("moved", applied.map_or(&[], |applied| &applied.cursors))?;
         self.history
             .holds("history", history.map_or(&[], |history| &history.spans))?;
         self.history_text
@@ -317,28 +294,14 @@ impl Views {
         let counts = |diff: &Diff| [diff.items.len() / ITEM_STRIDE, diff.text.len()];
         let asked = |diff: &Diff| [diff.items.len(), diff.text.len()];
 
-        let got = call!(fleecelatch_to_diff_lengths(
-            slices.original,
-            slices.text,
-            slices.spans,
-            slices.keys,
-            slices.operations
-        ));
+        let got = of_list!(fleecelatch_to_diff_lengths(slices));
         tally.answer(6, got, fitted(&answer, None, [0; 2]).map(counts))?;
 
         let asked = answer.as_ref().ok().map(asked);
         let lent = rooms(random, asked);
         let items = self.items.lend(lent[0], slices.salt);
         let out = self.out.lend(lent[1], slices.salt);
-        let got = call!(fleecelatch_to_diff(
-            slices.original,
-            slices.text,
-            slices.spans,
-            slices.keys,
-            slices.operations,
-            items,
-            out
-        ));
+        let got = of_list!(fleecelatch_to_diff(slices, items, out));
         let answer = fitted(&answer, asked, lent);
         tally.answer(7, got, answer.map(counts))?;
         self.items
