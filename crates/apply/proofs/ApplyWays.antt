@@ -12,7 +12,6 @@ use Rattle.room.specs.Placed.{answered}
 use Rattle.records.specs.declared.Operation.{Operation}
 use Rattle.records.specs.declared.Cursor.{Cursor}
 use Rattle.records.specs.Cursors.{flatCursors}
-use Rattle.records.proofs.Cursors as cursors
 use Rattle.cursors.specs.Sorted.{sorted}
 use Rattle.verdict.specs.declared.Verdict.{Verdict}
 use Rattle.verdict.specs.declared.Verdict.the-variants.{Accepted, Refused}
@@ -20,8 +19,6 @@ use Rattle.verdict.proofs.Chains.{stops, has-room, lacks-room}
 use Rattle.merging.specs.Lent.{Lent}
 use Rattle.apply.specs.declared.Applied.{Applied}
 use Rattle.apply.specs.declared.Applied.the-variants as A
-use Rattle.apply.specs.declared.WithHistory.the-variants as H
-use Rattle.apply.specs.declared.WithAll.the-variants as B
 use Rattle.apply.specs.Parts.{textBy, AllLie}
 use Rattle.apply.specs.Answers.{verdictOn, textOn, fits, applyVerdict, applied, Applies}
 use Rattle.apply.proofs.Answering.{all-lies, same-text, text-rooms, text-fits}

@@ -1,13 +1,13 @@
 -- Shown: the history of a list is put into its two rooms, one operation at a turn: the invariant, and its three ways.
 -- How: the text room is filled as the list's text is; a span is put where the last one ended.
-use Prim.Native.Nat.{ℕ, _+_, _-_, _*_, _/_, _≤_, _<_}
+use Prim.Native.Nat.{ℕ, _+_, _*_, _/_, _≤_, _<_}
 use mathlib.Core.Path.{_≡_, refl, sym, _∙_, ap}
 use mathlib.Core.List.{List, [], _∷_, _++_}
 use native.Mathlib.Omega.{arith}
 use lib.ListN.{length}
 use Rattle.room.specs.Placed.{placed}
 use Rattle.room.proofs.Answers.{at-start}
-use Rattle.diff.proofs.Building.{placed-none, placed-length, placed-more}
+use Rattle.room.proofs.Placing.{placed-none, placed-length, placed-more}
 use Rattle.records.specs.declared.Operation.{Operation}
 use Rattle.records.specs.Operations.{operationAt, operationsOf}
 use Rattle.records.proofs.Operations.{from-more, from-none, length-of}

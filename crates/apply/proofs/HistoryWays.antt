@@ -8,18 +8,14 @@ use lib.ListN.{length}
 use lib.Dec.{leb}
 use Rattle.refusal.specs.declared.Refusal.{Refusal}
 use Rattle.refusal.specs.declared.Refusal.the-variants.{Room}
-use Rattle.room.specs.Placed.{answered}
 use Rattle.records.specs.declared.Operation.{Operation}
-use Rattle.records.proofs.Cursors as cursors
 use Rattle.verdict.specs.declared.Verdict.{Verdict}
 use Rattle.verdict.specs.declared.Verdict.the-variants.{Accepted, Refused}
 use Rattle.verdict.proofs.Chains.{stops, has-room, lacks-room}
 use Rattle.merging.specs.Lent.{Lent}
 use Rattle.merging.specs.Outputs.{historyText, flatSpans}
-use Rattle.apply.specs.declared.Applied.the-variants as A
 use Rattle.apply.specs.declared.WithHistory.{WithHistory}
 use Rattle.apply.specs.declared.WithHistory.the-variants as H
-use Rattle.apply.specs.declared.WithAll.the-variants as B
 use Rattle.apply.specs.Parts.{historyBy, AllLie, Wrote}
 use Rattle.apply.specs.Answers.{verdictOn, historyOn, fits, historyVerdict, told, Tells}
 use Rattle.apply.proofs.Lists.{history-is}

@@ -1,6 +1,7 @@
 -- Shown: the text, the cursors and the history of the lists that the sheets' merges give.
 -- How: by computation.
 use mathlib.Core.Path.{refl}
+use Rattle.numbers.specs.Points.{isPoint}
 use Rattle.records.specs.Tokens.{tokensFrom, spelled}
 use Rattle.cursors.specs.Sorted.{place, sorted}
 use Rattle.verdict.specs.Verdicts.{andThen, sized}
@@ -16,7 +17,7 @@ use Rattle.apply.specs.Answers.{verdictOn, textOn, historyOn}
 use Rattle.apply.specs.Sheets.{AllMade}
 
 pub sheets-made : AllMade sheets
-unfolding verdictOn textOn historyOn listVerdict andThen sized pointsFrom recordsFrom runGood tilingFrom withinFrom total runText textFrom tokensFrom spelled sorted place outsFrom historyOf
+unfolding verdictOn textOn historyOn listVerdict andThen sized pointsFrom isPoint recordsFrom runGood tilingFrom withinFrom total runText textFrom tokensFrom spelled sorted place outsFrom historyOf
 sheets-made = (
   record { accepted = refl; text = refl; cursors = refl; history = refl },
   (

@@ -8,7 +8,7 @@ use native.Mathlib.Nat.{zero-add, sub-zero}
 use lib.ListN.{length, length-append}
 use Rattle.room.specs.Placed.{placed, answered, Put}
 use Rattle.room.proofs.Answers.{at-start}
-use Rattle.diff.proofs.Building.{placed-none, placed-length, placed-more}
+use Rattle.room.proofs.Placing.{placed-none, placed-length, placed-more}
 use Rattle.records.specs.declared.Operation.{Operation}
 use Rattle.records.specs.Operations.{operationAt, operationsFrom, operationsOf}
 use Rattle.records.proofs.Operations.{from-more, from-none}

@@ -13,7 +13,7 @@ ghost use Rattle.records.specs.Cursors.{cursorsOf, flatCursors};
 ghost use Rattle.merging.specs.Lent.{lentOf};
 ghost use Rattle.cursors.specs.Sorted.{sorted};
 ghost use Rattle.sizes.specs.Texts.{total};
-ghost use Rattle.merging.specs.Outputs.{historyText, flatSpans};
+ghost use Rattle.merging.specs.Outputs.{historyText};
 ghost use Rattle.apply.specs.Parts.{wordsBy, givenBy, textBy, spanBy, historyBy, removedBy, sideOf, Lies, AllLie, Told, Wrote};
 ghost use Rattle.apply.specs.Answers.{verdictOn, textOn, historyOn, applied, told, toldAll, Applies, Tells, AppliesAll};
 

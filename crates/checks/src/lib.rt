@@ -129,7 +129,7 @@ fn pass_run(spans: &[u32], keys: &[u32], n: usize, first: usize, count: usize) -
         if !sizes::in_text(t, n) {
             return no_run();
         }
-        let length = sizes::wide(t.length);
+        let length = numbers::wide(t.length);
         sum = sizes::capped(sum, length);
         i += 1;
     }

@@ -10,7 +10,7 @@ use Rattle.room.specs.Placed.{answered}
 use Rattle.records.specs.declared.Cursor.{Cursor}
 use Rattle.records.specs.Cursors.{cursorsFrom, flatCursors}
 use Rattle.merging.specs.declared.Shift.{Shift}
-use Rattle.operation.specs.Views.{most}
+use Rattle.numbers.specs.Sizes.{most}
 use Rattle.cursor_position.specs.declared.Progress.{Progress}
 
 -- "Sums are exact": those of a shift do not wrap

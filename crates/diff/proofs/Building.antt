@@ -1,16 +1,16 @@
 -- The building of the replayed text in a room: what is put, and what the edits that are left will put, is all of it.
 -- One law for a run that is put where the last one ended; each kind of item puts such a run. Assumes nothing.
 use mathlib.Core.Path.{_≡_, refl, sym, ap, _∙_}
-use mathlib.Core.List.{List, [], _++_, append-assoc}
+use mathlib.Core.List.{List, [], _++_}
 use Prim.Native.Nat.{ℕ, _+_, _-_, _/_, _≤_, _<_, zero-le}
 use native.Mathlib.Omega.{arith}
-use lib.ListN.{length, take, drop, length-append, length-take, length-drop}
-use lib.Seq.{take-at, drop-append-add, drop-drop, length-take-le}
+use lib.ListN.{length, take, drop, length-append}
+use lib.Seq.{drop-drop}
 use lib.IntN.{ℤ}
 use Rattle.room.specs.Placed.{placed, Put}
+use Rattle.room.proofs.Placing.{placed-none, placed-length, placed-more}
 use Rattle.string_builder.specs.Builder.{stopAt, Retained}
-use Rattle.string_builder.proofs.Stops.{stop-within, stop-rest, retained-length}
-pub use Rattle.string_builder.proofs.Stops.{placed-none, put-none}
+use Rattle.string_builder.proofs.Stops.{stop-within, stop-rest, retained-length, put-none}
 use Rattle.diff.specs.declared.diff.Item.{Item}
 use Rattle.diff.specs.declared.diff.Item.the-variants.{Retain, Delete, Insert, Neither}
 use Rattle.diff.specs.Items.{itemAt, itemsOf}
@@ -20,20 +20,6 @@ use Rattle.diff.proofs.Turns.{rest-all, restEdits, edits-at, edits-none
 -- a range by its start and its end is the range by its start and length
 pub range-part : (t : List ℕ) (s n : ℕ) → take (s + n - s) (drop s t) ≡ take n (drop s t)
 range-part t s n = let m : s + n - s ≡ n = omega arith in rw (m)
-
-pub placed-length : (d : List ℕ) (at : ℕ) (s : List ℕ) → at + length s ≤ length d → length (placed d at s) ≡ length d
-unfolding placed
-placed-length d at s h = simp (length-append, length-take, length-drop) (omega arith)
-
-pub placed-more : (d : List ℕ) (at : ℕ) (s t : List ℕ) → at ≤ length d → placed (placed d at s) (at + length s) t ≡ placed d at (s ++ t)
-unfolding placed
-placed-more d at s t h =
-    let e : length (take at d ++ s) ≡ at + length s = rw (length-append, length-take-le at d h) in
-    let g : at + length s + length t ≡ at + length (s ++ t) = rw (length-append) (omega arith) in
-    let f : drop (at + length s + length t) ((take at d ++ s) ++ drop (at + length s) d) ≡ drop (at + length (s ++ t)) d
-    = rw (← e, drop-append-add, e, drop-drop, g) in
-    rw (take-at (take at d ++ s) (drop (at + length s) d) (at + length s) e, f)
-    (ap (λ (l : List ℕ). l ++ drop (at + length (s ++ t)) d) (append-assoc (take at d) s t))
 
 pub record Building (o : List ℕ) (xs : List ℤ) (text out₀ : List ℕ) (i position : ℕ) (out : List ℕ) (at : ℕ) : Type 0 where
   pub within : position ≤ length o

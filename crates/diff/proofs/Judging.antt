@@ -20,7 +20,7 @@ use Rattle.diff.specs.Items.{itemsFrom, itemsOf}
 use Rattle.diff.specs.Replay.{Edit, replayed, mentioned, kept, added, left}
 use Rattle.diff.specs.Checks.{Verdict, fine, refused, andThen, refuseIf, originalMost, itemsMost, textMost, used, sizes, points, records, numbers}
 use Rattle.diff.specs.Passes.{recorded, surveyed, reached, walked}
-use Rattle.diff.specs.Answers.{Diff, edits, textOf, plain, found, judged}
+use Rattle.diff.specs.Answers.{Diff, edits, textOf, plain, judged}
 use Rattle.diff.proofs.Laws.{numbers-enough, kept-mentioned, replayed-length, added-used}
 
 items-from-length : (xs : List ℤ) (lent i k : ℕ) → length (itemsFrom xs lent i k) ≡ k

@@ -3,7 +3,8 @@
 use mathlib.Core.Path.{refl}
 use Rattle.diff.specs.Items.{numbered, ranged, itemOf, itemAt, itemsFrom, itemsOf}
 use Rattle.diff.specs.Replay.{editOf, editsOf, replayed, mentioned, left}
-use Rattle.diff.specs.Checks.{used, sizes, isPoint, points, records, numbers, covers}
+use Rattle.numbers.specs.Points.{isPoint}
+use Rattle.diff.specs.Checks.{used, sizes, points, records, numbers, covers}
 use Rattle.diff.specs.Answers.{edits, textOf, plain, covering, lengthOf}
 use Rattle.diff.specs.Sheets.{table, AllRight}
 

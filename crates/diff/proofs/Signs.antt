@@ -3,7 +3,7 @@
 use mathlib.Core.Path.{_≡_, refl, sym, ap, _∙_, subst}
 use mathlib.Core.Bool.{true, false}
 use Prim.Native.Nat.{ℕ, zero, suc, _<_, _^_}
-use native.Mathlib.Nat.{not-suc-le-zero, lt-of-le-of-lt, le-suc, lt-irrefl}
+use native.Mathlib.Nat.{not-suc-le-zero, lt-irrefl}
 use lib.IntN.{ℤ, pos, negsuc, negℤ, _+ℤ_, _-ℤ_, sucℤ, +ℤ-one, +ℤ-idl, negℤ-negℤ}
 use lib.Signed.{ltZ}
 use lib.Dec.{lit<}
@@ -11,6 +11,7 @@ use borrow.Author.Tests.{ltb-true}
 use mir.Syntax.{w64}
 use mir.Val.{SFits, toZ, ofZ}
 use mir.Facts.{toZ-ofZ}
+use Rattle.numbers.proofs.Signs.{neg-fits}
 
 negative′ : (z : ℤ) → SFits w64 z → ltZ z (pos 0) ≡ true → (k : ℕ) × (z ≡ negsuc k) × (k < 2 ^ 63)
 negative′ (pos n) f e = absurd (not-suc-le-zero (ltb-true n 0 e))
@@ -34,15 +35,8 @@ up (suc k) = refl
 pub step-up : (k : ℕ) → negsuc k +ℤ pos 1 ≡ negℤ (pos k)
 step-up k = +ℤ-one (negsuc k) ∙ up k
 
-pub neg-fits : (k : ℕ) → k < 2 ^ 63 → SFits w64 (negℤ (pos k))
-neg-fits zero h = record { sfits = lit< tt }
-neg-fits (suc k) h = record { sfits = lt-of-le-of-lt (le-suc k) h }
-
 pub minus-neg : (k : ℕ) → pos 0 -ℤ negℤ (pos k) ≡ pos k
 minus-neg k = +ℤ-idl (negℤ (negℤ (pos k))) ∙ negℤ-negℤ (pos k)
-
-pub pos-fits : (k : ℕ) → k < 2 ^ 63 → SFits w64 (pos k)
-pos-fits k h = record { sfits = h }
 
 pub negsuc-fits : (k : ℕ) → k < 2 ^ 63 → SFits w64 (negsuc k)
 negsuc-fits k h = record { sfits = h }

@@ -1,10 +1,11 @@
 -- The checks of a diff, each over the whole of what it looks at.
 -- Assumes nothing.
 use Prim.Native.Nat.{ℕ, _+_, _-_}
-use mathlib.Core.Bool.{Bool, true, false}
+use mathlib.Core.Bool.{Bool}
 use mathlib.Core.List.{List, [], _∷_}
 use lib.ListN.{length}
 use lib.Dec.{ltb}
+use Rattle.numbers.specs.Points.{isPoint}
 use Rattle.room.specs.Choice.{pick}
 use Rattle.refusal.specs.declared.Refusal.{Refusal}
 use Rattle.refusal.specs.declared.Refusal.the-variants.{Record, Size, CodePoint, Short, Room, Unmentioned}
@@ -52,10 +53,6 @@ sizes original is lent =
     andThen (refuseIf (ltb originalMost (length original)) Size)
     (andThen (refuseIf (ltb itemsMost (length is)) Size)
     (andThen (refuseIf (ltb textMost (length lent)) Size) (refuseIf (ltb textMost (used is)) Size)))
-
--- "a number above 10FFFF hex or in D800 to DFFF" is no code point
-unfoldable pub isPoint : ℕ → Bool
-isPoint x = pick (ltb x 0xd800) true (pick (ltb x 0xe000) false (ltb x 0x110000))
 
 -- 4: "a lent text holds a number above 10FFFF hex or in D800 to DFFF"; its index, counted from the one given
 unfoldable pub points : ℕ → List ℕ → Verdict

@@ -112,11 +112,7 @@ pub fn bad_point(text: &[u32]) -> Bad
     'text: while i < text.len() {
         let next = i + 1;
         let x = text[i];
-        if x < 0xd800 {
-            i = next;
-        } else if x < 0xe000 {
-            return Bad::At(i);
-        } else if x < 0x110000 {
+        if numbers::is_point(x) {
             i = next;
         } else {
             return Bad::At(i);

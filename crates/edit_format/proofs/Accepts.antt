@@ -1,25 +1,26 @@
 -- What is accepted is good: with canonical and read-back, a file is accepted exactly when it is the written form of good items.
 -- Assumes nothing.
-use mathlib.Core.Path.{_≡_, refl, sym, ap, _∙_}
+use mathlib.Core.Path.{_≡_, refl, sym}
 use mathlib.Core.Bool.{Bool, true, false, not}
 use mathlib.Core.List.{List, [], _∷_, _++_}
-use Prim.Native.Nat.{ℕ, zero, suc, _+_, _*_, _≤_, _<_, zero-le}
+use Prim.Native.Nat.{ℕ, _+_, _≤_, _<_, zero-le}
 use native.Mathlib.Omega.{arith}
 use lib.ListN.{length, getD, length-append}
 use lib.Dec.{ltb, leb, eqb}
 use borrow.Author.Tests.{ltb-true, leb-true, le-leb}
-use Rattle.room.specs.Choice.{pick}
 use Rattle.edit_format.specs.Tests.{both}
-use Rattle.edit_format.specs.Digits.{digitOf, isDigit}
-use Rattle.edit_format.specs.Items.{Item, Keep, Drop, Add, kept, dropped, added, isKeep, endsKeep, isPoint, allPoints, itemsGood, Good}
+use Rattle.edit_format.specs.Digits.{isDigit}
+use Rattle.numbers.specs.Points.{isPoint}
+use Rattle.edit_format.specs.Items.{Item, Keep, Drop, Add, kept, dropped, added, isKeep, endsKeep, allPoints, itemsGood, Good}
 use Rattle.edit_format.specs.Written.{Head, written}
-use Rattle.edit_format.specs.Reading.{Line, form, original, result, items, item, ending, Kind, keeping, dropping, adding, State, bad, key, gap, num, open′, after, keyOf, base, several, hexes, lineNo, fitsItem, fits, itemOf, opened, next, begun, keyed, numbered, kindOf, step, run, Found, Accepted, Refused, finish, readFile}
-use Rattle.edit_format.proofs.Picks.{pick-elim, both-0, both-1, apart}
+use Rattle.edit_format.specs.Reading.{Line, form, original, result, items, item, ending, Kind, keeping, dropping, adding, State, bad, key, gap, num, open′, after, keyOf, base, several, hexes, fitsItem, fits, itemOf, opened, next, begun, keyed, numbered, kindOf, step, run, Found, Accepted, finish, readFile}
+use Rattle.room.proofs.Choices.{pick-elim}
+use Rattle.edit_format.proofs.Picks.{both-0, both-1, apart}
 use Rattle.edit_format.proofs.NoBeginning.{never}
 use Rattle.edit_format.proofs.ReadBack.{kept-append, dropped-append, added-append, read-back}
 use Rattle.edit_format.proofs.Canonical.{canonical}
 
-both-in : {a b : Bool} → a ≡ true → b ≡ true → both a b ≡ true
+pub both-in : {a b : Bool} → a ≡ true → b ≡ true → both a b ≡ true
 both-in e f = rw (e, f)
 
 -- whether the last of the items is a keep, or, with none, k

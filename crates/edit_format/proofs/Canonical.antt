@@ -1,21 +1,21 @@
 -- An accepted file is the written form of its items.
 -- Each step of the reader keeps that the bytes read are those its state is written as. Assumes nothing.
-use mathlib.Core.Path.{_≡_, refl, sym, ap, _∙_}
-use mathlib.Core.Bool.{Bool, true, false}
+use mathlib.Core.Path.{_≡_, refl, sym, _∙_}
+use mathlib.Core.Bool.{true, false}
 use mathlib.Core.List.{List, [], _∷_, _++_, append-assoc, append-nil}
-use Prim.Native.Nat.{ℕ, zero, suc, _+_, _*_, _≤_, _<_}
+use Prim.Native.Nat.{ℕ, zero, suc, _+_, _<_}
 use native.Mathlib.Omega.{arith}
 use lib.ListN.{length, take, getD}
 use lib.Seq.{take-suc, take-all}
 use lib.Dec.{ltb, eqb}
 use borrow.Author.Tests.{ltb-true, ltb-false, eqb-true, eqb-false}
-use Rattle.room.specs.Choice.{pick}
 use Rattle.edit_format.specs.Tests.{both}
-use Rattle.edit_format.specs.Digits.{digit, digitOf, isDigit, digits}
+use Rattle.edit_format.specs.Digits.{digitOf, isDigit, digits}
 use Rattle.edit_format.specs.Items.{Item, Keep, Drop, Add, kept, dropped, added}
-use Rattle.edit_format.specs.Written.{Head, formKey, originalKey, resultKey, itemsKey, endKey, addKey, keepKey, dropKey, numberLine, points, itemLine, itemLines, headLines, headOf, written}
-use Rattle.edit_format.specs.Reading.{Line, form, original, result, items, item, ending, Kind, keeping, dropping, adding, State, bad, key, gap, num, open′, after, kindKey, keyOf, base, several, hexes, lineNo, fits, itemOf, opened, next, begun, keyed, numbered, kindOf, step, run, Found, Accepted, Refused, finish, readFile}
-use Rattle.edit_format.proofs.Picks.{pick-elim, both-0, both-1, apart}
+use Rattle.edit_format.specs.Written.{Head, formKey, originalKey, resultKey, itemsKey, endKey, addKey, keepKey, dropKey, numberLine, itemLine, itemLines, headLines, headOf, written}
+use Rattle.edit_format.specs.Reading.{Line, form, original, result, items, item, ending, keeping, dropping, adding, State, bad, key, gap, num, open′, after, kindKey, keyOf, base, several, hexes, fits, itemOf, opened, next, begun, keyed, numbered, kindOf, step, run, Found, Accepted, finish, readFile}
+use Rattle.room.proofs.Choices.{pick-elim}
+use Rattle.edit_format.proofs.Picks.{both-0, both-1, apart}
 use Rattle.edit_format.proofs.NoBeginning.{never}
 use Rattle.edit_format.proofs.DigitLaws.{digit-writes, digit-below, digits-one, digits-more}
 use Rattle.edit_format.proofs.Texts.{before, spaced, Sound, Reads, spaced-snoc, points-snoc, items-snoc, line-ends}

@@ -4,20 +4,21 @@ use mathlib.Core.Path.{_≡_, refl, sym, ap, _∙_, subst}
 use mathlib.Core.Logic.{_⊎_, inl, inr, ⊎-elim}
 use mathlib.Core.Bool.{Bool, true, false}
 use mathlib.Core.List.{List, [], _∷_, _++_, append-assoc, append-nil}
-use Prim.Native.Nat.{ℕ, zero, suc, _+_, _*_, _≤_, _<_}
+use Prim.Native.Nat.{ℕ, zero, suc, _+_, _≤_}
 use native.Mathlib.Omega.{arith}
 use native.Mathlib.Decide.{decLe}
 use lib.ListN.{length, getD, length-append}
 use lib.Dec.{ltb, eqb}
-use borrow.Author.Tests.{ltb-true, eqb-true, eqb-false, eq-eqb, ne-eqb}
+use borrow.Author.Tests.{eqb-true}
 use Rattle.room.specs.Choice.{pick}
 use Rattle.edit_format.specs.Tests.{both}
-use Rattle.edit_format.specs.Digits.{digitOf, isDigit}
+use Rattle.edit_format.specs.Digits.{isDigit}
 use Rattle.edit_format.specs.Items.{Item, kept, dropped, added}
 use Rattle.edit_format.specs.Written.{Head}
 use Rattle.edit_format.specs.Reading.{Kind, keeping, dropping, adding, Line, form, original, result, items, item, ending, State, bad, key, gap, num, open′, after, lineNo, kindKey, keyOf, base, several, fits, kindOf, itemOf, opened, next, begun, keyed, numbered, step, run, Found, Accepted, Refused, finish, readFile}
-use Rattle.edit_format.specs.Charge.{ends, Starts, Before, Charged}
-use Rattle.edit_format.proofs.Picks.{pick-elim, both-1, apart}
+use Rattle.edit_format.specs.Charge.{ends, Starts, Charged}
+use Rattle.room.proofs.Choices.{pick-elim}
+use Rattle.edit_format.proofs.Picks.{apart}
 use Rattle.edit_format.proofs.DigitLaws.{no-digit-lf}
 use Rattle.edit_format.proofs.NoBeginning.{run-append}
 

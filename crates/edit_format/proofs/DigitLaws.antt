@@ -12,7 +12,8 @@ use borrow.Author.Tests.{ltb-true, ltb-false, eqb-true, lt-ltb, le-ltb, eq-eqb, 
 use Rattle.room.specs.Choice.{pick}
 use Rattle.edit_format.specs.Tests.{both}
 use Rattle.edit_format.specs.Digits.{digit, digitOf, isDigit, valueOf, digits, digitsIn}
-use Rattle.edit_format.proofs.Picks.{pick-elim, both-0, both-1, both-true, both-false}
+use Rattle.room.proofs.Choices.{pick-elim}
+use Rattle.edit_format.proofs.Picks.{both-0, both-1, both-false}
 
 pub digit-back : (d : ℕ) → digitOf (digit d) ≡ d
 unfolding digit digitOf

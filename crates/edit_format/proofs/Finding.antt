@@ -3,18 +3,18 @@
 use mathlib.Core.Path.{_≡_, refl, sym, ap, _∙_}
 use mathlib.Core.Bool.{Bool, true, false}
 use mathlib.Core.List.{List, [], _∷_, _++_}
-use Prim.Native.Nat.{ℕ, zero, suc, _+_, _-_, _*_, _≤_, _<_}
+use Prim.Native.Nat.{ℕ, suc, _+_, _-_, _*_, _≤_, _<_}
 use native.Mathlib.Nat.{sub-zero}
 use native.Mathlib.Omega.{arith}
 use native.Mathlib.Decide.{decLt}
 use lib.ListN.{length, getD, drop, drop-of-length-le}
-use lib.Seq.{drop-cons, drop-nil, drop-length}
-use lib.Dec.{ltb, eqb}
-use borrow.Author.Tests.{lt-ltb, le-ltb, eq-eqb, ne-eqb}
+use lib.Seq.{drop-cons, drop-nil}
+use lib.Dec.{eqb}
+use borrow.Author.Tests.{lt-ltb, le-ltb}
 use Rattle.room.specs.Choice.{pick}
 use Rattle.edit_format.specs.Tests.{both, begins}
 use Rattle.edit_format.specs.Digits.{digitOf, isDigit}
-use Rattle.edit_format.specs.Reading.{Line, State, bad, key, gap, num, open′, after, item, lineNo, keyOf, base, several, fits, next, begun, keyed, numbered, kindOf, step, run, Found, Accepted, Refused, finish, found}
+use Rattle.edit_format.specs.Reading.{Line, bad, key, gap, num, open′, item, lineNo, keyOf, base, several, fits, next, begun, keyed, numbered, kindOf, step, run, Refused, finish, found}
 use Rattle.edit_format.specs.Items.{Item}
 use Rattle.edit_format.specs.Written.{Head}
 use Rattle.edit_format.proofs.Picks.{both-0, both-1, apart}

@@ -2,12 +2,11 @@
 -- The state past the end refuses every byte. Assumes nothing.
 use mathlib.Core.Path.{_≡_, refl, sym, ap, _∙_}
 use mathlib.Core.List.{List, [], _∷_, _++_}
-use Prim.Native.Nat.{ℕ, zero, suc, _+_}
+use Prim.Native.Nat.{ℕ, _+_}
 use native.Mathlib.Omega.{arith}
 use lib.ListN.{length}
 use Rattle.edit_format.specs.Items.{Item}
-use Rattle.edit_format.specs.Written.{Head}
-use Rattle.edit_format.specs.Reading.{State, bad, key, gap, num, open′, after, form, lineNo, step, run, Found, Accepted, Refused, finish, readFile}
+use Rattle.edit_format.specs.Reading.{State, bad, key, gap, num, open′, after, form, step, run, Found, Accepted, Refused, finish, readFile}
 
 pub run-append : (s : State) (p q : List ℕ) → run s (p ++ q) ≡ run (run s p) q
 unfolding run

@@ -2,17 +2,11 @@
 -- By cases on the test, or on the two tests. Assumes nothing.
 use mathlib.Core.Path.{_≡_, refl, sym, subst}
 use mathlib.Core.Bool.{Bool, true, false, not}
-use Prim.Native.Nat.{ℕ, _≤_}
-use native.Mathlib.Omega.{arith}
+use Prim.Native.Nat.{ℕ}
 use lib.Dec.{ltb, leb, eqb}
 use borrow.Author.Tests.{le-ltb, lt-ltb, leb-true, leb-false, eqb-true, eqb-false}
 use Rattle.room.specs.Choice.{pick}
 use Rattle.edit_format.specs.Tests.{both}
-
--- a statement of a choice, by the two ways it can come out
-pub pick-elim : {A : Type 0} (P : A → Type 0) (t : Bool) {a b : A} → (t ≡ true → P a) → (t ≡ false → P b) → P (pick t a b)
-pick-elim P true f g = f refl
-pick-elim P false f g = g refl
 
 pub pick-map : {A B : Type 0} (f : A → B) (t : Bool) (a b : A) → f (pick t a b) ≡ pick t (f a) (f b)
 pick-map f true a b = refl
@@ -57,16 +51,7 @@ pick-to f t u {a} {b} {c} {d} e g h = subst (λ (x : Bool). f (pick t a b) ≡ p
     pick-as true p q = p refl
     pick-as false p q = q refl
 
-le-as : (a b c d : ℕ) → (a ≤ b → c ≤ d) → (c ≤ d → a ≤ b) → (s t : Bool) → leb a b ≡ s → leb c d ≡ t → s ≡ t
-le-as a b c d f g true true p q = refl
-le-as a b c d f g true false p q = absurd (let h : c ≤ d = f (leb-true a b p) in omega (arith, leb-false c d q))
-le-as a b c d f g false true p q = absurd (let h : a ≤ b = g (leb-true c d q) in omega (arith, leb-false a b p))
-le-as a b c d f g false false p q = refl
-
 -- two tests of facts that follow from each other
-pub le-same : (a b c d : ℕ) → (a ≤ b → c ≤ d) → (c ≤ d → a ≤ b) → leb a b ≡ leb c d
-le-same a b c d f g = le-as a b c d f g (leb a b) (leb c d) refl refl
-
 eq-as : (a b c d : ℕ) → (a ≡ b → c ≡ d) → (c ≡ d → a ≡ b) → (s t : Bool) → eqb a b ≡ s → eqb c d ≡ t → s ≡ t
 eq-as a b c d f g true true p q = refl
 eq-as a b c d f g true false p q = absurd (eqb-false c d q (f (eqb-true a b p)))

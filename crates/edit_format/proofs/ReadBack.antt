@@ -3,19 +3,20 @@
 use mathlib.Core.Path.{_≡_, refl, sym, ap, _∙_}
 use mathlib.Core.Bool.{Bool, true, false, not}
 use mathlib.Core.List.{List, [], _∷_, _++_, append-assoc, append-nil}
-use Prim.Native.Nat.{ℕ, zero, suc, _+_, _*_, _/_, _%_, _≤_, _<_, zero-le}
+use Prim.Native.Nat.{ℕ, zero, suc, _+_, _*_, _/_, _%_, _≤_, _<_}
 use native.Mathlib.Nat.{div-add-mod', mod-lt}
 use native.Mathlib.Omega.{arith}
-use lib.ListN.{length, take, getD, length-append}
-use lib.Dec.{ltb, leb, eqb}
-use borrow.Author.Tests.{ltb-true, ltb-false, leb-true, eqb-true, eqb-false, lt-ltb, le-ltb, le-leb, eq-eqb, ne-eqb, not-true}
-use Rattle.room.specs.Choice.{pick}
+use lib.ListN.{length, length-append}
+use lib.Dec.{ltb, leb}
+use borrow.Author.Tests.{ltb-true, ltb-false, leb-true, lt-ltb, le-ltb, le-leb, eq-eqb, ne-eqb}
 use Rattle.edit_format.specs.Tests.{both}
-use Rattle.edit_format.specs.Digits.{digit, digitOf, isDigit, digits, digitsIn}
-use Rattle.edit_format.specs.Items.{Item, Keep, Drop, Add, kept, dropped, added, isKeep, endsKeep, isPoint, allPoints, itemsGood, Good}
-use Rattle.edit_format.specs.Written.{Head, formKey, originalKey, resultKey, itemsKey, endKey, addKey, keepKey, dropKey, numberLine, points, itemLine, itemLines, headLines, headOf, written}
-use Rattle.edit_format.specs.Reading.{Line, form, original, result, items, item, ending, Kind, keeping, dropping, adding, State, bad, key, gap, num, open′, after, kindKey, keyOf, base, several, hexes, lineNo, fitsItem, fits, itemOf, opened, next, begun, keyed, numbered, kindOf, step, run, Found, Accepted, Refused, finish, readFile}
-use Rattle.edit_format.proofs.Picks.{pick-elim, both-0, both-1, apart}
+use Rattle.edit_format.specs.Digits.{digit, digits, digitsIn}
+use Rattle.numbers.specs.Points.{isPoint}
+use Rattle.edit_format.specs.Items.{Item, Keep, Drop, Add, kept, dropped, added, isKeep, endsKeep, allPoints, itemsGood, Good}
+use Rattle.edit_format.specs.Written.{Head, formKey, originalKey, resultKey, itemsKey, endKey, numberLine, points, itemLine, itemLines, headLines, headOf, written}
+use Rattle.edit_format.specs.Reading.{Line, form, original, result, items, item, ending, keeping, dropping, adding, State, key, gap, num, open′, after, kindKey, keyOf, base, several, hexes, fitsItem, fits, itemOf, opened, next, begun, keyed, numbered, kindOf, step, run, Accepted, finish, readFile}
+use Rattle.room.proofs.Choices.{pick-elim}
+use Rattle.edit_format.proofs.Picks.{both-0, both-1}
 use Rattle.edit_format.proofs.DigitLaws.{digit-back, is-digit, no-digit-lf, no-digit-space, shorter}
 use Rattle.edit_format.proofs.NoBeginning.{run-append}
 
@@ -83,7 +84,7 @@ space-read : (l : Line) (cs : List ℕ) (n : ℕ) → several l ≡ true → fit
 unfolding step numbered
 space-read l cs n s f = rw (no-digit-space (base l), f, s)
 
-base-ten : (l : Line) → several l ≡ false → base l ≡ 10
+pub base-ten : (l : Line) → several l ≡ false → base l ≡ 10
 unfolding base
 base-ten l e = rw e
 

@@ -1,12 +1,11 @@
 -- The flat records of a file's items: three numbers each, and the records of one item more.
 -- By induction on the items. Assumes nothing.
-use mathlib.Core.Path.{_≡_, refl, sym, ap, _∙_}
+use mathlib.Core.Path.{_≡_, refl, sym, _∙_}
 use mathlib.Core.List.{List, [], _∷_, _++_, append-assoc, append-nil}
 use Prim.Native.Nat.{ℕ, _+_, _*_}
 use native.Mathlib.Nat.{add-zero, add-assoc}
 use native.Mathlib.Omega.{arith}
 use lib.ListN.{length, length-append}
-use lib.IntN.{ℤ}
 use Rattle.edit_format.specs.Items.{Item, Keep, Drop, Add, added}
 use Rattle.edit_format.specs.Records.{recordOf, size, recordsFrom, recordsOf}
 

@@ -1,20 +1,18 @@
 -- What an accepted file's bytes still hold, from any place of it on: at least the text that the line being read needs, and, once the end line
 -- is due, no further item. Each is kept by every step that does not find a bad line. Assumes nothing.
-use mathlib.Core.Path.{_≡_, refl, sym, ap, _∙_}
-use mathlib.Core.Bool.{Bool, true, false}
+use mathlib.Core.Path.{_≡_, refl}
 use mathlib.Core.List.{List, [], _∷_, _++_}
-use Prim.Native.Nat.{ℕ, suc, _+_, _*_, _≤_, _<_, zero-le}
+use Prim.Native.Nat.{ℕ, _+_, _≤_}
 use native.Mathlib.Omega.{arith}
 use lib.ListN.{length, getD, length-append}
 use lib.Dec.{ltb, eqb}
-use Rattle.room.specs.Choice.{pick}
 use Rattle.edit_format.specs.Tests.{both}
-use Rattle.edit_format.specs.Digits.{digitOf, isDigit}
+use Rattle.edit_format.specs.Digits.{isDigit}
 use Rattle.edit_format.specs.Items.{Item, Keep, Drop, Add, kept, dropped, added}
 use Rattle.edit_format.specs.Written.{Head}
-use Rattle.edit_format.specs.Reading.{Kind, keeping, dropping, adding, Line, form, original, result, items, item, ending, State, bad, key, gap, num, open′, after, lineNo, keyOf, base, several, hexes, fits, kindOf, itemOf, opened, next, begun, keyed, numbered, step, run, Found, Accepted, Refused, finish, found}
-use Rattle.edit_format.proofs.Picks.{pick-elim, both-0, apart}
-use Rattle.edit_format.proofs.NoBeginning.{never, run-bad}
+use Rattle.edit_format.specs.Reading.{Kind, keeping, dropping, adding, Line, form, original, result, items, item, ending, State, bad, key, gap, num, open′, after, keyOf, base, several, fits, kindOf, itemOf, opened, next, begun, keyed, numbered, step, run, Found, Accepted, finish, found}
+use Rattle.room.proofs.Choices.{pick-elim}
+use Rattle.edit_format.proofs.NoBeginning.{never}
 use Rattle.edit_format.proofs.ReadBack.{added-append}
 
 -- the text that a file has at least, by its line: an add line has one more code point

@@ -1,14 +1,14 @@
 -- The text that a state of the reader stands after.
 -- An item more at the end is its line more at the end. Assumes nothing.
-use mathlib.Core.Path.{_≡_, refl, sym, ap, _∙_}
-use mathlib.Core.Bool.{Bool, true, false}
+use mathlib.Core.Path.{_≡_, refl}
+use mathlib.Core.Bool.{false}
 use mathlib.Core.List.{List, [], _∷_, _++_, append-assoc, append-nil}
-use Prim.Native.Nat.{ℕ, zero, suc}
+use Prim.Native.Nat.{ℕ}
 use lib.ListN.{length, take}
 use Rattle.edit_format.specs.Digits.{digits}
-use Rattle.edit_format.specs.Items.{Item, Keep, Drop, Add}
-use Rattle.edit_format.specs.Written.{Head, formKey, originalKey, resultKey, itemsKey, endKey, addKey, numberLine, points, itemLine, itemLines, headLines}
-use Rattle.edit_format.specs.Reading.{Line, form, original, result, items, item, ending, Kind, keeping, dropping, adding, State, bad, key, gap, num, open′, after, keyOf, base, several}
+use Rattle.edit_format.specs.Items.{Item}
+use Rattle.edit_format.specs.Written.{formKey, originalKey, resultKey, endKey, numberLine, points, itemLine, itemLines, headLines}
+use Rattle.edit_format.specs.Reading.{Line, form, original, result, items, item, ending, State, bad, key, gap, num, open′, after, keyOf, base, several}
 
 -- the lines before a line
 abbrev pub before : Line → List ℕ

@@ -5,6 +5,7 @@ use mathlib.Core.Bool.{Bool, true, false, not}
 use mathlib.Core.List.{List, [], _∷_, _++_}
 use lib.ListN.{length}
 use lib.Dec.{leb}
+use Rattle.numbers.specs.Points.{isPoint}
 use Rattle.edit_format.specs.Tests.{both}
 
 -- "`keep=`, `drop=` or `add=`"
@@ -54,11 +55,7 @@ endsKeep [] = false
 endsKeep (i ∷ []) = isKeep i
 endsKeep (i ∷ j ∷ is) = endsKeep (j ∷ is)
 
--- "Code points outside refusal 4's rule only": refusal 4 is given for "a number above 10FFFF hex or in D800 to DFFF"
-unfoldable pub isPoint : ℕ → Bool
-isPoint c = both (leb c 1114111) (not (both (leb 55296 c) (leb c 57343)))
-
--- "Code points outside refusal 4's rule only": all of them
+-- "Code points outside refusal 4's rule only": all are code points
 unfoldable pub allPoints : List ℕ → Bool
 allPoints [] = true
 allPoints (c ∷ cs) = both (isPoint c) (allPoints cs)

@@ -1,6 +1,6 @@
 -- What a reader finds in any bytes: the line that is being read, the rules of each line, and one step a byte. Its state holds the items
 -- read, so what is found so far is in plain sight, and a file read in parts takes the same steps. Assumes nothing.
-use Prim.Native.Nat.{ℕ, zero, suc, _+_, _*_}
+use Prim.Native.Nat.{ℕ, suc, _+_, _*_}
 use mathlib.Core.Bool.{Bool, true, false, not}
 use mathlib.Core.List.{List, [], _∷_, _++_}
 use lib.ListN.{length, getD}
@@ -8,7 +8,8 @@ use lib.Dec.{ltb, leb, eqb}
 use Rattle.room.specs.Choice.{pick}
 use Rattle.edit_format.specs.Tests.{both}
 use Rattle.edit_format.specs.Digits.{digitOf, isDigit}
-use Rattle.edit_format.specs.Items.{Item, Keep, Drop, Add, kept, dropped, added, endsKeep, isPoint}
+use Rattle.numbers.specs.Points.{isPoint}
+use Rattle.edit_format.specs.Items.{Item, Keep, Drop, Add, kept, dropped, added, endsKeep}
 use Rattle.edit_format.specs.Written.{Head, formKey, originalKey, resultKey, itemsKey, keepKey, dropKey, addKey, endKey}
 
 -- "`keep=`, `drop=` or `add=`": the kinds of an item's line

@@ -1,10 +1,10 @@
 -- A key compared with the bytes at a place, byte by byte: too few bytes, one that differs, one that agrees, and all of the key.
 -- Each opens `begins` at one byte. Assumes nothing.
 use mathlib.Core.Path.{_≡_, refl, sym, ap, _∙_}
-use mathlib.Core.Bool.{Bool, true, false}
+use mathlib.Core.Bool.{true, false}
 use mathlib.Core.List.{List, [], _∷_}
-use Prim.Native.Nat.{ℕ, zero, suc, _+_, _≤_, _<_, zero-le}
-use native.Mathlib.Nat.{add-zero, add-suc, not-suc-le-zero, le-of-suc-le-suc}
+use Prim.Native.Nat.{ℕ, suc, _+_, _≤_, _<_, zero-le}
+use native.Mathlib.Nat.{add-suc, not-suc-le-zero, le-of-suc-le-suc}
 use native.Mathlib.Numerals.{add-one}
 use native.Mathlib.Omega.{arith}
 use lib.ListN.{length, getD, drop}
@@ -13,10 +13,7 @@ use lib.Dec.{eqb}
 use borrow.Author.Tests.{eq-eqb, ne-eqb}
 use Rattle.edit_format.specs.Tests.{both, begins}
 use Rattle.edit_format.proofs.Picks.{apart, both-1}
-
-both-false : (t : Bool) → both t false ≡ false
-both-false true = refl
-both-false false = refl
+use Rattle.edit_format.proofs.Picks.{both-false}
 
 pub short : (k s : List ℕ) → length s < length k → begins k s ≡ false
 unfolding begins

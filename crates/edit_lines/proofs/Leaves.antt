@@ -1,21 +1,19 @@
 -- The leaves' definitions, one law for each way that the code takes through them. Each opens the definition at the byte that is tested.
 -- Assumes nothing.
-use mathlib.Core.Path.{_≡_, refl, sym, ap, _∙_}
-use mathlib.Core.Bool.{Bool, true, false}
-use mathlib.Core.List.{List, [], _∷_}
-use Prim.Native.Nat.{ℕ, suc, _+_, _*_, _≤_, _<_}
+use mathlib.Core.Path.{_≡_, sym, _∙_}
+use mathlib.Core.Bool.{true, false}
+use mathlib.Core.List.{List, _∷_}
+use Prim.Native.Nat.{ℕ, _+_, _*_, _≤_, _<_}
 use native.Mathlib.Nat.{mul-le-mul}
 use native.Mathlib.Numerals.{add-one}
 use native.Mathlib.Omega.{arith}
 use lib.ListN.{length, getD, drop, drop-of-length-le, List·getD-eq-default}
 use lib.Seq.{drop-cons}
-use lib.Dec.{ltb, eqb}
+use lib.Dec.{eqb}
 use borrow.Author.Tests.{lt-ltb, le-ltb, eq-eqb, ne-eqb}
-use Rattle.room.specs.Choice.{pick}
-use Rattle.edit_format.specs.Digits.{digitOf, isDigit, valueOf}
+use Rattle.edit_format.specs.Digits.{isDigit, valueOf}
 use Rattle.edit_format.proofs.DigitLaws.{value-test, value-of}
-use Rattle.edit_lines.specs.Scan.{cap, more, scan, closedAt, lineAt, endedAt, pointAt}
-use Rattle.edit_lines.specs.declared.Number.{Number}
+use Rattle.edit_lines.specs.Scan.{cap, more, scan}
 use Rattle.edit_lines.specs.declared.Number.the-variants.{Value, Bad}
 
 pub product-fits : {n m d : ℕ} → n ≤ 2000000 → m ≤ 16 → d ≤ 16 → n * m + d ≤ 32000016

@@ -10,10 +10,11 @@ use native.Mathlib.Omega.{arith}
 use native.Mathlib.Decide.{decLt, ℕ-discrete}
 use lib.ListN.{length, getD, drop, List·getD-eq-default}
 use lib.Dec.{eqb}
-use borrow.Author.Tests.{lt-leb, eq-eqb, ne-eqb}
+use borrow.Author.Tests.{eq-eqb, ne-eqb}
 use Rattle.room.specs.Choice.{pick}
 use Rattle.edit_format.specs.Digits.{digitOf, isDigit, valueOf}
-use Rattle.edit_format.specs.Items.{isPoint}
+use Rattle.numbers.specs.Points.{isPoint}
+use Rattle.numbers.proofs.Points.{beyond}
 use Rattle.edit_format.proofs.DigitLaws.{value-low}
 use Rattle.edit_lines.specs.Scan.{cap, more, endedAt, pointAt, Stands}
 use Rattle.edit_lines.specs.declared.Number.the-variants.{Value, Bad}
@@ -29,13 +30,13 @@ digit-in p i h = elim (decLt i (length p)) [
 
 -- a number past the last code point stays past it
 too-large : (p : List ℕ) (n i : ℕ) (bs : List ℕ) → 1114111 < n → endedAt p (more 16 n i bs) ≡ NoPoint
-unfolding endedAt more isPoint
-too-large p n i [] h = rw (lt-leb n 1114111 h)
+unfolding endedAt more
+too-large p n i [] h = rw (beyond n h)
 too-large p n i (b ∷ bs) h = go (isDigit 16 b) (too-large p (cap (n * 16 + digitOf b)) (i + 1) bs (omega arith))
   where
     go : (t : Bool) → endedAt p (more 16 (cap (n * 16 + digitOf b)) (i + 1) bs) ≡ NoPoint → endedAt p (pick t (pick (eqb n 0) Bad (more 16 (cap (n * 16 + digitOf b)) (i + 1) bs)) (Value n i)) ≡ NoPoint
     go true f = rw (ne-eqb n 0 (λ e. omega arith)) f
-    go false f = rw (lt-leb n 1114111 h)
+    go false f = rw (beyond n h)
 
 -- a byte that ends no code point
 other : (p : List ℕ) (n i : ℕ) → (getD p i 0 ≡ 10 → ⊥) → (getD p i 0 ≡ 32 → ⊥) → endedAt p (Value n i) ≡ NoPoint

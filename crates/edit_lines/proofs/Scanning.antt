@@ -3,24 +3,28 @@
 use mathlib.Core.Path.{_≡_, refl, sym, ap, _∙_}
 use mathlib.Core.Bool.{Bool, true, false}
 use mathlib.Core.List.{List, [], _∷_, _++_}
-use Prim.Native.Nat.{ℕ, zero, suc, _+_, _-_, _*_, _≤_, _<_, min, zero-le}
-use native.Mathlib.Nat.{mul-le-mul-left, mul-le-mul-right, mul-one, add-zero}
-use native.Mathlib.Numerals.{add-one}
+use Prim.Native.Nat.{ℕ, suc, _+_, _-_, _*_, _≤_, _<_, zero-le}
+use native.Mathlib.Nat.{mul-le-mul-left, mul-one}
 use native.Mathlib.Omega.{arith}
 use native.Mathlib.Decide.{decLe, decLt}
-use lib.ListN.{length, getD, drop, length-drop, length-append, drop-of-length-le, List·getD-eq-default}
-use lib.Seq.{drop-cons, drop-drop, getD-drop}
+use lib.ListN.{length, getD, drop, length-drop, drop-of-length-le, List·getD-eq-default}
+use lib.Seq.{drop-drop, getD-drop}
 use lib.Dec.{ltb, leb, eqb}
-use borrow.Author.Tests.{lt-ltb, le-ltb, le-leb, lt-leb, leb-true, leb-false, eqb-true, eqb-false, eq-eqb, ne-eqb}
+use borrow.Author.Tests.{lt-ltb, le-leb, lt-leb, eqb-true, eqb-false, eq-eqb, ne-eqb}
 use Rattle.room.specs.Choice.{pick}
 use Rattle.edit_format.specs.Tests.{both, begins}
 use Rattle.edit_format.specs.Digits.{digit, digitOf, isDigit}
-use Rattle.edit_format.specs.Items.{Item, Add, added, isPoint}
+use Rattle.numbers.specs.Points.{isPoint}
+use Rattle.numbers.proofs.Points.{point-most}
+use Rattle.edit_format.specs.Items.{Item, Add, added}
 use Rattle.edit_format.specs.Written.{Head}
-use Rattle.edit_format.specs.Reading.{Line, item, adding, State, bad, key, gap, num, lineNo, keyOf, base, several, hexes, fits, fitsItem, next, itemOf, opened, Found, Refused, finish, run, found}
+use Rattle.edit_format.specs.Reading.{Line, item, adding, key, gap, num, lineNo, keyOf, base, several, hexes, fits, fitsItem, next, itemOf, opened, Refused, finish, run, found}
 use Rattle.edit_format.proofs.DigitLaws.{digit-below}
-use Rattle.edit_format.proofs.Picks.{pick-elim, both-0, both-true, both-false, le-same}
+use Rattle.room.proofs.Choices.{pick-elim}
+use Rattle.numbers.proofs.Orders.{leb-same}
+use Rattle.edit_format.proofs.Picks.{flip, both-true, both-false}
 use Rattle.edit_format.proofs.Finding.{key-on, key-off, gap-digit, gap-other, num-digit, num-zero, num-lf, num-space, num-unfit, num-other}
+use Rattle.edit_format.proofs.ReadBack.{base-ten}
 use Rattle.edit_lines.specs.Scan.{cap, more, scan, closedAt, lineAt, endedAt, pointAt}
 use Rattle.edit_lines.proofs.Leaves.{at-byte}
 use Rattle.edit_lines.specs.declared.Number.{Number}
@@ -155,10 +159,6 @@ close l p at s (Value n j) v g e (m, a, b, w, q, d) = go (eqb (getD p j 0) 10) r
     )
     go false f = e ∙ q ∙ num-odd l [] p m j d f (rw v)
 
-base-ten : (l : Line) → several l ≡ false → base l ≡ 10
-unfolding base
-base-ten l e = rw e
-
 pub lined : (l : Line) (p : List ℕ) (at : ℕ) → several l ≡ false → Lined l p at (lineAt (keyOf l) p at)
 unfolding lineAt
 lined l p at v = go (begins (keyOf l) (drop at p)) refl
@@ -177,18 +177,17 @@ Pointed h is cs p i (More v j) = (j ≤ length p) × (found (gap (item h is addi
 Pointed h is cs p i NoPoint = found (gap (item h is adding) cs) (drop i p) ≡ Refused (length is + 5)
 
 cap-le : (n k : ℕ) → k < 2000000 → leb (cap n) k ≡ leb n k
-cap-le n k h = le-same (cap n) k n k (λ e. omega arith) (λ e. omega arith)
+cap-le n k h = leb-same (cap n) k n k (λ e. omega arith) (λ e. omega arith)
 
 cap-ge : (n k : ℕ) → k < 2000000 → leb k (cap n) ≡ leb k n
-cap-ge n k h = le-same k (cap n) k n (λ e. omega arith) (λ e. omega arith)
+cap-ge n k h = leb-same k (cap n) k n (λ e. omega arith) (λ e. omega arith)
 
 cap-point : (n : ℕ) → isPoint (cap n) ≡ isPoint n
 unfolding isPoint
-cap-point n = rw (cap-le n 1114111 (omega arith), cap-ge n 55296 (omega arith), cap-le n 57343 (omega arith))
+cap-point n = rw (flip (cap n) 0xd800, flip n 0xd800, cap-ge n 0xd800 (omega arith), cap-ge n 0xe000 (omega arith), cap-le n 0x10ffff (omega arith))
 
 point-exact : (n : ℕ) → isPoint n ≡ true → cap n ≡ n
-unfolding isPoint
-point-exact n e = let h : n ≤ 1114111 = leb-true n 1114111 (both-0 (leb n 1114111) _ e) in omega arith
+point-exact n e = omega (arith, point-most n e)
 
 module _ (h : Head) (is : List Item) (few : length is < 8192) where
   point-fits : (cs : List ℕ) (n : ℕ) (t : Bool) → isPoint n ≡ t → added is + length cs + 1 ≤ 131070 → fits (item h is adding) cs n ≡ t

@@ -1,14 +1,13 @@
 -- What the reader's leaves find at a place of the bytes: a number, a line of one number, a code point. Assumes nothing.
 use mathlib.Core.Path.{_≡_}
-use Prim.Native.Nat.{ℕ, zero, suc, _+_, _*_, min}
-use mathlib.Core.Bool.{Bool, true, false}
+use Prim.Native.Nat.{ℕ, _+_, _*_, min}
 use mathlib.Core.List.{List, [], _∷_}
 use lib.ListN.{length, getD, drop}
 use lib.Dec.{eqb}
 use Rattle.room.specs.Choice.{pick}
 use Rattle.edit_format.specs.Tests.{begins}
 use Rattle.edit_format.specs.Digits.{digitOf, isDigit}
-use Rattle.edit_format.specs.Items.{isPoint}
+use Rattle.numbers.specs.Points.{isPoint}
 use Rattle.edit_lines.specs.declared.Number.{Number}
 use Rattle.edit_lines.specs.declared.Number.the-variants.{Value, Bad}
 use Rattle.edit_lines.specs.declared.Point.{Point}

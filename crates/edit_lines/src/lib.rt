@@ -118,7 +118,7 @@ fn ended(bytes: &[u8], n: Number) -> Point
 {
     match n {
         Number::Value { value, next } => {
-            if edit_format::is_point(value) {
+            if numbers::is_point(value) {
                 if next < bytes.len() {
                     let b = bytes[next];
                     if b == b'\n' {

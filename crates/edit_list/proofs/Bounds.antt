@@ -15,7 +15,8 @@ use Rattle.edit_format.specs.Written.{keepKey, dropKey, addKey, endKey, numberL
 use Rattle.edit_format.specs.Reading.{readFile, Accepted}
 use Rattle.edit_format.specs.Records.{size}
 use Rattle.edit_format.proofs.Accepts.{accepted-good}
-use Rattle.edit_format.proofs.Picks.{pick-elim, both-0, both-1}
+use Rattle.edit_format.proofs.Picks.{both-0, both-1}
+use Rattle.room.proofs.Choices.{pick-elim}
 use Rattle.edit_format.proofs.Canonical.{canonical}
 
 some-in : (f m n : ℕ) → 1 ≤ length (digitsIn f m n)

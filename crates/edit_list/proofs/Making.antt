@@ -15,7 +15,7 @@ use Rattle.room.specs.Placed.{placed, answered}
 use Rattle.refusal.specs.declared.Refusal.{Refusal}
 use Rattle.diff.specs.Items.{itemsFrom}
 use Rattle.elongate.specs.Elongated.{allTokens}
-use Rattle.elongate.proofs.Placing.{length-placed}
+use Rattle.room.proofs.Placing.{placed-length}
 use Rattle.edit_format.specs.Items.{Item, Good, texts}
 use Rattle.edit_format.specs.Reading.{Accepted, readFile}
 use Rattle.edit_format.specs.Records.{recordsOf}
@@ -95,7 +95,7 @@ module _ (file : List ℕ) (is : List Item) (a : readFile file ≡ Accepted is) 
       (fs : 2048 ≤ length s) (fk : 1024 ≤ length k)
       {text′ : List ℕ} {items items′ : List ℤ} {z : Sizes} (h : ItemsRead is at text text′ items items′ z) where
     text-long : length text′ ≡ length text
-    text-long = ap length (h .text-is) ∙ length-placed text (texts is) at (omega (arith, little))
+    text-long = ap length (h .text-is) ∙ placed-length text at (texts is) (omega (arith, little))
 
     text-there : drop (at + 0) text′ ≡ texts is ++ drop (at + length (texts is)) text
     unfolding placed

@@ -26,7 +26,7 @@ use Rattle.elongate.specs.Elongated.{piecesLength, allTokens}
 use Rattle.elongate.specs.Verdicts.{roomsFit, rawVerdict}
 use Rattle.elongate.proofs.Lengths.{pieces-length}
 use Rattle.elongate.proofs.Arranging.{lengths-total}
-use Rattle.edit_format.proofs.Picks.{pick-elim}
+use Rattle.room.proofs.Choices.{pick-elim}
 use Rattle.edit_list.proofs.Back.{rawList}
 use Rattle.edit_list.proofs.Runs.{PiecesIn, GoodRun, AllRuns}
 

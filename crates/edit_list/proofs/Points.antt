@@ -1,23 +1,20 @@
 -- Shown: a good text with good code points put into it is good.
--- How: being good is a property of each code point, and the two crates' rules of a code point agree. Assumes nothing.
-use mathlib.Core.Path.{_≡_, refl, sym, ap, _∙_}
+-- How: being good is a property of each code point. Assumes nothing.
+use mathlib.Core.Path.{_≡_, refl}
 use mathlib.Core.Bool.{Bool, true, false, not}
 use mathlib.Core.List.{List, [], _∷_, _++_}
 use Prim.Native.Nat.{ℕ, zero, suc, _+_}
-use native.Mathlib.Omega.{arith}
-use native.Mathlib.Decide.{decLt}
 use lib.ListN.{length, take, drop}
 use lib.Dec.{leb}
-use borrow.Author.Tests.{le-leb, le-ltb, lt-ltb}
 use Rattle.room.specs.Placed.{placed}
 use Rattle.refusal.specs.declared.Refusal.the-variants.{CodePoint}
 use Rattle.verdict.specs.declared.Verdict.the-variants.{Accepted}
-use Rattle.verdict.specs.Points.{isPoint, pointsFrom}
+use Rattle.numbers.specs.Points.{isPoint}
+use Rattle.verdict.specs.Points.{pointsFrom}
 use Rattle.verdict.proofs.Chains.{went}
 use Rattle.edit_format.specs.Tests.{both}
 use Rattle.edit_format.specs.Items.{Item, Keep, Drop, Add, texts, allPoints, itemsGood}
-use Rattle.edit_format.specs.Items as F
-use Rattle.edit_format.proofs.Picks.{both-0, both-1, apart}
+use Rattle.edit_format.proofs.Picks.{both-0, both-1}
 
 unfoldable AllPoints : List ℕ → Type 0
 AllPoints [] = Unit
@@ -50,25 +47,10 @@ all-drop zero cs h = h
 all-drop (suc n) [] h = tt
 all-drop (suc n) (c ∷ cs) h = all-drop n cs (h .1)
 
--- the rule of the edit file's code points and that of refusal 4
-same-rule : (c : ℕ) → F.isPoint c ≡ true → isPoint c ≡ true
-unfolding F.isPoint
-same-rule c h = elim (decLt c 55296) [
-  | yes l ↦ rw (lt-ltb c 55296 l)
-  | no l ↦
-      elim (decLt 57343 c) [
-        | yes m ↦ rw (le-ltb c 55296 (omega arith), lt-ltb 57343 c m, both-0 (leb c 1114111) (not (both (leb 55296 c) (leb c 57343))) h)
-        | no m ↦
-            let z : not (both (leb 55296 c) (leb c 57343)) ≡ true = both-1 (leb c 1114111) (not (both (leb 55296 c) (leb c 57343))) h in
-            let y : both (leb 55296 c) (leb c 57343) ≡ true = rw (le-leb 55296 c (omega arith), le-leb c 57343 (omega arith)) in
-            absurd (apart (sym (sym (ap not y) ∙ z)))
-      ]
-]
-
 all-points : (cs : List ℕ) → allPoints cs ≡ true → AllPoints cs
 unfolding AllPoints allPoints
 all-points [] h = tt
-all-points (c ∷ cs) h = (same-rule c (both-0 (F.isPoint c) (allPoints cs) h), all-points cs (both-1 (F.isPoint c) (allPoints cs) h))
+all-points (c ∷ cs) h = (both-0 (isPoint c) (allPoints cs) h, all-points cs (both-1 (isPoint c) (allPoints cs) h))
 
 all-texts : (k : Bool) (is : List Item) → itemsGood k is ≡ true → AllPoints (texts is)
 unfolding texts itemsGood AllPoints

@@ -27,7 +27,7 @@ use Rattle.elongate.specs.declared.Answer.the-variants as A
 use Rattle.elongate.specs.Elongated.{arranged, elongated, cookedFrom, allTokens}
 use Rattle.elongate.specs.Places.{kindOf}
 use Rattle.elongate.specs.Verdicts.{Elongates, verdictOn}
-use Rattle.elongate.proofs.Placing.{length-placed}
+use Rattle.room.proofs.Placing.{placed-length}
 use Rattle.elongate.proofs.Arranging.{total-arranged, counts-total, runs-arranged}
 use Rattle.elongate.proofs.Joining.{tokens-joined, cooked-length}
 use Rattle.elongate.proofs.Walking.{length-tokens}
@@ -180,7 +180,7 @@ module _ {file : List ℕ} {at first : ℕ} {text o s₀ k₀ : List ℕ} (p : L
       (λ i l. getD-replicate 1024 i 3 0 (omega (arith, l, tokens-most)))
 
   text-long : length text′ ≡ length text
-  text-long = ap length (h .text-is) ∙ length-placed text (texts is) at (omega (arith, little file is (p .accepted) (p .short), p .text-fits))
+  text-long = ap length (h .text-is) ∙ placed-length text at (texts is) (omega (arith, little file is (p .accepted) (p .short), p .text-fits))
 
   pub elongable : Elongable (take (z .items * 3) raw′) s′ k′ text′ first o s₀ k₀
   elongable =

@@ -40,7 +40,7 @@ unfolding pointTokens
 points-length a [] = refl
 points-length a (c ∷ cs) = ap suc (points-length (a + 1) cs)
 
-points-size : (a : ℕ) (cs : List ℕ) → piecesLength (pointTokens a cs) ≡ length cs
+pub points-size : (a : ℕ) (cs : List ℕ) → piecesLength (pointTokens a cs) ≡ length cs
 unfolding pointTokens piecesLength
 points-size a [] = refl
 points-size a (c ∷ cs) = omega (arith, points-size (a + 1) cs)

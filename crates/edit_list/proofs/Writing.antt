@@ -17,7 +17,8 @@ use Rattle.diff.proofs.Decoding.{items-more, items-none, insert-within}
 use Rattle.raw_lists.specs.Raws.{Piece, Run, flatSpans, flatKeys}
 use Rattle.raw_lists.proofs.Pieces.{length-spans, length-keys, spans-append, keys-append}
 use Rattle.elongate.specs.Elongated.{piecesLength, allTokens}
-use Rattle.elongate.proofs.Placing.{placed-none, length-placed, goes-on}
+use Rattle.room.proofs.Placing.{placed-none, placed-length}
+use Rattle.elongate.proofs.Placing.{goes-on}
 use Rattle.edit_list.specs.Raws.{pointTokens, partToken}
 use Rattle.edit_list.specs.Steps.{runIn, runsIn, flatRaws, TokensPut, PointsFit, RunPut, SmallRun, AllSmall, RunFits, ItemsLent, Filled, Fits}
 use Rattle.edit_list.proofs.Runs.{points-length}
@@ -55,8 +56,8 @@ putting-on ps rest here qs at s₀ k₀ s k s′ k′ h t =
     let lk = length-keys ps in
     let fs : here * 2 + length (flatSpans ps) ≤ length s = omega (arith, l, ls, h .fits-spans) in
     let fk : here + length (flatKeys ps) ≤ length k = omega (arith, l, lk, h .fits-keys) in
-    let es : length s′ ≡ length s = ap length (t .in-spans) ∙ length-placed s (flatSpans ps) (here * 2) fs in
-    let ek : length k′ ≡ length k = ap length (t .in-keys) ∙ length-placed k (flatKeys ps) here fk in
+    let es : length s′ ≡ length s = ap length (t .in-spans) ∙ placed-length s (here * 2) (flatSpans ps) fs in
+    let ek : length k′ ≡ length k = ap length (t .in-keys) ∙ placed-length k here (flatKeys ps) fk in
     record {
       same-spans = es ∙ h .same-spans;
       same-keys = ek ∙ h .same-keys;
@@ -215,7 +216,7 @@ module _ {r : Run} {rs all : List Run} {raw₀ s₀ k₀ raw s k : List ℕ} {i 
   filling-on {raw′} {s′} {k′} {n} p =
       let l = length-append (r .tokens) (allTokens rs) in
       let three : List ℕ = r .kind ∷ tokens ∷ length (r .tokens) ∷ [] in
-      let e : length raw′ ≡ length raw = ap length (p .in-raw) ∙ length-placed raw three (i * 3) (omega (arith, h .fits-raw)) in
+      let e : length raw′ ≡ length raw = ap length (p .in-raw) ∙ placed-length raw (i * 3) three (omega (arith, h .fits-raw)) in
       let w = goes-on raw raw′ three (flatRaws (tokens + length (r .tokens)) rs) (answered (flatRaws 0 all) raw₀) (i * 3) ((i + 1) * 3) (p .in-raw)
       (omega arith) (omega (arith, h .fits-raw)) (h .whole-raw) in
       record {

@@ -6,15 +6,13 @@ use Prim.Native.Nat.{ℕ, _+_, _*_, _/_, _≤_, _<_, zero-le}
 use native.Mathlib.Omega.{arith}
 use lib.ListN.{length, drop, length-append}
 use lib.IntN.{ℤ}
-use lib.Dec.{ltb}
-use borrow.Author.Tests.{lt-ltb, le-ltb, eq-eqb, ne-eqb}
-use Rattle.room.specs.Choice.{pick}
+use borrow.Author.Tests.{lt-ltb, le-ltb}
 use Rattle.room.specs.Placed.{placed, answered}
 use Rattle.room.proofs.Answers.{one-more, same-room}
 use Rattle.refusal.specs.declared.Refusal.the-variants.{Line as BadLine, Room}
 use Rattle.edit_format.specs.Items.{Item, added, texts}
 use Rattle.edit_format.specs.Written.{Head}
-use Rattle.edit_format.specs.Reading.{ending, key, open′, opened, Accepted, Refused, found, readFile}
+use Rattle.edit_format.specs.Reading.{open′, opened, Accepted, found, readFile}
 use Rattle.edit_format.specs.Records.{recordOf, recordsOf, recordsFrom, size}
 use Rattle.edit_format.proofs.Accepts.{accepted-good}
 use Rattle.edit_format.proofs.TextLaws.{texts-append, texts-length}

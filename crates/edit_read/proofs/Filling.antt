@@ -1,31 +1,30 @@
 -- The second pass over an accepted file: the rooms after a code point, an add line, a keep or drop, an item, and all items.
 -- What is left of the bytes is accepted, so no line is bad, the rooms never run short, and at the end the items put are all items. Assumes nothing.
-use mathlib.Core.Path.{_≡_, refl, sym, ap, _∙_, subst}
+use mathlib.Core.Path.{_≡_, refl, sym, ap, _∙_}
 use mathlib.Core.Bool.{Bool, true, false, not}
 use mathlib.Core.List.{List, [], _∷_, _++_, append-assoc, append-nil}
-use Prim.Native.Nat.{ℕ, suc, _+_, _-_, _*_, _≤_, _<_, min}
-use native.Mathlib.Nat.{add-zero}
+use Prim.Native.Nat.{ℕ, suc, _+_, _-_, _≤_, _<_}
 use native.Mathlib.Omega.{arith}
 use native.Mathlib.Decide.{decLe}
-use lib.ListN.{length, take, drop, set, length-set, length-append, take-append-drop, getD, drop-of-length-le}
+use lib.ListN.{length, take, drop, set, length-set, length-append, getD, drop-of-length-le}
 use lib.Seq.{drop-drop, length-take-le, drop-cons, set-at}
-use lib.IntN.{ℤ, pos, negℤ}
+use lib.IntN.{ℤ, pos}
 use lib.Dec.{ltb, leb}
 use borrow.Author.Tests.{leb-true}
-use Rattle.room.specs.Choice.{pick}
-use Rattle.room.specs.Placed.{placed, answered}
+use Rattle.room.specs.Placed.{placed}
+use Rattle.room.proofs.Placing.{placed-none}
 pub use Rattle.item_records.proofs.Storing.{three-stores}
-use Rattle.edit_format.specs.Tests.{both, begins}
-use Rattle.edit_format.specs.Items.{Item, Keep, Drop, Add, kept, dropped, added, texts, endsKeep}
+use Rattle.edit_format.specs.Tests.{begins}
+use Rattle.edit_format.specs.Items.{Item, Add, kept, dropped, added, texts, endsKeep}
 use Rattle.edit_format.specs.Written.{Head, addKey}
-use Rattle.edit_format.specs.Reading.{Kind, keeping, dropping, adding, Line, item, ending, State, key, gap, open′, kindKey, keyOf, hexes, several, fits, fitsItem, kindOf, itemOf, opened, next, Found, Accepted, Refused, finish, run, found, readFile}
+use Rattle.edit_format.specs.Reading.{Kind, keeping, dropping, adding, item, key, gap, open′, kindKey, keyOf, hexes, several, fits, fitsItem, kindOf, itemOf, next, Accepted, finish, run, found}
 use Rattle.edit_format.specs.Records.{recordOf, size}
 use Rattle.edit_format.proofs.Picks.{both-1, apart}
 use Rattle.edit_format.proofs.NoBeginning.{never}
 use Rattle.edit_format.proofs.Finding.{key-on, key-off, open-as}
 use Rattle.edit_format.proofs.Rests.{one-more}
 use Rattle.edit_lines.proofs.Leaves.{at-byte}
-use Rattle.edit_lines.specs.Scan.{cap, lineAt, pointAt, Stands}
+use Rattle.edit_lines.specs.Scan.{lineAt, pointAt, Stands}
 use Rattle.edit_lines.specs.declared.Number.{Number}
 use Rattle.edit_lines.specs.declared.Number.the-variants.{Value, Bad}
 use Rattle.edit_lines.specs.declared.Point.the-variants.{More, Last, Bad as NoPoint}
@@ -34,10 +33,6 @@ use Rattle.edit_read.specs.Filled.{PointsPut, NumberIn, NumberPut, ItemI
 use Rattle.edit_read.specs.declared.Spot.{Spot}
 use Rattle.edit_read.specs.declared.Spot.the-variants.{Good as GoodSpot, Bad as BadSpot}
 use Rattle.edit_read.proofs.Adding.{inside}
-
-placed-none : {A : Type 0} (d : List A) (at : ℕ) → placed d at [] ≡ d
-unfolding placed
-placed-none d at = rw (add-zero at, append-nil (take at d)) (take-append-drop at d)
 
 -- one store where a run ends makes it longer
 placed-more : (d cs : List ℕ) (at v : ℕ) → at + length cs < length d → set (placed d at cs) (at + length cs) v ≡ placed d at (cs ++ v ∷ [])

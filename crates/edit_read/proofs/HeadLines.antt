@@ -1,15 +1,14 @@
 -- The header's four lines, one law for each way out of them.
 -- Each good line hands the whole file's finding on to what is left after it. Assumes nothing.
-use mathlib.Core.Path.{_≡_, refl, sym, ap, _∙_}
-use mathlib.Core.Bool.{true, false}
-use mathlib.Core.List.{List, []}
-use Prim.Native.Nat.{ℕ, _≤_, _<_, min}
+use mathlib.Core.Path.{_≡_, refl, _∙_}
+use mathlib.Core.Bool.{false}
+use mathlib.Core.List.{List}
+use Prim.Native.Nat.{ℕ, _≤_, _<_}
 use native.Mathlib.Omega.{arith}
 use lib.ListN.{length, drop}
-use lib.Dec.{leb, eqb}
 use borrow.Author.Tests.{le-leb, lt-leb, eq-eqb, ne-eqb}
 use Rattle.edit_format.specs.Written.{Head, formKey, originalKey, resultKey, itemsKey}
-use Rattle.edit_format.specs.Reading.{Line, form, original, result, items, key, lineNo, keyOf, several, fits, next, opened, Refused, found, readFile}
+use Rattle.edit_format.specs.Reading.{Line, form, original, result, items, key, lineNo, keyOf, several, fits, next, found, readFile}
 use Rattle.edit_lines.specs.Scan.{cap, lineAt}
 use Rattle.edit_read.specs.Judged.{HeadRead}
 use Rattle.edit_lines.specs.declared.Number.{Number}

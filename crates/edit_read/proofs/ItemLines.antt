@@ -1,19 +1,18 @@
 -- One item line against the reader's steps: a line of a number that fits, one that does not, a line of code points, and the choice of the kind.
 -- The sums stand for the items read, so a test of the sums is the line's rule. Assumes nothing.
 use mathlib.Core.Path.{_≡_, refl, sym, ap, _∙_}
-use mathlib.Core.Bool.{Bool, true, false, not}
+use mathlib.Core.Bool.{true, false, not}
 use mathlib.Core.List.{List, [], _∷_, _++_}
-use Prim.Native.Nat.{ℕ, _+_, _≤_, _<_, min}
+use Prim.Native.Nat.{ℕ, _+_, _≤_, _<_}
 use native.Mathlib.Omega.{arith}
-use lib.ListN.{length, getD, drop, drop-of-length-le, length-append}
+use lib.ListN.{length, getD, drop, drop-of-length-le}
 use lib.Seq.{drop-drop}
-use lib.Dec.{ltb, leb, eqb}
-use borrow.Author.Tests.{lt-ltb, le-leb, lt-leb, eq-eqb, ne-eqb}
-use Rattle.room.specs.Choice.{pick}
-use Rattle.edit_format.specs.Tests.{both, begins}
+use lib.Dec.{ltb, leb}
+use borrow.Author.Tests.{lt-ltb, le-leb, lt-leb}
+use Rattle.edit_format.specs.Tests.{begins}
 use Rattle.edit_format.specs.Items.{Item, Keep, Drop, Add, kept, dropped, added, isKeep, endsKeep}
 use Rattle.edit_format.specs.Written.{Head, addKey}
-use Rattle.edit_format.specs.Reading.{Kind, keeping, dropping, adding, Line, item, State, key, gap, open′, lineNo, kindKey, keyOf, hexes, several, fits, fitsItem, kindOf, itemOf, opened, next, Refused, finish, run, found}
+use Rattle.edit_format.specs.Reading.{Kind, keeping, dropping, adding, item, State, key, gap, open′, lineNo, kindKey, keyOf, hexes, several, fits, fitsItem, kindOf, itemOf, next, finish, run, found}
 use Rattle.edit_format.proofs.Picks.{both-false}
 use Rattle.edit_format.proofs.ReadBack.{kept-append, dropped-append, added-append, ends-snoc}
 use Rattle.edit_format.proofs.Finding.{key-on, key-off, open-as}

@@ -1,22 +1,21 @@
 -- The judging pass: its invariant's start and turn, each way out of the end line, and what a verdict says of the two answers.
 -- What is left decides what the file is found to be, so each way out is one step from there. Assumes nothing.
 use mathlib.Core.Path.{_≡_, refl, sym, ap, _∙_, subst}
-use mathlib.Core.Bool.{Bool, true, false}
+use mathlib.Core.Bool.{false}
 use mathlib.Core.List.{List, [], _∷_, _++_}
-use Prim.Native.Nat.{ℕ, _+_, _≤_, _<_, min, zero-le}
+use Prim.Native.Nat.{ℕ, _+_, _≤_, _<_, zero-le}
 use native.Mathlib.Omega.{arith}
-use lib.ListN.{length, drop, drop-of-length-le, length-append, getD}
-use lib.Dec.{eqb, leb}
+use lib.ListN.{length, drop, drop-of-length-le, length-append}
+use lib.Dec.{eqb}
 use borrow.Author.Tests.{eq-eqb, ne-eqb}
-use Rattle.room.specs.Choice.{pick}
 use Rattle.refusal.specs.declared.Refusal.the-variants.{Line as BadLine}
-use Rattle.edit_format.specs.Items.{Item, kept, dropped, added, texts, endsKeep}
+use Rattle.edit_format.specs.Items.{Item, kept, dropped, added, endsKeep}
 use Rattle.edit_format.specs.Written.{Head, endKey}
-use Rattle.edit_format.specs.Reading.{Line, ending, State, key, open′, after, lineNo, keyOf, several, fits, opened, next, step, run, Accepted, Refused, finish, found, readFile, believes}
+use Rattle.edit_format.specs.Reading.{Line, ending, key, open′, after, lineNo, keyOf, several, fits, opened, next, step, run, Accepted, Refused, finish, found, readFile, believes}
 use Rattle.edit_format.proofs.Finding.{found-bad}
 use Rattle.edit_format.proofs.TextLaws.{texts-length}
 use Rattle.edit_lines.specs.Scan.{cap, lineAt}
-use Rattle.edit_read.specs.Judged.{HeadRead, Holds, Within, ItemRead, Judging, Judged}
+use Rattle.edit_read.specs.Judged.{HeadRead, ItemRead, Judging, Judged}
 use Rattle.edit_read.specs.Answer.{lengthsOf}
 use Rattle.edit_lines.specs.declared.Number.{Number}
 use Rattle.edit_lines.specs.declared.Number.the-variants.{Value, Bad}

@@ -1,7 +1,6 @@
 -- What reading an edit file answers, and what it leaves in the rooms. Assumes nothing.
 use mathlib.Core.Path.{_≡_}
 use Prim.Native.Nat.{ℕ, _*_}
-use mathlib.Core.Bool.{Bool}
 use mathlib.Core.List.{List}
 use lib.ListN.{length}
 use lib.IntN.{ℤ}

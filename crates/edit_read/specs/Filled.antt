@@ -5,10 +5,10 @@ use Prim.Native.Nat.{ℕ, _+_, _*_, _≤_, _<_}
 use mathlib.Core.List.{List, [], _∷_, _++_}
 use lib.ListN.{length, drop}
 use lib.IntN.{ℤ}
-use Rattle.room.specs.Placed.{placed, answered}
+use Rattle.room.specs.Placed.{placed}
 use Rattle.edit_format.specs.Items.{Item, Add, added, texts}
 use Rattle.edit_format.specs.Written.{Head}
-use Rattle.edit_format.specs.Reading.{Kind, State, key, gap, item, adding, open′, opened, Found, Accepted, Refused, found, readFile}
+use Rattle.edit_format.specs.Reading.{Kind, State, key, gap, item, adding, opened, Found, Accepted, Refused, found, readFile}
 use Rattle.edit_format.specs.Records.{recordOf, recordsOf, size}
 use Rattle.edit_read.specs.declared.Spot.{Spot}
 use Rattle.edit_read.specs.declared.Spot.the-variants.{Good as GoodSpot, Bad as BadSpot}

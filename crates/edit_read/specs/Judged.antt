@@ -2,12 +2,11 @@
 -- bytes still decides what the whole file is found to be. Assumes nothing.
 use mathlib.Core.Path.{_≡_}
 use Prim.Native.Nat.{ℕ, _+_, _≤_, _<_}
-use mathlib.Core.Bool.{Bool}
 use mathlib.Core.List.{List, [], _∷_, _++_}
 use lib.ListN.{length, drop}
 use Rattle.edit_format.specs.Items.{Item, Add, kept, dropped, added, endsKeep}
 use Rattle.edit_format.specs.Written.{Head}
-use Rattle.edit_format.specs.Reading.{State, key, gap, item, adding, opened, Accepted, Refused, found, readFile}
+use Rattle.edit_format.specs.Reading.{State, gap, item, adding, opened, Accepted, Refused, found, readFile}
 use Rattle.edit_lines.specs.Scan.{cap}
 use Rattle.edit_read.specs.declared.Header.{Header}
 use Rattle.edit_read.specs.declared.Heading.{Heading}

@@ -2,13 +2,13 @@
 // file's items and text then go into the rooms in a second pass over its item lines.
 ghost use mathlib.Core.Path.{_≡_};
 ghost use mathlib.Core.List.{List, []};
-ghost use Prim.Native.Nat.{ℕ, _+_, _*_, _≤_, _<_};
+ghost use Prim.Native.Nat.{_+_, _*_, _≤_, _<_};
 ghost use lib.ListN.{length, drop};
 ghost use Rattle.room.specs.Placed.{answered};
 ghost use Rattle.edit_format.specs.Items.{Item};
 ghost use Rattle.edit_format.specs.Written.{Head};
-ghost use Rattle.edit_format.specs.Reading.{State, key, gap, item, keeping, dropping, adding, open′, readFile, believes};
-ghost use Rattle.edit_read.specs.Judged.{HeadRead, PointsRead, Holds, Within, ItemRead, Judging, Judged};
+ghost use Rattle.edit_format.specs.Reading.{key, gap, item, keeping, dropping, adding, open′, readFile, believes};
+ghost use Rattle.edit_read.specs.Judged.{HeadRead, PointsRead, Within, ItemRead, Judging, Judged};
 ghost use Rattle.edit_read.specs.Filled.{recordsFound, textFound, PointsPut, NumberPut, ItemPut, Accepting, Fillable};
 ghost use Rattle.edit_read.specs.Answer.{lengthsOf, ReadInto};
 use edit_lines::Number;

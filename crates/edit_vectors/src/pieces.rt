@@ -2,7 +2,10 @@
 ghost use Prim.Native.Nat.{_≤_};
 ghost use lib.ListN.{length};
 ghost use Rattle.vectors.specs.Lines.{Read};
+use diff::diff::magnitude;
 use vectors::Line;
+use vectors::as_u8;
+use vectors::as_u32;
 
 // The line at an offset, its pieces spread out into the room.
 pub fn spread_at(bytes: &[u8], at: usize, room: &mut [i64]) -> Line
@@ -73,15 +76,7 @@ fn put(piece: &[i64], room: &mut [i64], from: usize) -> usize
 }
 
 fn as_usize(n: i64) -> usize {
-    diff::diff::magnitude(n) as usize
-}
-
-fn as_u8(n: usize) -> u8 {
-    if n < 256 { n as u8 } else { 255 }
-}
-
-fn as_u32(n: usize) -> u32 {
-    if n < 4294967296 { n as u32 } else { 4294967295 }
+    magnitude(n) as usize
 }
 
 // The numbers as bytes, and as code points; how many there are.
@@ -93,7 +88,7 @@ pub fn to_u8(numbers: &[i64], room: &mut [u8]) -> usize
         if room.len() <= i {
             return i;
         }
-        room[i] = as_u8(as_usize(numbers[i]));
+        room[i] = as_u8(magnitude(numbers[i]));
         i += 1;
     }
     i
@@ -107,7 +102,7 @@ pub fn to_u32(numbers: &[i64], room: &mut [u32]) -> usize
         if room.len() <= i {
             return i;
         }
-        room[i] = as_u32(as_usize(numbers[i]));
+        room[i] = as_u32(magnitude(numbers[i]));
         i += 1;
     }
     i

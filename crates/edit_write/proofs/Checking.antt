@@ -1,29 +1,26 @@
 -- The two passes over the items: sums up to a size, and the first item that cannot be written.
 -- What is left of the items decides the whole answer; one law for each way through a turn. Assumes nothing.
 use mathlib.Core.Path.{_≡_, refl, sym, ap, _∙_}
-use mathlib.Core.Bool.{Bool, true, false, not}
+use mathlib.Core.Bool.{Bool, true, false}
 use mathlib.Core.List.{List, [], _∷_}
 use Prim.Native.Nat.{ℕ, suc, _+_, _-_, _/_, _≤_, _<_, zero-le}
 use native.Mathlib.Nat.{sub-zero}
 use native.Mathlib.Omega.{arith}
 use lib.ListN.{length, take, drop, length-take, length-drop}
 use lib.IntN.{ℤ}
-use lib.Dec.{ltb, leb}
+use lib.Dec.{ltb}
 use borrow.Author.Tests.{lt-ltb, le-ltb, lt-leb, le-leb}
 use Rattle.room.specs.Choice.{pick}
 use Rattle.refusal.specs.declared.Refusal.the-variants.{Record, Size, CodePoint}
 use Rattle.diff.specs.declared.diff.Item.{Item as Lent}
 use Rattle.diff.specs.declared.diff.Item.the-variants.{Retain, Delete, Insert, Neither}
-use Rattle.diff.specs.declared.diff.Bad.{Bad}
 use Rattle.diff.specs.declared.diff.Bad.the-variants.{At, Nowhere}
 use Rattle.diff.specs.Items.{itemAt, itemsOf, itemsFrom}
-use Rattle.diff.specs.Checks.{Verdict, fine, refused, andThen, refuseIf, points}
+use Rattle.diff.specs.Checks.{andThen, refuseIf, points}
 use Rattle.diff.specs.Passes.{pointed}
 use Rattle.diff.proofs.Decoding.{items-more, items-none, insert-within}
 use Rattle.diff.proofs.Judging.{items-length}
-use Rattle.edit_format.specs.Tests.{both}
-use Rattle.edit_format.specs.Items.{Item, Keep, Drop, Add, kept, dropped, added}
-use Rattle.edit_format.proofs.Picks.{both-false}
+use Rattle.edit_format.specs.Items.{Item, kept, dropped, added}
 use Rattle.edit_write.specs.Writing.{fileItem, fileItems, fileOf, sizes, shapes, writable}
 use Rattle.edit_write.specs.Passes.{sumsOf, tallyOf, shaped, checkedBy}
 use Rattle.edit_write.specs.declared.Sums.{Sums}

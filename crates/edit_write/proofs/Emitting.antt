@@ -9,7 +9,8 @@ use lib.IntN.{ℤ}
 use Rattle.room.specs.Placed.{Put}
 use Rattle.diff.specs.declared.diff.Item.the-variants.{Retain, Delete, Insert, Neither}
 use Rattle.diff.specs.Items.{itemAt}
-use Rattle.diff.proofs.Building.{put-none, range-part}
+use Rattle.string_builder.proofs.Stops.{put-none}
+use Rattle.diff.proofs.Building.{range-part}
 use Rattle.edit_format.specs.Items.{Item, Add}
 use Rattle.edit_format.specs.Written.{numberLine, keepKey, dropKey, itemLine, itemLines}
 use Rattle.written_lines.proofs.Emitting.{put-length, put-then}

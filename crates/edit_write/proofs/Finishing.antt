@@ -1,22 +1,20 @@
 -- The file's bytes under the header that the sums make, its six lines and its items put one after the other, and the answers of both calls.
 -- Where the checks are fine the items are good, so the capped length is exact. Assumes nothing.
-use mathlib.Core.Path.{_≡_, refl, sym, ap, _∙_}
-use mathlib.Core.List.{List, [], _∷_, _++_, append-assoc}
-use Prim.Native.Nat.{ℕ, _+_, _/_, _≤_, _<_, min, zero-le}
+use mathlib.Core.Path.{_≡_, refl, ap, _∙_}
+use mathlib.Core.List.{List, _++_}
+use Prim.Native.Nat.{ℕ, _+_, _/_, _≤_, _<_, zero-le}
 use native.Mathlib.Omega.{arith}
 use lib.ListN.{length, length-append}
 use lib.IntN.{ℤ}
-use lib.Dec.{ltb}
 use borrow.Author.Tests.{lt-ltb, le-ltb}
-use Rattle.room.specs.Choice.{pick}
-use Rattle.room.specs.Placed.{placed, answered, Put}
+use Rattle.room.specs.Placed.{answered, Put}
 use Rattle.room.proofs.Answers.{at-start}
 use Rattle.refusal.specs.declared.Refusal.{Refusal}
 use Rattle.refusal.specs.declared.Refusal.the-variants.{Room}
 use Rattle.refusal.specs.declared.Counted.the-variants.{Count, Refused as NoCount}
-use Rattle.diff.specs.Checks.{Verdict, fine, refused, andThen, fits}
+use Rattle.diff.specs.Checks.{Verdict, fine, refused, fits}
 use Rattle.edit_format.specs.Items.{Item, kept, dropped, added}
-use Rattle.edit_format.specs.Written.{formKey, originalKey, resultKey, itemsKey, endKey, numberLine, itemLines, Head, headLines, headOf, written}
+use Rattle.edit_format.specs.Written.{formKey, originalKey, resultKey, itemsKey, endKey, numberLine, itemLines, headLines, headOf, written}
 use Rattle.written_lines.specs.Lengths.{cap}
 use Rattle.written_lines.proofs.Emitting.{put-then, put-length}
 use Rattle.edit_write.specs.Writing.{fileOf, writable, lengthOf, roomed, Wrote}

@@ -1,26 +1,29 @@
 -- What passes the writer's checks is good, and the file of good items is shorter than the cap.
 -- By induction on the items; a number has no more digits than one more than itself. Assumes nothing.
-use mathlib.Core.Path.{_≡_, refl, sym, ap, _∙_}
+use mathlib.Core.Path.{_≡_, refl}
 use mathlib.Core.Bool.{Bool, true, false, not}
 use mathlib.Core.List.{List, [], _∷_, _++_}
-use Prim.Native.Nat.{ℕ, zero, suc, _+_, _*_, _/_, _≤_, _<_, zero-le}
+use Prim.Native.Nat.{ℕ, zero, suc, _+_, _*_, _≤_, _<_, zero-le}
 use native.Mathlib.Omega.{arith}
 use lib.ListN.{length, take, drop, length-append}
 use lib.IntN.{ℤ}
 use lib.Dec.{ltb, leb}
-use borrow.Author.Tests.{ltb-true, ltb-false, leb-true, le-leb, lt-leb, lt-ltb, le-ltb}
+use borrow.Author.Tests.{ltb-false}
 use Rattle.room.specs.Choice.{pick}
 use Rattle.refusal.specs.declared.Refusal.{Refusal}
-use Rattle.refusal.specs.declared.Refusal.the-variants.{Record, Size, CodePoint}
+use Rattle.refusal.specs.declared.Refusal.the-variants.{Size, CodePoint}
 use Rattle.diff.specs.declared.diff.Item.{Item as Lent}
 use Rattle.diff.specs.declared.diff.Item.the-variants.{Retain, Delete, Insert, Neither}
 use Rattle.diff.specs.Items.{itemsOf}
-use Rattle.diff.specs.Checks.{Verdict, fine, refused, andThen, refuseIf, isPoint as isPointOf, points as pointsCheck}
+use Rattle.numbers.specs.Points.{isPoint}
+use Rattle.numbers.proofs.Points.{point-most}
+use Rattle.diff.specs.Checks.{Verdict, fine, refused, andThen, refuseIf, points as pointsCheck}
 use Rattle.edit_format.specs.Tests.{both}
 use Rattle.edit_format.specs.Digits.{digits}
-use Rattle.edit_format.specs.Items.{Item, Keep, Drop, Add, kept, dropped, added, isPoint, allPoints, itemsGood, Good}
-use Rattle.edit_format.specs.Written.{points, numberLine, keepKey, dropKey, endKey, itemLine, itemLines, Head, headLines, headOf, written}
-use Rattle.edit_format.proofs.Picks.{pick-elim, both-0, both-1, apart}
+use Rattle.edit_format.specs.Items.{Item, Keep, Drop, Add, kept, dropped, added, allPoints, itemsGood, Good}
+use Rattle.edit_format.specs.Written.{points, numberLine, endKey, itemLine, itemLines, Head, headLines, headOf, written}
+use Rattle.edit_format.proofs.Picks.{both-0, both-1}
+use Rattle.edit_format.proofs.Accepts.{both-in}
 use Rattle.written_lines.proofs.Numbers.{few-digits}
 use Rattle.written_lines.proofs.Counting.{line-length, add-length}
 use Rattle.edit_write.specs.Writing.{fileItem, fileItems, fileOf, sizes, shapes, writable}
@@ -41,28 +44,13 @@ not-refused : (t : Bool) (r : Refusal) → refuseIf t r ≡ fine → t ≡ false
 not-refused true r e = absurd (never e)
 not-refused false r e = refl
 
--- the two readings of refusal 4's rule
-same-point : (c : ℕ) → isPointOf c ≡ true → isPoint c ≡ true
-unfolding isPointOf isPoint
-same-point c = go (ltb c 55296) (ltb c 57344) (ltb c 1114112) refl refl refl
-  where
-    go : (x y z : Bool) → ltb c 55296 ≡ x → ltb c 57344 ≡ y → ltb c 1114112 ≡ z → pick x true (pick y false z) ≡ true → both (leb c 1114111) (not (both (leb 55296 c) (leb c 57343))) ≡ true
-    go true y z e f g h = let w : c < 55296 = ltb-true c 55296 e in rw (le-leb c 1114111 (omega arith), lt-leb 55296 c w)
-    go false true z e f g h = absurd (apart (sym h))
-    go false false true e f g h =
-        let w : c < 1114112 = ltb-true c 1114112 g in
-        let v : 57344 ≤ c = ltb-false c 57344 f in
-        let u : 55296 ≤ c = ltb-false c 55296 e in
-        rw (le-leb c 1114111 (omega arith), le-leb 55296 c u, lt-leb c 57343 (omega arith))
-    go false false false e f g h = absurd (apart (sym h))
-
 pub all-points : (i : ℕ) (t : List ℕ) → pointsCheck i t ≡ fine → allPoints t ≡ true
 unfolding pointsCheck allPoints
 all-points i [] e = refl
-all-points i (c ∷ cs) e = go (isPointOf c) refl e (λ f. all-points (i + 1) cs f)
+all-points i (c ∷ cs) e = go (isPoint c) refl e (λ f. all-points (i + 1) cs f)
   where
-    go : (t : Bool) → isPointOf c ≡ t → pick t (pointsCheck (i + 1) cs) (refused (CodePoint i)) ≡ fine → (pointsCheck (i + 1) cs ≡ fine → allPoints cs ≡ true) → both (isPoint c) (allPoints cs) ≡ true
-    go true f g k = rw (same-point c f, k g)
+    go : (t : Bool) → isPoint c ≡ t → pick t (pointsCheck (i + 1) cs) (refused (CodePoint i)) ≡ fine → (pointsCheck (i + 1) cs ≡ fine → allPoints cs ≡ true) → both (isPoint c) (allPoints cs) ≡ true
+    go true f g k = rw (f, k g)
     go false f g k = absurd (never g)
 
 points-drop : (n : ℕ) (t : List ℕ) → allPoints t ≡ true → allPoints (drop n t) ≡ true
@@ -80,9 +68,6 @@ points-take (suc n) (c ∷ cs) e = rw (both-0 (isPoint c) (allPoints cs) e) (poi
 picked : (t : Bool) (r : Refusal) (v : Verdict) → pick t v (refused r) ≡ fine → (t ≡ true) × (v ≡ fine)
 picked true r v e = (refl, e)
 picked false r v e = absurd (never e)
-
-both-in : {a b : Bool} → a ≡ true → b ≡ true → both a b ≡ true
-both-in e f = rw (e, f)
 
 items-good : (text : List ℕ) → allPoints text ≡ true → (k : Bool) (i : ℕ) (ls : List Lent) → shapes k i (fileItems text ls) ≡ fine → itemsGood k (fileItems text ls) ≡ true
 unfolding fileItems fileItem shapes itemsGood allPoints
@@ -110,19 +95,15 @@ writable-good xs text e =
     }
 
 -- lengths
-point-small : (c : ℕ) → isPoint c ≡ true → c ≤ 1114111
-unfolding isPoint
-point-small c e = leb-true c 1114111 (both-0 (leb c 1114111) _ e)
-
 points-bound : (cs : List ℕ) → allPoints cs ≡ true → length (points cs) ≤ 1114113 * length cs
 unfolding points allPoints
 points-bound [] e = zero-le
-points-bound (c ∷ []) e = omega (arith, few-digits 16 c, point-small c (both-0 (isPoint c) true e))
+points-bound (c ∷ []) e = omega (arith, few-digits 16 c, point-most c (both-0 (isPoint c) true e))
 points-bound (c ∷ d ∷ cs) e =
     length-step (points-bound (d ∷ cs) (both-1 (isPoint c) (allPoints (d ∷ cs)) e))
   where
     length-step : length (points (d ∷ cs)) ≤ 1114113 * length (d ∷ cs) → length (digits 16 c ++ 32 ∷ points (d ∷ cs)) ≤ 1114113 * length (c ∷ d ∷ cs)
-    length-step h = omega (arith, length-append (digits 16 c) (32 ∷ points (d ∷ cs)), few-digits 16 c, point-small c (both-0 (isPoint c) (allPoints (d ∷ cs)) e))
+    length-step h = omega (arith, length-append (digits 16 c) (32 ∷ points (d ∷ cs)), few-digits 16 c, point-most c (both-0 (isPoint c) (allPoints (d ∷ cs)) e))
 
 lines-bound : (k : Bool) (is : List Item) → itemsGood k is ≡ true → length (itemLines is) ≤ 7 * length is + kept is + dropped is + 1114113 * added is
 unfolding itemLines itemsGood kept dropped added

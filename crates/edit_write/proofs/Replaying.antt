@@ -3,26 +3,24 @@
 use mathlib.Core.Path.{_≡_, refl, sym, ap, _∙_}
 use mathlib.Core.Bool.{Bool, true, false, not}
 use mathlib.Core.List.{List, [], _∷_}
-use Prim.Native.Nat.{ℕ, zero, suc, _+_, _-_, _/_, _≤_}
+use Prim.Native.Nat.{ℕ, _+_, _-_, _/_}
 use native.Mathlib.Omega.{arith}
 use lib.ListN.{length, take, drop}
-use lib.IntN.{ℤ}
-use lib.Dec.{ltb, leb}
+use lib.Dec.{leb}
 use borrow.Author.Tests.{le-ltb}
-use Rattle.room.specs.Choice.{pick}
 use Rattle.diff.specs.declared.diff.Item.{Item as Lent}
 use Rattle.diff.specs.declared.diff.Item.the-variants.{Retain, Delete, Insert, Neither}
 use Rattle.diff.specs.Items.{itemsOf, itemsFrom}
-use Rattle.diff.specs.Replay.{Edit, retain, delete, insert, editOf, editsOf, replayed, mentioned, left, kept as keptBy, added as addedBy}
-use Rattle.diff.specs.Checks.{Verdict, fine, refused, andThen, refuseIf, used, sizes, points, records, numbers, covers}
+use Rattle.diff.specs.Replay.{editOf, editsOf, mentioned, left, kept as keptBy, added as addedBy}
+use Rattle.diff.specs.Checks.{fine, used, sizes, records, covers}
 use Rattle.diff.specs.Answers.{Diff, diff, edits, textOf, plain, covering}
 use Rattle.diff.proofs.Judging.{items-length}
 use Rattle.diff.proofs.Laws.{enough-numbers, replayed-length, added-used}
 use Rattle.edit_format.specs.Tests.{both}
-use Rattle.edit_format.specs.Items.{Item, Keep, Drop, Add, kept, dropped, added, texts, allPoints, itemsGood, Good}
+use Rattle.edit_format.specs.Items.{Item, kept, dropped, added, texts, allPoints, itemsGood, Good}
 use Rattle.edit_format.specs.Reading.{Accepted, readFile}
 use Rattle.edit_format.specs.Records.{recordsOf}
-use Rattle.edit_format.proofs.Picks.{both-0, both-1, apart}
+use Rattle.edit_format.proofs.Picks.{both-1, apart}
 use Rattle.edit_format.proofs.TextLaws.{texts-length}
 use Rattle.edit_format.proofs.Accepts.{accepted-good}
 use Rattle.edit_write.specs.Writing.{fileItem, fileItems, fileOf}

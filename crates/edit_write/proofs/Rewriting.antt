@@ -3,27 +3,24 @@
 use mathlib.Core.Path.{_≡_, refl, sym, ap, _∙_}
 use mathlib.Core.Bool.{Bool, true, false, not}
 use mathlib.Core.List.{List, [], _∷_, _++_, append-assoc}
-use Prim.Native.Nat.{ℕ, zero, suc, _+_, _*_, _/_, _≤_, _<_}
+use Prim.Native.Nat.{ℕ, zero, suc, _+_, _*_, _/_, _≤_}
 use native.Mathlib.Omega.{arith}
-use lib.ListN.{length, take, drop, getD, length-append}
+use lib.ListN.{length, drop, length-append}
 use lib.Seq.{getD-append-add, take-append-seam, drop-append-seam, drop-drop}
-use lib.IntN.{ℤ, pos, negsuc, negℤ}
-use lib.Dec.{ltb, leb}
-use borrow.Author.Tests.{ltb-true, ltb-false, leb-true, le-leb, lt-leb, lt-ltb, le-ltb}
-use Rattle.room.specs.Choice.{pick}
-use Rattle.refusal.specs.declared.Refusal.the-variants.{Size}
-use Rattle.diff.specs.declared.diff.Item.{Item as Lent}
-use Rattle.diff.specs.declared.diff.Item.the-variants.{Retain, Delete, Insert, Neither}
+use lib.IntN.{ℤ, pos, negsuc}
+use lib.Dec.{leb}
+use borrow.Author.Tests.{le-leb, le-ltb}
 use Rattle.diff.specs.Items.{numbered, ranged, itemOf, itemAt, itemsFrom, itemsOf}
-use Rattle.diff.specs.Checks.{Verdict, fine, refused, andThen, refuseIf, isPoint as isPointOf, points as pointsCheck}
+use Rattle.numbers.specs.Points.{isPoint}
+use Rattle.diff.specs.Checks.{fine, points as pointsCheck}
 use Rattle.edit_format.specs.Tests.{both}
-use Rattle.edit_format.specs.Items.{Item, Keep, Drop, Add, kept, dropped, added, texts, isPoint, allPoints, itemsGood, Good}
+use Rattle.edit_format.specs.Items.{Item, Keep, Drop, Add, kept, dropped, added, texts, allPoints, itemsGood, Good}
 use Rattle.edit_format.specs.Written.{written}
 use Rattle.edit_format.specs.Reading.{Accepted, readFile}
 use Rattle.edit_format.specs.Records.{recordOf, size, recordsFrom, recordsOf}
 use Rattle.edit_format.proofs.Picks.{both-0, both-1, apart}
 use Rattle.edit_format.proofs.TextLaws.{texts-length}
-use Rattle.edit_format.proofs.RecordLaws.{length-record, length-records}
+use Rattle.edit_format.proofs.RecordLaws.{length-record, length-records, added-cons}
 use Rattle.edit_format.proofs.ReadBack.{read-back}
 use Rattle.edit_format.proofs.Canonical.{canonical}
 use Rattle.edit_format.proofs.Accepts.{accepted-good}
@@ -64,12 +61,6 @@ texts-drop (Keep n) is at text d = let e : at + 0 ≡ at = omega arith in rw e d
 texts-drop (Drop n) is at text d = let e : at + 0 ≡ at = omega arith in rw e d
 texts-drop (Add cs) is at text d = sym (drop-drop (length cs) at text) ∙ ap (drop (length cs)) d ∙ drop-append-seam cs (texts is)
 
-added-size : (x : Item) (is : List Item) → added (x ∷ is) ≡ size x + added is
-unfolding added size
-added-size (Keep n) is = omega arith
-added-size (Drop n) is = omega arith
-added-size (Add cs) is = refl
-
 decodes : (k : Bool) (is : List Item) (at : ℕ) (text : List ℕ) (pre : List ℤ) (i : ℕ) → itemsGood k is ≡ true → length pre ≡ 3 * i → drop at text ≡ texts is → at + added is ≤ length text → fileItems text (itemsFrom (pre ++ recordsFrom at is) (length text) i (length is)) ≡ is
 unfolding fileItems itemsFrom recordsFrom
 decodes k [] at text pre i g h d l = refl
@@ -77,7 +68,7 @@ decodes k (x ∷ is) at text pre i g h d l =
     let r = good-rest k x is g in
     let e : pre ++ (recordOf at x ++ recordsFrom (at + size x) is) ≡ (pre ++ recordOf at x) ++ recordsFrom (at + size x) is = sym (append-assoc pre (recordOf at x) (recordsFrom (at + size x) is)) in
     let t : fileItems text (itemsFrom ((pre ++ recordOf at x) ++ recordsFrom (at + size x) is) (length text) (i + 1) (length is)) ≡ is =
-    decodes (r .0) is (at + size x) text (pre ++ recordOf at x) (i + 1) (r .1) (length-append pre (recordOf at x) ∙ omega (arith, length-record at x)) (texts-drop x is at text d) (omega (arith, added-size x is)) in
+    decodes (r .0) is (at + size x) text (pre ++ recordOf at x) (i + 1) (r .1) (length-append pre (recordOf at x) ∙ omega (arith, length-record at x)) (texts-drop x is at text d) (omega (arith, added-cons x is)) in
     rw e (ap (λ (y : Item). y ∷ fileItems text (itemsFrom ((pre ++ recordOf at x) ++ recordsFrom (at + size x) is) (length text) (i + 1) (length is))) (record-item k x is at text pre (recordsFrom (at + size x) is) i g h d l) ∙ ap (λ (l : List Item). x ∷ l) t)
 
 pub same-items : (is : List Item) → Good is → fileOf (recordsOf is) (texts is) ≡ is
@@ -87,28 +78,12 @@ same-items is g =
     rw e (decodes false is 0 (texts is) [] 0 (g .each) refl refl (omega (arith, texts-length is)))
 
 -- good items pass the checks
-point-same : (c : ℕ) → isPoint c ≡ true → isPointOf c ≡ true
-unfolding isPointOf isPoint
-point-same c h = go (ltb c 55296) (ltb c 57344) refl refl
-  where
-    small : c ≤ 1114111
-    small = leb-true c 1114111 (both-0 (leb c 1114111) _ h)
-
-    go : (x y : Bool) → ltb c 55296 ≡ x → ltb c 57344 ≡ y → pick x true (pick y false (ltb c 1114112)) ≡ true
-    go true y e f = refl
-    go false true e f =
-        let u : 55296 ≤ c = ltb-false c 55296 e in
-        let v : c < 57344 = ltb-true c 57344 f in
-        let n = both-1 (leb c 1114111) (not (both (leb 55296 c) (leb c 57343))) h in
-        absurd (apart (sym n ∙ rw (le-leb 55296 c u, le-leb c 57343 (omega arith))))
-    go false false e f = lt-ltb c 1114112 (let s : c ≤ 1114111 = small in omega arith)
-
 pub points-fine : (i : ℕ) (t : List ℕ) → allPoints t ≡ true → pointsCheck i t ≡ fine
 unfolding pointsCheck allPoints
 points-fine i [] e = refl
-points-fine i (c ∷ cs) e = rw (point-same c (both-0 (isPoint c) (allPoints cs) e)) (points-fine (i + 1) cs (both-1 (isPoint c) (allPoints cs) e))
+points-fine i (c ∷ cs) e = rw (both-0 (isPoint c) (allPoints cs) e) (points-fine (i + 1) cs (both-1 (isPoint c) (allPoints cs) e))
 
-points-append : (s t : List ℕ) → allPoints s ≡ true → allPoints t ≡ true → allPoints (s ++ t) ≡ true
+pub points-append : (s t : List ℕ) → allPoints s ≡ true → allPoints t ≡ true → allPoints (s ++ t) ≡ true
 unfolding allPoints
 points-append [] t e f = f
 points-append (c ∷ s) t e f = rw (both-0 (isPoint c) (allPoints s) e) (points-append s t (both-1 (isPoint c) (allPoints s) e) f)

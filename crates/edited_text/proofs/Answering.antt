@@ -1,7 +1,7 @@
 -- Shown: the call: lists that the checks accept and rooms as asked are ready to be merged, and what was merged is the answer; a refusal
 -- leaves every room. How: the verdict, check by check.
-use Prim.Native.Nat.{ℕ, _+_, _*_, _/_, _≤_, min}
-use mathlib.Core.Path.{_≡_, refl, sym, _∙_, ap}
+use Prim.Native.Nat.{ℕ, _+_, _*_, _/_, min}
+use mathlib.Core.Path.{_≡_, refl, sym, _∙_}
 use mathlib.Core.Bool.{Bool, true, false, _&&_}
 use mathlib.Core.List.{List}
 use native.Mathlib.Omega.{arith}
@@ -26,7 +26,7 @@ use Rattle.verdict.proofs.Chains.{stops, has-room, lacks-room}
 use Rattle.checks.proofs.Accepted.{accepted-left, accepted-right}
 use Rattle.edited_text.specs.declared.Counts.{Counts}
 use Rattle.edited_text.specs.declared.Answer.the-variants as A
-use Rattle.edited_text.specs.Merging.{roomsFit, mergeVerdict, verdictOn, mergeOn, MergedBy, Mergeable, Merges}
+use Rattle.edited_text.specs.Merging.{roomsFit, mergeVerdict, verdictOn, MergedBy, Mergeable, Merges}
 
 same-counts : (r : Counts) (n m : ℕ) → r .operations ≡ n → r .cursors ≡ m → r ≡ record { operations = n; cursors = m }
 same-counts r n m e f = rw (← e, ← f)

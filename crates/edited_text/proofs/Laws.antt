@@ -2,7 +2,7 @@
 -- the rooms: the merged list is accepted, tiles the original, and retains exactly what both lists retain.
 -- How: the statement is by equations; a room that holds records is read back to them.
 use Prim.Native.Nat.{ℕ, _*_}
-use mathlib.Core.Path.{_≡_, refl, sym, _∙_, ap, subst}
+use mathlib.Core.Path.{_≡_, refl, sym, _∙_}
 use mathlib.Core.List.{List}
 use lib.ListN.{length, take}
 use Rattle.room.specs.Placed.{answered}

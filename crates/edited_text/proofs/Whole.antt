@@ -1,7 +1,7 @@
 -- Shown: two accepted lists and rooms as asked are what the turns need, and what the turns leave is the definition's merge.
 -- How: the laws of accepted lists, and the definition's start with the cursors sorted.
 use Prim.Native.Nat.{ℕ, _+_, _*_, _/_, _≤_}
-use mathlib.Core.Path.{_≡_, refl, sym, _∙_, ap}
+use mathlib.Core.Path.{_≡_, sym, _∙_, ap}
 use mathlib.Core.List.{List, [], _∷_}
 use native.Mathlib.Omega.{arith}
 use lib.ListN.{length, take}
@@ -21,7 +21,7 @@ use Rattle.merging.specs.declared.Op.{Op}
 use Rattle.merging.specs.declared.Op.the-variants.{Delete, Insert, Retain}
 use Rattle.merging.specs.declared.Order.{Order}
 use Rattle.merging.specs.Lent.{Lent, rulesOf, lentOf}
-use Rattle.merging.specs.Operations.{opsFrom, recordsOf}
+use Rattle.merging.specs.Operations.{recordsOf}
 use Rattle.merging.specs.OrderRule.{priorityOf}
 use Rattle.merging.specs.Meeting.{nothing}
 use Rattle.merging.specs.Merge.{Outcome, run, work, outcomeOf, mergeOf}
@@ -32,10 +32,9 @@ use Rattle.merging_laws.proofs.Accepted.{merged-operations-most, merged-cursors
 use Rattle.order.specs.Readable.{Run, ofText}
 use Rattle.order.proofs.Lending.{priority-of}
 use Rattle.order_laws.proofs.Accepted.{readable}
-use Rattle.operation.specs.Views.{most}
+use Rattle.numbers.specs.Sizes.{most}
 use Rattle.merge.specs.declared.Totals.{Totals}
-use Rattle.merge.specs.Running.{listOf, begin, outcome, Listed, Runnable, Ran}
-use Rattle.edited_text.specs.declared.Counts.{Counts}
+use Rattle.merge.specs.Running.{listOf, outcome, Listed, Runnable, Ran}
 use Rattle.edited_text.specs.Merging.{mergeOn, Mergeable, Merges}
 
 -- 256 cursors, and a number behind them

@@ -2,7 +2,7 @@
 -- By the test of joining. Assumes nothing.
 use Prim.Native.Nat.{ℕ, _+_, _*_, _≤_}
 use mathlib.Core.Path.{_≡_, sym, _∙_}
-use mathlib.Core.Bool.{true, false, not}
+use mathlib.Core.Bool.{true, false}
 use mathlib.Core.List.{List, [], _∷_, _++_}
 use native.Mathlib.Omega.{arith}
 use native.Mathlib.Decide.{ℕ-discrete}
@@ -15,7 +15,7 @@ use Rattle.records.specs.Operations.{putOperation, flatOperations}
 use Rattle.records.specs.Rooms.{filled}
 use Rattle.records.proofs.Operations.{put-eq}
 use Rattle.raw_lists.specs.Raws.{Run}
-use Rattle.elongate.proofs.Placing.{placed-none}
+use Rattle.room.proofs.Placing.{placed-none}
 use Rattle.elongate.specs.Writes.{Closed}
 use Rattle.elongate.specs.Elongated.{lastRight, joinable, piecesLength, consumes}
 use Rattle.elongate.specs.Currents.{extended, fresh, closed, cookedOn}

@@ -1,6 +1,6 @@
 -- What elongating keeps and gives: each kind's tokens in their order, the text, no insert directly before a delete, at most as many operations;
 -- and elongating again changes nothing. By the first operation's kind, and by the test of joining. Assumes nothing.
-use Prim.Native.Nat.{ℕ, suc, _+_, _≤_, _<_}
+use Prim.Native.Nat.{ℕ, suc, _≤_, _<_}
 use mathlib.Core.Path.{_≡_, refl, sym, _∙_, ap}
 use mathlib.Core.Bool.{Bool, true, false, _&&_, not}
 use mathlib.Core.Logic.{_⊎_, inl, inr, ⊎-elim}
@@ -11,7 +11,7 @@ use lib.Dec.{eqb}
 use borrow.Author.Tests.{eq-eqb, ne-eqb, eqb-true}
 use Rattle.verdict.proofs.Bools.{and-left}
 use Rattle.raw_lists.specs.Raws.{Piece, Run}
-use Rattle.elongate.specs.Elongated.{Parts, parts, together, arranged, lastRight, firstLeft, joinable, join, joinedFrom, joined, elongated, allTokens}
+use Rattle.elongate.specs.Elongated.{Parts, parts, together, arranged, lastRight, firstLeft, joinable, join, joinedFrom, joined, elongated}
 use Rattle.elongate.specs.Kept.{chosen, textTokens, Follows, Settled}
 use Rattle.elongate.proofs.Arranging.{by-kind}
 use Rattle.elongate.proofs.Joining.{AllSome, joins-on, joins-apart, by-test, joined-length}

@@ -23,7 +23,8 @@ use Rattle.elongate.specs.declared.Current.{Current}
 use Rattle.elongate.specs.Elongated.{lastRight, firstLeft, joinable, piecesLength, consumes, allTokens}
 use Rattle.elongate.specs.Currents.{none, extended, fresh, closed, cookedOn}
 use Rattle.elongate.specs.Writes.{Fits, Appended, Closed, Ready, Wrote}
-use Rattle.elongate.proofs.Placing.{placed-none, length-placed, goes-on}
+use Rattle.room.proofs.Placing.{placed-none, placed-length}
+use Rattle.elongate.proofs.Placing.{goes-on}
 use Rattle.elongate.proofs.Lengths.{pieces-append, run-sum, first-left, last-right}
 use Rattle.elongate.proofs.Cooking.{cooks-joined, cooks-apart, consumes-most}
 
@@ -39,7 +40,7 @@ room-begins d x a e h = record { same = refl; fits = omega arith; whole = rw e (
 room-on : (d d′ s t x d₀ : List ℕ) (a b : ℕ) → Room d a (s ++ t) x d₀ → d′ ≡ placed d a s → b ≡ a + length s → Room d′ b t x d₀
 room-on d d′ s t x d₀ a b h e f =
     let l : a + (length s + length t) ≤ length d = rw (length-append s t) at (h .fits) in
-    let g : length d′ ≡ length d = rw e (length-placed d s a (omega arith)) in
+    let g : length d′ ≡ length d = rw e (placed-length d a s (omega arith)) in
     record { same = omega (arith, h .same); fits = omega arith; whole = goes-on d d′ s t (answered x d₀) a b e f (omega arith) (h .whole) }
 
 room-ends : (d x d₀ : List ℕ) (a : ℕ) → Room d a [] x d₀ → d ≡ answered x d₀

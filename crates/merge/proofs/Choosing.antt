@@ -1,6 +1,6 @@
 -- The side that is taken, by the order rule and the streams' priority.
 -- Each is a case of the definition's test. Assumes nothing.
-use mathlib.Core.Path.{_≡_, ap, _∙_}
+use mathlib.Core.Path.{_≡_, ap}
 use mathlib.Core.Bool.{Bool, true, false}
 use Rattle.merging.specs.declared.Op.{Op}
 use Rattle.merging.specs.declared.Order.{Order}

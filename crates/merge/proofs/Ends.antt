@@ -1,6 +1,6 @@
 -- The loop's first state, the side that is chosen, and what the rooms hold when both sides are done.
 -- By the invariant of Running, and by cases on what is next. Assumes nothing.
-use Prim.Native.Nat.{ℕ, suc, _+_, _-_, _*_, _/_, _≤_}
+use Prim.Native.Nat.{ℕ, suc, _+_, _-_, _/_, _≤_}
 use mathlib.Core.Path.{_≡_, refl, sym, ap, _∙_, subst}
 use mathlib.Core.Bool.{Bool, true, false}
 use mathlib.Core.List.{List, [], _∷_, _++_, append-nil, append-assoc}
@@ -14,21 +14,20 @@ use Rattle.merging.specs.declared.Op.{Op}
 use Rattle.merging.specs.declared.Op.the-variants.{Delete, Insert, Retain}
 use Rattle.merging.specs.declared.Order.{Order}
 use Rattle.merging.specs.Lent.{Lent, rulesOf, lentOf}
-use Rattle.merging.specs.Operations.{Out, opsFrom, recordsOf, spanOf}
+use Rattle.merging.specs.Operations.{Out, opsFrom, recordsOf}
 use Rattle.merging.specs.OrderRule.{goesLeft, orderRule, thenBy, isLess}
 use Rattle.merging.specs.Cursors.{ended}
 use Rattle.merging.specs.Turn.{State, Taken, none, fromLeft, fromRight, takenOf}
-use Rattle.merging.specs.Merge.{Outcome, leftovers, run, work}
+use Rattle.merging.specs.Merge.{Outcome, leftovers, work}
 use Rattle.merging.specs.Tiling.{Tiled, Inserts, tokensOf}
-use Rattle.merging.proofs.OneTurn.{starts}
-use Rattle.merging.proofs.Turns.{Stands, stands-start, run-none, fuel}
+use Rattle.merging.proofs.Turns.{stands-start, run-none, fuel}
 use Rattle.merging.proofs.Sound.{Sound, next-within}
 use Rattle.operation.specs.declared.Next.{Next}
 use Rattle.operation.specs.declared.Next.the-variants.{Here, Done}
 use Rattle.operation.specs.declared.Last.the-variants.{Nothing}
 use Rattle.operation.specs.Views.{heads}
 use Rattle.turns.specs.declared.Ahead.{Ahead}
-use Rattle.turns.specs.Looking.{listFrom, aheadOf, spanNext, FirstFits, Looks}
+use Rattle.turns.specs.Looking.{listFrom, aheadOf, FirstFits, Looks}
 use Rattle.order.specs.Readable.{Run, ofText}
 use Rattle.order.proofs.Lending.{order-of}
 use Rattle.merge.specs.declared.Side.{Side}
@@ -36,7 +35,7 @@ use Rattle.merge.specs.declared.Totals.{Totals}
 use Rattle.merge.specs.declared.Choice.{Choice}
 use Rattle.merge.specs.declared.Choice.the-variants.{Nothing as Neither, Left, Right}
 use Rattle.merge.specs.Choosing.{NextReadable, choiceOf}
-use Rattle.merge.specs.Running.{listOf, begin, outcome, Listed, Runnable, Ran}
+use Rattle.merge.specs.Running.{listOf, begin, outcome, Runnable, Ran}
 use Rattle.cursor_position.specs.declared.Progress.{Progress}
 use Rattle.cursor_position.specs.Moves.{Went}
 use Rattle.merge.specs.Turning.{cursorsLeft}

@@ -1,10 +1,10 @@
 -- What a taken operation meets is the definition's: the overlap's table is written off what is remembered, so all that is read
 -- afterwards is as before. By cases on the operation and the remembered one. Assumes nothing.
-use Prim.Native.Nat.{ℕ, _+_, _-_, _≤_, min}
+use Prim.Native.Nat.{ℕ, _+_, _≤_}
 use mathlib.Core.Path.{_≡_, refl, sym, ap, ap₂, _∙_, subst}
 use mathlib.Core.Bool.{Bool, true, false}
 use mathlib.Core.List.{List}
-use mathlib.Core.Logic.{_⊎_, inl, inr}
+use mathlib.Core.Logic.{inr}
 use native.Mathlib.Omega.{arith}
 use native.Mathlib.Decide.{decLt}
 use lib.Dec.{eqb}
@@ -23,12 +23,11 @@ use Rattle.merging.specs.Cursors.{Place, shiftOf, placeOf, removedOf}
 use Rattle.operation.specs.declared.Last.{Last}
 use Rattle.operation.specs.declared.Last.the-variants.{Nothing, Deleted, Retained, Inserted}
 use Rattle.operation.specs.declared.Met.{Met}
-use Rattle.operation.specs.Views.{LastFits, Lies, Keyed, Away, Meetable, Reaches, Placeable, Scratched, tokens, size, ofSpans, lastOf}
+use Rattle.operation.specs.Views.{LastFits, Keyed, Away, Meetable, Reaches, Placeable, Scratched, tokens, size, ofSpans, lastOf}
 use Rattle.operation.specs.Meets.{lostBy, metBy, metIn, usedBy, placeBy}
 use Rattle.operation.proofs.Scratch.{untouched}
 use Rattle.operation.proofs.Places.{place-none, place-some}
 use Rattle.operation.proofs.Meeting.{lost-is, used-is, place-is, length-is, removed-is}
-use Rattle.merge.specs.declared.Meeting.{Meeting}
 use Rattle.turns.specs.Remembering.{Since}
 use Rattle.merge.specs.Meetings.{placedIf, Shifted, Facing, Meets}
 

@@ -14,12 +14,11 @@ use Rattle.operation.specs.declared.Next.{Next}
 use Rattle.operation.specs.declared.Next.the-variants.{Here, Done}
 use Rattle.operation.specs.Views.{heads}
 use Rattle.operation.proofs.Meeting.{tail-next}
-use Rattle.turns.specs.declared.Ahead.{Ahead}
 use Rattle.turns.specs.Looking.{listFrom, aheadOf}
 use Rattle.merge.specs.declared.Side.{Side}
 use Rattle.merge.specs.declared.Totals.{Totals}
 use Rattle.merge.specs.declared.Turned.{Turned as Result}
-use Rattle.merge.specs.Turning.{memoryOf, cursorsLeft, taken, result, shiftBy, Made, Turns}
+use Rattle.merge.specs.Turning.{memoryOf, cursorsLeft, taken, result, shiftBy, Turns}
 
 -- the cut looks at the next operation alone
 pub front-heads : (a : Op) (x : Next) (ys : List Op) → (x ≡ Done → ys ≡ []) → frontOf a (heads x []) ≡ frontOf a (heads x ys)

@@ -1,10 +1,10 @@
 -- The run of all turns: an invariant of the code's loop that each turn of either side keeps.
 -- A turn of the right is one of the left with the sides exchanged; the definition's invariant, Sound, gives what a turn asks.
 -- Assumes nothing.
-use Prim.Native.Nat.{ℕ, suc, _+_, _-_, _*_, _/_, _≤_, _<_, max}
-use mathlib.Core.Path.{_≡_, refl, sym, ap, ap₂, _∙_, subst}
+use Prim.Native.Nat.{ℕ, suc, _+_, _-_, _/_, _≤_, _<_}
+use mathlib.Core.Path.{_≡_, refl, sym, ap, _∙_, subst}
 use mathlib.Core.List.{List, [], _∷_, _++_, append-assoc}
-use mathlib.Core.Logic.{_⊎_, inl, inr}
+use mathlib.Core.Logic.{inl, inr}
 use native.Mathlib.Omega.{arith}
 use lib.ListN.{length, length-append}
 use Rattle.room.specs.Placed.{answered}
@@ -13,35 +13,27 @@ use Rattle.records.specs.Cursors.{flatCursors}
 use Rattle.records.specs.Operations.{flatOperations}
 use Rattle.merging.specs.declared.Op.{Op}
 use Rattle.merging.specs.declared.Order.{Order}
-use Rattle.merging.specs.Lent.{Lent, Rules, Lawful, rulesOf, lentOf}
+use Rattle.merging.specs.Lent.{Lent, Rules, rulesOf, lentOf}
 use Rattle.merging.specs.Operations.{Out, orderOf, spanOf, recordsOf}
-use Rattle.merging.specs.Meeting.{frontOf, tailOf}
-use Rattle.merging.specs.Turn.{State, Turned, turned, turnLeft, turnRight, turnWith, emitted, fromLeft, fromRight, takenOf}
-use Rattle.merging.specs.Cursors.{movedBy}
+use Rattle.merging.specs.Turn.{State, Turned, turned, turnLeft, turnRight, turnWith, fromLeft, fromRight, takenOf}
 use Rattle.merging.specs.Merge.{Outcome, before, run, work}
 use Rattle.merging.specs.Tiling.{Tiled, Inserts, tokensOf}
 use Rattle.merging.specs.Reached.{remembered}
 use Rattle.merging.proofs.Places.{back}
 use Rattle.merging.proofs.OneTurn.{placeAfter, starts}
-use Rattle.merging.proofs.Turns.{Stands, Turning, stands-next, stands-turned, work-less, run-none, run-left, run-right, fuel, taken-is}
-use Rattle.merging.proofs.Sound.{Sound, textOfAll, left-turning, right-turning, sound-left, sound-right, sound-turned}
-use Rattle.overlap.proofs.Overlaps.{overlaps}
-use Rattle.operation.specs.declared.Next.{Next}
-use Rattle.operation.specs.declared.Next.the-variants.{Here, Done}
-use Rattle.operation.specs.Views.{heads}
+use Rattle.merging.proofs.Turns.{Stands, Turning, stands-next, stands-turned, work-less, run-left, run-right, fuel, taken-is}
+use Rattle.merging.proofs.Sound.{Sound, textOfAll, left-turning, right-turning, sound-left, sound-right}
+use Rattle.merging.proofs.Lawful.{lawful}
+use Rattle.operation.specs.declared.Next.the-variants.{Here}
 use Rattle.turns.specs.Looking.{listFrom, aheadOf}
 use Rattle.order.specs.Readable.{Run}
 use Rattle.merge.specs.declared.Side.{Side}
 use Rattle.merge.specs.declared.Totals.{Totals}
 use Rattle.merge.specs.declared.Turned.{Turned as Result}
-use Rattle.merge.specs.Turning.{cursorsLeft, taken, result, shiftBy, Turnable, Turns}
+use Rattle.merge.specs.Turning.{Turnable, Turns}
 use Rattle.merge.specs.Running.{listOf, outcome, Runnable}
-use Rattle.merge.proofs.OneTurn.{stateOf, turnOf, same-front, turned-out, turned-cursors, turned-state}
+use Rattle.merge.proofs.OneTurn.{stateOf, same-front, turned-out, turned-cursors, turned-state}
 use Rattle.merge.proofs.Sides.{SideFits, own-fits, other-fits, turnable}
-
--- the overlap of inserts is no longer than the new one
-pub lawful : (lent : Lent) → Lawful (rulesOf lent)
-lawful lent = record { short = λ old new. overlaps old new .fits }
 
 -- the definition's invariant, at an equal state
 unfoldable pub at-state : {R : Rules} {Q : ℕ → ℕ → Type 0} {ls rs : List Op} {n : ℕ} {s t : State} → s ≡ t → Sound R Q ls rs n s → Sound R Q ls rs n t

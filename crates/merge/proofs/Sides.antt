@@ -1,6 +1,6 @@
 -- What the code keeps of a side between turns, and what it gives a turn: every number fits, and each side stays in its part of the
 -- work room. By the definition's invariant, Sound, and by cases on the operation taken. Assumes nothing.
-use Prim.Native.Nat.{ℕ, _+_, _-_, _*_, _/_, _≤_, _<_, min, max}
+use Prim.Native.Nat.{ℕ, _+_, _-_, _*_, _/_, _≤_}
 use mathlib.Core.Path.{_≡_, refl, sym, ap, _∙_, subst}
 use mathlib.Core.Bool.{Bool, true, false}
 use mathlib.Core.List.{List, [], _∷_}
@@ -16,7 +16,7 @@ use Rattle.merging.specs.declared.Op.the-variants.{Delete, Insert, Retain}
 use Rattle.merging.specs.Lent.{Lent, rulesOf, keysOf}
 use Rattle.merging.specs.Operations.{orderOf, lengthOf, spanOf}
 use Rattle.merging.specs.Meeting.{Remembered, nothing, deleted, retained, inserted, keptLength, frontOf, shortened, lostOf, metOf, widthOf}
-use Rattle.merging.specs.Turn.{State, Turned, emitted}
+use Rattle.merging.specs.Turn.{emitted}
 use Rattle.merging.specs.Tiling.{Tiled, totalOf, tokensOf, Inserts}
 use Rattle.merging.proofs.OneTurn.{tiled-le, starts}
 use Rattle.merging.proofs.Turns.{Turning}
@@ -25,7 +25,8 @@ use Rattle.operation.specs.declared.Next.{Next}
 use Rattle.operation.specs.declared.Next.the-variants.{Here, Done}
 use Rattle.operation.specs.declared.Last.{Last}
 use Rattle.operation.specs.declared.Last.the-variants.{Nothing, Deleted, Retained, Inserted}
-use Rattle.operation.specs.Views.{heads, reach, most, tokens, ofSpans, NextFits, LastFits, Away}
+use Rattle.numbers.specs.Sizes.{most}
+use Rattle.operation.specs.Views.{heads, reach, tokens, ofSpans, NextFits, LastFits, Away}
 use Rattle.operation.specs.Meets.{tailBy}
 use Rattle.operation.proofs.Cuts.{tail-cut, tail-whole}
 use Rattle.operation.proofs.Meeting.{length-is}
@@ -38,7 +39,7 @@ use Rattle.merge.specs.declared.Totals.{Totals}
 use Rattle.merge.specs.declared.Turned.{Turned as Result}
 use Rattle.merge.specs.Turning.{memoryOf, taken, result, Turnable, Turns}
 use Rattle.merge.specs.Turning.{Sound as Fine}
-use Rattle.merge.proofs.Turning.{kept-most}
+use Rattle.merging.proofs.OneTurn.{keep-less}
 use Rattle.merge.proofs.OneTurn.{stateOf, turnOf, turned-out}
 
 -- base and top bound the side's part of the work room; its list stands at p of the original
@@ -74,7 +75,7 @@ span-split (Insert o f n) rs = omega arith
 span-split (Retain o l) rs =
     elim (decLt (keptLength o l rs) l) [
       | yes h ↦ omega (arith, ap spanNext (tail-cut o l (keptLength o l rs) rs refl h))
-      | no h ↦ omega (arith, ap spanNext (tail-whole o l (keptLength o l rs) rs refl (omega arith)), kept-most o l rs)
+      | no h ↦ omega (arith, ap spanNext (tail-whole o l (keptLength o l rs) rs refl (omega arith)), keep-less o l rs)
     ]
 
 module _ {spans keys ops cs w w′ : List ℕ} {half : ℕ} {a : Op} {own other : Side} {totals : Totals} {number : ℕ} {out out′ moved moved′ : List ℕ} {r : Result}

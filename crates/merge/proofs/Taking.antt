@@ -5,7 +5,7 @@ use mathlib.Core.Path.{_≡_, sym, subst}
 use mathlib.Core.Bool.{true, false}
 use mathlib.Core.List.{List}
 use lib.ListN.{length}
-use native.Mathlib.Omega.{arith}
+use Rattle.room.proofs.Choices.{never as no-way}
 use Rattle.merging.specs.Lent.{lentOf}
 use Rattle.merging.specs.declared.Op.{Op}
 use Rattle.merging.specs.declared.Order.{Order}
@@ -32,9 +32,6 @@ pub record Seated (x : Choice) (left right : Side) (a : Op) (own other : Side) (
   pub own-is : own ≡ ofSide x left right
   pub other-is : other ≡ ofSide x right left
   pub number-is : number ≡ ofSide x 0 1
-
-no-way : {A : Type 0} → true ≡ false → A
-no-way h = let z : _≡_ {A = ℕ} 0 1 = cc in absurd (omega arith)
 
 module _ (original text spans keys lops rops lcs rcs : List ℕ) (priority : Order) (mid half : ℕ) (w₀ out₀ moved₀ w out moved : List ℕ) (left right : Side) (totals : Totals)
     (K : Runnable original text spans keys lops rops lcs rcs priority w₀ mid half out₀ moved₀)

@@ -1,32 +1,29 @@
 -- A turn from its parts: the front of an operation asks no more than the operation, what is written in the work room is off what is
 -- remembered, and the values that the functions called give are the definition's. Assumes nothing.
-use Prim.Native.Nat.{ℕ, _+_, _-_, _*_, _/_, _≤_, min}
+use Prim.Native.Nat.{ℕ, _+_, _-_, _*_, _≤_}
 use mathlib.Core.Path.{_≡_, refl, sym, ap, ap₂, _∙_, subst}
-use mathlib.Core.Bool.{Bool, true, false}
-use mathlib.Core.List.{List, [], _∷_, _++_}
-use lib.Dec.{ltb}
-use mathlib.Core.Logic.{_⊎_, inl, inr, ⊎-elim}
+use mathlib.Core.List.{List, [], _++_}
+use mathlib.Core.Logic.{inl, inr, ⊎-elim}
 use native.Mathlib.Omega.{arith}
 use lib.ListN.{length}
-use lib.Seq.{slice}
 use Rattle.room.specs.Placed.{answered}
-use Rattle.records.specs.declared.Cursor.{Cursor}
 use Rattle.records.specs.Cursors.{flatCursors}
 use Rattle.records.specs.Operations.{flatOperations}
 use Rattle.merging.specs.declared.Op.{Op}
 use Rattle.merging.specs.declared.Op.the-variants.{Delete, Insert, Retain}
 use Rattle.merging.specs.declared.Shift.{Shift}
-use Rattle.merging.specs.Lent.{Lent, rulesOf, lengthsOf, sum}
-use Rattle.merging.specs.Operations.{orderOf, lengthOf, spanOf, recordsOf}
-use Rattle.merging.specs.Meeting.{Remembered, inserted, cutAt, cutAtEnd, keptLength, frontOf, shortened, lostOf, metOf, otherOf, rememberOf}
+use Rattle.merging.specs.Lent.{Lent, rulesOf}
+use Rattle.merging.specs.Operations.{lengthOf, spanOf, recordsOf}
+use Rattle.merging.specs.Meeting.{inserted, frontOf, shortened, metOf, rememberOf}
 use Rattle.merging.specs.Cursors.{shiftOf, removedOf, movedBy, behindOf}
 use Rattle.merging.specs.Turn.{emitted}
-use Rattle.merging.proofs.OneTurn.{cut-less}
+use Rattle.merging.proofs.OneTurn.{keep-less}
 use Rattle.merging.proofs.Sums.{lengths-split}
 use Rattle.operation.specs.declared.Next.{Next}
 use Rattle.operation.specs.declared.Last.{Last}
 use Rattle.operation.specs.declared.Last.the-variants.{Nothing, Deleted, Retained, Inserted}
-use Rattle.operation.specs.Views.{heads, lastOf, reach, most, size, tokens, ofSpans, LastFits, Lies, Keyed, Away, Scratched}
+use Rattle.numbers.specs.Sizes.{most}
+use Rattle.operation.specs.Views.{heads, lastOf, size, tokens, ofSpans, Away, Scratched}
 use Rattle.operation.specs.Meets.{tailBy}
 use Rattle.operation.proofs.Scratch.{untouched}
 use Rattle.operation.proofs.Meeting.{length-is}
@@ -41,26 +38,14 @@ use Rattle.cursor_position.proofs.Waiting.{none-moves, all-stay}
 use Rattle.merge.specs.declared.Meeting.{Meeting}
 use Rattle.merge.specs.declared.Side.{Side}
 use Rattle.merge.specs.declared.Totals.{Totals}
-use Rattle.merge.specs.declared.Turned.{Turned}
 use Rattle.merge.specs.Meetings.{placedIf, Facing, Meets}
 use Rattle.merge.specs.Turning.{Sound, memoryOf, cursorsLeft, taken, result, shiftBy, Turnable, Made, Turns}
 
 -- a retain is cut, never grown
-pub kept-most : (o l : ℕ) (rs : List Op) → keptLength o l rs ≤ l
-unfolding keptLength
-kept-most o l [] = omega arith
-kept-most o l (x ∷ rs) = go (ltb o (orderOf x)) x
-  where
-    go : (t : Bool) (y : Op) → elim t [ true ↦ cutAt o l (orderOf y) | false ↦ cutAtEnd o l y ] ≤ l
-    go true y = cut-less o l (orderOf y)
-    go false (Delete o′ l′) = cut-less o l (o′ + l′)
-    go false (Insert o′ f′ n′) = omega arith
-    go false (Retain o′ l′) = cut-less o l (o′ + l′)
-
 pub front-sound : {spans keys : List ℕ} (a : Op) (rs : List Op) → Sound spans keys a → Sound spans keys (frontOf a rs)
 front-sound (Delete o l) rs s = s
 front-sound (Insert o f n) rs s = s
-front-sound (Retain o l) rs s = record { reaches = omega (arith, s .reaches, kept-most o l rs); lies = tt; keyed = tt; few = s .few }
+front-sound (Retain o l) rs s = record { reaches = omega (arith, s .reaches, keep-less o l rs); lies = tt; keyed = tt; few = s .few }
 
 pub front-tokens : (a : Op) (rs : List Op) → tokens (frontOf a rs) ≡ tokens a
 front-tokens (Delete o l) rs = refl
@@ -70,12 +55,12 @@ front-tokens (Retain o l) rs = refl
 pub front-length : (lent : Lent) (a : Op) (rs : List Op) → lengthOf lent (frontOf a rs) ≤ lengthOf lent a
 front-length lent (Delete o l) rs = omega arith
 front-length lent (Insert o f n) rs = omega arith
-front-length lent (Retain o l) rs = kept-most o l rs
+front-length lent (Retain o l) rs = keep-less o l rs
 
 pub front-span : (a : Op) (rs : List Op) → spanOf (frontOf a rs) ≤ spanOf a
 front-span (Delete o l) rs = omega arith
 front-span (Insert o f n) rs = omega arith
-front-span (Retain o l) rs = kept-most o l rs
+front-span (Retain o l) rs = keep-less o l rs
 
 -- what is left of an operation that lost z
 pub rest-length : (lent : Lent) (b : Op) (z : ℕ) → z ≤ size b → lengthOf lent b ≡ removedOf (rulesOf lent) b z + lengthOf lent (shortened b z)

@@ -1,5 +1,5 @@
 -- What a taken operation meets, from the code's values to the merge's definition. Assumes nothing.
-use Prim.Native.Nat.{ℕ, _+_, _*_, _≤_}
+use Prim.Native.Nat.{ℕ, _+_, _≤_}
 use mathlib.Core.Path.{_≡_}
 use mathlib.Core.Bool.{Bool}
 use mathlib.Core.List.{List}
@@ -8,7 +8,6 @@ use Rattle.room.specs.Choice.{pick}
 use Rattle.merging.specs.declared.Op.{Op}
 use Rattle.merging.specs.declared.Shift.{Shift}
 use Rattle.merging.specs.Lent.{Lent, rulesOf}
-use Rattle.merging.specs.Operations.{lengthOf}
 use Rattle.merging.specs.Meeting.{lostOf, otherOf}
 use Rattle.merging.specs.Cursors.{shiftOf, removedOf}
 use Rattle.operation.specs.declared.Last.{Last}

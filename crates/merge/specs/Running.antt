@@ -1,7 +1,7 @@
 -- The run of all turns, from the code's values to the merge's definition. Assumes nothing.
 use Prim.Native.Nat.{ℕ, _+_, _*_, _/_, _≤_}
 use mathlib.Core.Path.{_≡_}
-use mathlib.Core.List.{List, []}
+use mathlib.Core.List.{List}
 use lib.ListN.{length}
 use Rattle.room.specs.Placed.{answered}
 use Rattle.records.specs.Operations.{operationsOf, flatOperations}
@@ -14,7 +14,7 @@ use Rattle.merging.specs.Meeting.{nothing}
 use Rattle.merging.specs.Turn.{State}
 use Rattle.merging.specs.Merge.{Outcome, run, work}
 use Rattle.merging.specs.Tiling.{Tiled, totalOf, tokensOf, Inserts}
-use Rattle.operation.specs.Views.{most}
+use Rattle.numbers.specs.Sizes.{most}
 use Rattle.order.specs.Readable.{Run}
 use Rattle.merge.specs.declared.Totals.{Totals}
 

@@ -9,18 +9,17 @@ use Rattle.records.specs.Cursors.{cursorsFrom, flatCursors}
 use Rattle.records.specs.Operations.{flatOperations}
 use Rattle.merging.specs.declared.Op.{Op}
 use Rattle.merging.specs.declared.Shift.{Shift}
-use Rattle.merging.specs.Lent.{Lent, Rules, rulesOf}
+use Rattle.merging.specs.Lent.{Lent, rulesOf}
 use Rattle.merging.specs.Operations.{Out, lengthOf, spanOf, recordsOf}
 use Rattle.merging.specs.Meeting.{Remembered, frontOf, metOf, otherOf, rememberOf}
 use Rattle.merging.specs.Cursors.{shiftOf, movedBy, behindOf}
 use Rattle.merging.specs.Turn.{emitted}
-use Rattle.operation.specs.declared.Last.{Last}
-use Rattle.operation.specs.Views.{heads, lastOf, reach, most, tokens, ofSpans, NextFits, LastFits, Lies, Keyed, Away}
+use Rattle.numbers.specs.Sizes.{most}
+use Rattle.operation.specs.Views.{heads, lastOf, reach, tokens, ofSpans, NextFits, LastFits, Lies, Keyed, Away}
 use Rattle.operation.specs.Meets.{tailBy}
 use Rattle.turns.specs.declared.Memory.{Memory}
 use Rattle.turns.specs.Looking.{listFrom, FirstFits, Looks}
 use Rattle.turns.specs.Remembering.{Began, Since}
-use Rattle.cursor_position.specs.declared.Progress.{Progress}
 use Rattle.merge.specs.declared.Side.{Side}
 use Rattle.merge.specs.declared.Totals.{Totals}
 use Rattle.merge.specs.declared.Turned.{Turned}

@@ -11,7 +11,7 @@ use turns::Memory;
 ghost use mathlib.Core.Path.{_≡_};
 ghost use Prim.Native.Nat.{_+_, _≤_};
 ghost use lib.ListN.{length};
-ghost use Rattle.operation.specs.Views.{LastFits, Lies, Placeable, size, ofSpans};
+ghost use Rattle.operation.specs.Views.{Lies, Placeable, size, ofSpans};
 ghost use Rattle.merging.specs.Operations.{lengthOf};
 ghost use Rattle.merge.specs.Meetings.{Shifted, Facing, Meets};
 ghost use Rattle.order.specs.Readable.{ofText};

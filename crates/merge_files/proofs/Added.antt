@@ -22,6 +22,7 @@ use Rattle.edit_list.specs.Raws.{pointTokens, runOf, runsOf, listOf}
 use Rattle.edit_list.proofs.Back.{drop-past, left-at}
 use Rattle.raw_lists.proofs.Pieces.{length-spans, spans-append}
 use Rattle.merge_files.specs.Program.{tokensOf, leftOf, rightOf}
+use Rattle.edit_list.proofs.Runs.{points-size}
 
 -- the kind of inserts
 abbrev pub inserts : ℕ → Bool
@@ -66,11 +67,6 @@ inserted-most n spans keys (r ∷ rs) at f q e =
     (total (insertedBy n spans keys) (cookedFrom rs (at + consumes (r .kind) (piecesLength t)) (f + length t)))
     (run-most n spans keys t f (flatSpans (allTokens rs) ++ q) g)
     (inserted-most n spans keys rs (at + consumes (r .kind) (piecesLength t)) (f + length t) q d)
-
-points-size : (a : ℕ) (cs : List ℕ) → piecesLength (pointTokens a cs) ≡ length cs
-unfolding pointTokens piecesLength
-points-size a [] = refl
-points-size a (c ∷ cs) = omega (arith, points-size (a + 1) cs)
 
 runs-added : (at : ℕ) (is : List Item) → piecesLength (chosen inserts (runsOf at is)) ≡ added is
 unfolding runsOf runOf chosen piecesLength added

@@ -10,7 +10,7 @@ use lib.ListN.{length}
 use borrow.Author.Tests.{le-leb, lt-leb, lt-ltb, le-ltb}
 use Rattle.refusal.specs.declared.Refusal.{Refusal}
 use Rattle.refusal.specs.declared.Counted.the-variants as C
-use Rattle.cursors.proofs.Sinks.{le-or-lt}
+use Rattle.numbers.proofs.Orders.{le-or-lt}
 use Rattle.utf8_read.specs.Reading.{good-end}
 use Rattle.utf8.specs.Answers.{read-length-of}
 use Rattle.edit_format.specs.Reading.{Found, Accepted, Refused}

@@ -16,7 +16,7 @@ use Rattle.room.specs.Placed.{answered}
 use Rattle.room.proofs.Answers.{same-room}
 use Rattle.records.specs.declared.Operation.{Operation}
 use Rattle.records.specs.Operations.{operationsOf}
-use Rattle.cursors.proofs.Sinks.{le-or-lt}
+use Rattle.numbers.proofs.Orders.{le-or-lt}
 use Rattle.verdict.specs.declared.Verdict.the-variants as W
 use Rattle.verdict.specs.Verdicts.{andThen, roomed as roomFits}
 use Rattle.sizes.specs.declared.Limits.{Limits}

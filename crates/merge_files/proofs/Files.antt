@@ -7,6 +7,7 @@ use mathlib.Core.List.{List, [], _∷_}
 use native.Mathlib.Omega.{arith}
 use lib.ListN.{length, take, replicate, length-append, length-take, length-replicate}
 use borrow.Author.Tests.{leb-true, le-ltb, eqb-true}
+use Rattle.numbers.specs.Points.{isPoint}
 use Rattle.refusal.specs.declared.Refusal.{Refusal}
 use Rattle.refusal.specs.declared.Counted.{Counted}
 use Rattle.refusal.specs.declared.Counted.the-variants as C
@@ -46,7 +47,7 @@ few-points (b ∷ s) zero = go (utf8-char (b ∷ s)) (λ j. few-points s j)
 
 -- zeros are code points
 pub zeros-fine : (n i : ℕ) → pointsFrom (replicate n 0) i ≡ W.Accepted
-unfolding pointsFrom
+unfolding pointsFrom isPoint
 zeros-fine zero i = refl
 zeros-fine (suc n) i = zeros-fine n (i + 1)
 

@@ -12,7 +12,7 @@ use Rattle.refusal.specs.Numbers.{number}
 use Rattle.room.specs.Placed.{answered}
 use Rattle.records.specs.declared.Operation.{Operation}
 use Rattle.records.specs.Operations.{operationsOf, flatOperations}
-use Rattle.records.specs.Cursors.{cursorsFrom, cursorsOf}
+use Rattle.records.specs.Cursors.{cursorsFrom, cursorsOf, Within}
 use Rattle.records.proofs.Operations.{length-answered, of-answered}
 use Rattle.verdict.specs.declared.Verdict.{Verdict}
 use Rattle.verdict.specs.declared.Verdict.the-variants as W
@@ -21,7 +21,7 @@ use Rattle.sizes.specs.Texts.{total, claimedBy}
 use Rattle.sizes.specs.Sizes.{merging, otherwise}
 use Rattle.verdict.specs.Points.{pointsVerdict}
 use Rattle.checks.specs.Lists.{listsVerdict}
-use Rattle.shapes.specs.Accepted.{Within, AcceptedList}
+use Rattle.shapes.specs.Accepted.{AcceptedList}
 use Rattle.verdict.proofs.Chains.{first-passed, rest-passed}
 use Rattle.checks.proofs.Accepted.{accepted-left, accepted-right, verdict-yes}
 use Rattle.merging.specs.Lent.{Lent, rulesOf, lentOf as given}

@@ -8,11 +8,12 @@ use mathlib.Core.Logic.{⊎-elim}
 use native.Mathlib.Omega.{arith}
 use lib.ListN.{length, length-append}
 use lib.Dec.{leb}
-use borrow.Author.Tests.{leb-true}
-use Rattle.cursors.proofs.Sinks.{le-or-lt}
+use Rattle.numbers.proofs.Orders.{le-or-lt}
 use Rattle.edit_format.specs.Tests.{both}
 use Rattle.edit_format.specs.Digits.{digits}
-use Rattle.edit_format.specs.Items.{Item, Keep, Drop, Add, kept, dropped, added, isPoint, allPoints, itemsGood, Good}
+use Rattle.numbers.specs.Points.{isPoint}
+use Rattle.numbers.proofs.Points.{point-most as at-most}
+use Rattle.edit_format.specs.Items.{Item, Keep, Drop, Add, kept, dropped, added, allPoints, itemsGood, Good}
 use Rattle.edit_format.specs.Written.{Head, endKey, numberLine, points, itemLine, itemLines, headLines, headOf, written}
 use Rattle.edit_format.proofs.Picks.{both-0, both-1}
 use Rattle.written_lines.proofs.Numbers.{one-digit, one-less}
@@ -37,8 +38,7 @@ hex : (n : ℕ) → n < 16777216 → length (digits 16 n) ≤ 6
 hex = sixteen 1048576 5 (sixteen 65536 4 (sixteen 4096 3 (sixteen 256 2 (sixteen 16 1 (λ x l. omega (arith, one-digit 16 x l))))))
 
 point-most : (c : ℕ) → isPoint c ≡ true → length (digits 16 c) ≤ 6
-unfolding isPoint
-point-most c e = hex c (omega (arith, leb-true c 1114111 (both-0 (leb c 1114111) _ e)))
+point-most c e = hex c (omega (arith, at-most c e))
 
 points-most : (cs : List ℕ) → allPoints cs ≡ true → length (points cs) ≤ 7 * length cs
 unfolding points allPoints

@@ -1,10 +1,10 @@
 -- The program, of three files that can be read: what it writes. Assumes nothing.
-use Prim.Native.Nat.{ℕ, _+_}
+use Prim.Native.Nat.{ℕ}
 use mathlib.Core.Path.{_≡_}
-use mathlib.Core.Bool.{Bool, true, false, _&&_}
+use mathlib.Core.Bool.{Bool, _&&_}
 use mathlib.Core.List.{List, [], _∷_, _++_}
 use lib.ListN.{length, replicate}
-use lib.Dec.{leb, eqb}
+use lib.Dec.{leb}
 use Rattle.refusal.specs.Numbers.{number}
 use Rattle.room.specs.Choice.{pick}
 use Rattle.room.specs.Placed.{answered}

@@ -1,7 +1,6 @@
 // The program's work, from the bytes of three files to the bytes that it writes: the merged edit file,
 // or a line `refused=` with the number.
 use refusal::Counted;
-use refusal::Refusal;
 ghost use mathlib.Core.Path.{_≡_};
 ghost use Prim.Native.Nat.{_≤_};
 ghost use lib.ListN.{length};

@@ -9,21 +9,23 @@ use native.Mathlib.Omega.{arith}
 use Rattle.records.specs.declared.Cursor.{Cursor}
 use Rattle.cursors.specs.Sorted.{place, sorted, From, Ordered}
 use Rattle.cursors.proofs.SortLaws.{from-less}
-use Rattle.cursors.proofs.Sinks.{place-here, place-on, le-or-lt}
+use Rattle.numbers.proofs.Orders.{le-or-lt}
+use Rattle.cursors.proofs.Sinks.{place-here, place-on}
 use Rattle.merging.specs.declared.Shift.{Shift}
 use Rattle.merging.specs.Cursors.{Fine, movedIndex, moved, behind, ended}
-use Rattle.merging.specs.Carried.{UpTo, identities, Woven, woven-none, woven-left, woven-right}
+use Rattle.records.specs.Cursors.{Within}
+use Rattle.merging.specs.Carried.{identities, Woven, woven-none, woven-left, woven-right}
 use Rattle.merging.proofs.Moving.{moved-on, moved-out, behind-on, behind-out, index-from, index-order}
 
 -- bounds and order of lists of cursors
 
-pub up-more : {j k : ℕ} (cs : List Cursor) → j ≤ k → UpTo j cs → UpTo k cs
-unfolding UpTo
+pub up-more : {j k : ℕ} (cs : List Cursor) → j ≤ k → Within j cs → Within k cs
+unfolding Within
 up-more [] h u = tt
 up-more (c ∷ cs) h u = (omega (arith, u .0), up-more cs h (u .1))
 
-pub up-append : (k : ℕ) (cs ds : List Cursor) → UpTo k cs → UpTo k ds → UpTo k (cs ++ ds)
-unfolding UpTo
+pub up-append : (k : ℕ) (cs ds : List Cursor) → Within k cs → Within k ds → Within k (cs ++ ds)
+unfolding Within
 up-append k [] ds u w = w
 up-append k (c ∷ cs) ds u w = (u .0, up-append k cs ds (u .1) w)
 
@@ -32,8 +34,8 @@ unfolding From
 from-append k [] ds u w = w
 from-append k (c ∷ cs) ds u w = (u .0, from-append k cs ds (u .1) w)
 
-pub ordered-append : (k : ℕ) (cs ds : List Cursor) → Ordered cs → UpTo k cs → From k ds → Ordered ds → Ordered (cs ++ ds)
-unfolding Ordered UpTo From
+pub ordered-append : (k : ℕ) (cs ds : List Cursor) → Ordered cs → Within k cs → From k ds → Ordered ds → Ordered (cs ++ ds)
+unfolding Ordered Within From
 ordered-append k [] ds o u f w = w
 ordered-append k (c ∷ cs) ds o u f w = (from-append (c .index) cs ds (o .0) (from-less ds (u .0) f), ordered-append k cs ds (o .1) (u .1) f w)
 
@@ -50,8 +52,8 @@ module _ (e : ℕ) where
   identities-ended [] = refl
   identities-ended (c ∷ cs) = ap (λ (xs : List ℕ). c .identity ∷ xs) (identities-ended cs)
 
-  pub up-ended : (cs : List Cursor) → UpTo e (ended e cs)
-  unfolding UpTo ended
+  pub up-ended : (cs : List Cursor) → Within e (ended e cs)
+  unfolding Within ended
   up-ended [] = tt
   up-ended (c ∷ cs) = (omega arith, up-ended cs)
 
@@ -93,11 +95,11 @@ module _ (t : Shift) where
     from-moved (c ∷ cs) =
         by-move c (From (t .start) (moved t (c ∷ cs))) (λ h. rw (moved-on t c cs h) (index-from t f (c .index), from-moved cs)) (λ h. rw (moved-out t c cs h) tt)
 
-    pub up-moved : (top : ℕ) → ((i : ℕ) → i ≤ t .seen + t .length → movedIndex t i ≤ top) → (cs : List Cursor) → UpTo top (moved t cs)
-    unfolding UpTo moved
+    pub up-moved : (top : ℕ) → ((i : ℕ) → i ≤ t .seen + t .length → movedIndex t i ≤ top) → (cs : List Cursor) → Within top (moved t cs)
+    unfolding Within moved
     up-moved top cap [] = tt
     up-moved top cap (c ∷ cs) =
-        by-move c (UpTo top (moved t (c ∷ cs))) (λ h. rw (moved-on t c cs h) (cap (c .index) h, up-moved top cap cs)) (λ h. rw (moved-out t c cs h) tt)
+        by-move c (Within top (moved t (c ∷ cs))) (λ h. rw (moved-on t c cs h) (cap (c .index) h, up-moved top cap cs)) (λ h. rw (moved-out t c cs h) tt)
 
     -- none that moves goes before one that stood before it
     from-order : (k : ℕ) (cs : List Cursor) → From k cs → From (movedIndex t k) (moved t cs)
@@ -150,13 +152,13 @@ woven-sorted (woven-left c w) o p = place-left c (woven-sorted w (o .1) p) (o .0
 woven-sorted (woven-right c w) o p = woven-swap (place-left c (woven-swap (woven-sorted w o (p .1))) (p .0))
 
 -- sorting moves no cursor
-up-place : (k : ℕ) (c : Cursor) (ys : List Cursor) → c .index ≤ k → UpTo k ys → UpTo k (place c ys)
-unfolding UpTo place
+up-place : (k : ℕ) (c : Cursor) (ys : List Cursor) → c .index ≤ k → Within k ys → Within k (place c ys)
+unfolding Within place
 up-place k c [] h u = (h, tt)
 up-place k c (y ∷ ys) h u =
     ⊎-elim (λ g. rw (place-here c y ys g) (h, u)) (λ g. rw (place-on c y ys g) (u .0, up-place k c ys h (u .1))) (le-or-lt (c .index) (y .index))
 
-pub up-sorted : (k : ℕ) (cs : List Cursor) → UpTo k cs → UpTo k (sorted cs)
-unfolding UpTo sorted
+pub up-sorted : (k : ℕ) (cs : List Cursor) → Within k cs → Within k (sorted cs)
+unfolding Within sorted
 up-sorted k [] u = tt
 up-sorted k (c ∷ cs) u = up-place k c (sorted cs) (u .0) (up-sorted k cs (u .1))

@@ -22,7 +22,8 @@ use Rattle.merging.specs.Cursors.{shiftOf, moved, behind, movedBy, behin
 use Rattle.merging.specs.Turn.{State, anchored, emitted, turnWith, turnLeft}
 use Rattle.merging.specs.Merge.{Outcome, before, run, work, startOf, outcomeOf}
 use Rattle.merging.specs.Tiling.{Tiled, totalOf}
-use Rattle.merging.specs.Carried.{UpTo, identities, Carried}
+use Rattle.records.specs.Cursors.{Within}
+use Rattle.merging.specs.Carried.{identities, Carried}
 use Rattle.merging.proofs.OneTurn.{placeAfter}
 use Rattle.merging.proofs.Places.{back, Roomed, roomed}
 use Rattle.merging.proofs.Turns.{Stands, Turning, stands-start, shows}
@@ -96,7 +97,7 @@ carries-end m cs ds h k e hm km me =
     }
 
 -- cursors ms that move in front of what comes out after them; bs are left of cs
-carries-move : (ms bs cs ds out : List Cursor) (h k top e : ℕ) → identities ms ++ identities bs ≡ identities cs → Ordered ms → From h ms → UpTo top ms → h ≤ top → top ≤ e
+carries-move : (ms bs cs ds out : List Cursor) (h k top e : ℕ) → identities ms ++ identities bs ≡ identities cs → Ordered ms → From h ms → Within top ms → h ≤ top → top ≤ e
     → Carries bs ds out top k e → Carries cs ds (ms ++ out) h k e
 carries-move ms bs cs ds out h k top e i o f u ht te w =
     let c = w .carried in

@@ -1,5 +1,6 @@
 pub mod Decoded
 pub mod Sums
+pub mod Lawful
 pub mod Meetings
 pub mod OneTurn
 pub mod Moving

@@ -172,15 +172,15 @@ stepDelete R o l u ls v rs p q n g le =
           ];
     })
 
-cut-in : (o l b : ℕ) → o < b → b < o + l → cutAt o l b ≡ b - o
+pub cut-in : (o l b : ℕ) → o < b → b < o + l → cutAt o l b ≡ b - o
 unfolding cutAt
 cut-in o l b h1 h2 = simp (lt-ltb _ _ h1, lt-ltb _ _ h2, cutAt)
 
-cut-past : (o l b : ℕ) → o < b → o + l ≤ b → cutAt o l b ≡ l
+pub cut-past : (o l b : ℕ) → o < b → o + l ≤ b → cutAt o l b ≡ l
 unfolding cutAt
 cut-past o l b h1 h2 = simp (lt-ltb _ _ h1, le-ltb _ _ h2, cutAt)
 
-cut-none : (o l b : ℕ) → b ≤ o → cutAt o l b ≡ l
+pub cut-none : (o l b : ℕ) → b ≤ o → cutAt o l b ≡ l
 unfolding cutAt
 cut-none o l b h = simp (le-ltb _ _ h, cutAt)
 

@@ -1,14 +1,10 @@
 -- What is true of the cursors that come out of a merge. Assumes nothing.
-use Prim.Native.Nat.{ℕ, _≤_}
+use Prim.Native.Nat.{ℕ}
 use mathlib.Core.Path.{_≡_}
 use mathlib.Core.List.{List, [], _∷_}
 use Rattle.records.specs.declared.Cursor.{Cursor}
+use Rattle.records.specs.Cursors.{Within}
 use Rattle.cursors.specs.Sorted.{Ordered}
-
--- "a cursor lies past the end": no index is above e
-unfoldable pub UpTo : ℕ → List Cursor → Type 0
-UpTo e [] = Unit
-UpTo e (c ∷ cs) = (c .index ≤ e) × UpTo e cs
 
 -- "keeps its identity number": the numbers, in order
 unfoldable pub identities : List Cursor → List ℕ
@@ -31,4 +27,4 @@ pub record Carried (cs ds out : List Cursor) (e : ℕ) : Type 0 where
   pub same-right : identities right ≡ identities ds
   pub ordered-left : Ordered left
   pub ordered-right : Ordered right
-  pub within : UpTo e out
+  pub within : Within e out

@@ -7,7 +7,6 @@ use mathlib.Core.List.{List, [], _∷_}
 use native.Mathlib.Omega.{arith}
 use native.Mathlib.Nat.{add-zero, sub-zero}
 use lib.ListN.{length}
-use Rattle.overlap.proofs.Overlaps.{overlaps}
 use Rattle.records.specs.declared.Operation.{Operation}
 use Rattle.records.specs.declared.Cursor.{Cursor}
 use Rattle.records.specs.Tokens.{tokensFrom}
@@ -15,16 +14,17 @@ use Rattle.cursors.specs.Sorted.{sorted}
 use Rattle.cursors.proofs.Sinks.{length-sorted}
 use Rattle.sizes.specs.Texts.{total, claimedBy, insertedBy, textLength}
 use Rattle.sizes.specs.Sizes.{merging, otherwise}
-use Rattle.shapes.specs.Accepted.{AllIn, Within, AcceptedList}
+use Rattle.shapes.specs.Accepted.{AllIn, AcceptedList}
 use Rattle.merging.specs.declared.Op.{Op}
-use Rattle.merging.specs.Lent.{Lent, rulesOf, Lawful, lengthsOf, sum}
+use Rattle.merging.specs.Lent.{Lent, rulesOf, lengthsOf, sum}
 use Rattle.merging.specs.Operations.{lengthOf, opsIn, opsFrom, recordsOf}
 use Rattle.merging.specs.OrderRule.{priorityOf}
 use Rattle.merging.specs.Turn.{State}
 use Rattle.merging.specs.Merge.{Outcome, startOf, outcomeOf, mergeOf}
 use Rattle.merging.specs.Reached.{Reached}
 use Rattle.merging.specs.Tiling.{Tiled, Merges, totalOf, ofInsert, Inserts, Sided}
-use Rattle.merging.specs.Carried.{UpTo, identities, Woven, woven-none, woven-left, woven-right, Carried}
+use Rattle.merging.specs.Carried.{identities, Woven, woven-none, woven-left, woven-right, Carried}
+use Rattle.merging.proofs.Lawful.{lawful}
 use Rattle.merging.proofs.Sums.{lengths-split}
 use Rattle.merging.proofs.Whole.{merges}
 use Rattle.merging.proofs.Count.{operations-most, inserted-most, inserts-part}
@@ -32,10 +32,6 @@ use Rattle.merging.proofs.CursorLaws.{carried}
 use Rattle.merging.proofs.WorkRoom.{Enough, work-room}
 use Rattle.merging_laws.proofs.Decoding.{Run, Listed, length-ops, tiled, runs, tokens-total, inserted-total, length-total}
 use Rattle.merging_laws.proofs.Encoding.{length-records, read-back, listed}
-
--- the paper's overlap is no longer than new
-pub lawful : (lent : Lent) → Lawful (rulesOf lent)
-lawful lent = record { short = λ old new. overlaps old new .fits }
 
 -- an insert that lost tokens is lent
 all-in-rest : (n : ℕ) (spans keys : List ℕ) (f k z : ℕ) → z ≤ k → AllIn n (tokensFrom spans keys f k) → AllIn n (tokensFrom spans keys (f + z) (k - z))
@@ -78,11 +74,6 @@ carried-length {cs} {ds} c =
       length-identities cs,
       length-identities ds,
     )
-
-within-up : (e : ℕ) (cs : List Cursor) → UpTo e cs → Within e cs
-unfolding UpTo Within
-within-up e [] u = tt
-within-up e (c ∷ cs) u = (u .0, within-up e cs (u .1))
 
 -- a list that was accepted for merging
 abbrev pub AcceptedFor : Lent → List Operation → List Cursor → Type 0
@@ -197,7 +188,7 @@ module _ (lent : Lent) (left right : List Operation) (cs ds : List Cursor) (al :
         inserted-most = omega (arith, adds, al .inserted-most, ar .inserted-most);
         shapes = listedM .shapes;
         tiles = listedM .tiles;
-        within = within-up _ _ (merged-cursors .within);
+        within = merged-cursors .within;
       }
 
   -- demand 3, first half: the merged records' retains and deletes tile the original, and retain a code point exactly if both lists do

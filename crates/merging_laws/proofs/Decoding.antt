@@ -10,9 +10,9 @@ use native.Mathlib.Nat.{add-zero}
 use lib.ListN.{length, take, drop, getD}
 use borrow.Author.Tests.{eq-eqb, ne-eqb, le-leb}
 use Rattle.records.specs.declared.Operation.{Operation}
-use Rattle.records.specs.declared.Token.{Token}
 use Rattle.records.specs.Tokens.{tokensLent, tokensFrom, tokensLength}
-use Rattle.sizes.specs.Texts.{total, runText, claimedBy, insertedBy, retainedBy, textLength, textFrom}
+use Rattle.sizes.specs.Texts.{total, claimedBy, insertedBy, retainedBy, textLength, textFrom}
+use Rattle.shapes.proofs.Accepted.{run-length}
 use Rattle.shapes.specs.Accepted.{Tiles, AllIn, Insert as Adds, Part, Shapes}
 use Rattle.merging.specs.declared.Op.{Op}
 use Rattle.merging.specs.declared.Op.the-variants.{Delete, Insert, Retain}
@@ -144,11 +144,6 @@ module _ (lent : Lent) (n : ℕ) where
       (λ o k. rw (ne-eqb (o .kind) 1 (λ e. omega arith)))
 
 -- the text of tokens that are lent is the sum of their lengths
-run-text : (n : ℕ) (ts : List Token) → AllIn n ts → runText n ts ≡ tokensLength ts
-unfolding AllIn runText tokensLength
-run-text n [] h = refl
-run-text n (t ∷ ts) h = rw (le-leb (t .start + t .length) n (h .1 .0)) (ap (λ (x : ℕ). t .length + x) (run-text n ts (h .1 .1)))
-
 pub lengths-total : (lent : Lent) (i k : ℕ) → tokensLength (tokensFrom (lent .spans) (lent .keys) i k) ≡ sum (lengthsOf lent i k)
 unfolding tokensFrom tokensLength lengthsOf sum
 lengths-total lent i zero = refl
@@ -159,7 +154,7 @@ module _ (lent : Lent) (n : ℕ) where
       → insertedBy (length (lent .inserted)) (lent .spans) (lent .keys) o ≡ sum (lengthsOf lent (o .first) (o .count))
   inserted-run o k r =
       rw (eq-eqb (o .kind) 1 k, le-leb (o .first + o .count) (tokensLent (lent .spans) (lent .keys)) (r .lends), insertedBy)
-      (run-text (length (lent .inserted)) (tokensFrom (lent .spans) (lent .keys) (o .first) (o .count)) (r .tokens) ∙ lengths-total lent (o .first) (o .count))
+      (run-length (length (lent .inserted)) (tokensFrom (lent .spans) (lent .keys) (o .first) (o .count)) (r .tokens) ∙ lengths-total lent (o .first) (o .count))
 
   inserted-none : (o : Operation) → (o .kind ≡ 1 → ⊥) → insertedBy (length (lent .inserted)) (lent .spans) (lent .keys) o ≡ 0
   inserted-none o k = rw (ne-eqb (o .kind) 1 k, insertedBy)

@@ -4,17 +4,16 @@ use Prim.Native.Nat.{ℕ, _+_, _≤_}
 use mathlib.Core.Path.{_≡_, refl, sym, _∙_, ap}
 use mathlib.Core.List.{List, [], _∷_}
 use native.Mathlib.Omega.{arith}
-use lib.ListN.{length, length-append}
+use lib.ListN.{length}
 use Rattle.records.specs.declared.Operation.{Operation}
-use Rattle.records.specs.declared.Token.{Token}
 use Rattle.records.specs.declared.Cursor.{Cursor}
-use Rattle.records.specs.Tokens.{tokensFrom, spelled, tokensLength}
-use Rattle.records.proofs.Tokens.{length-spell}
+use Rattle.records.specs.Tokens.{tokensFrom}
 use Rattle.diff.specs.Replay.{replayed, left, added}
 use Rattle.diff.specs.Checks.{fine, numbers, covers}
 use Rattle.sizes.specs.declared.Limits.{Limits}
 use Rattle.sizes.specs.Texts.{listText}
-use Rattle.shapes.specs.Accepted.{AllIn, AcceptedList}
+use Rattle.shapes.proofs.Accepted.{spelled-length}
+use Rattle.shapes.specs.Accepted.{AcceptedList}
 use Rattle.merging.specs.declared.Op.{Op}
 use Rattle.merging.specs.declared.Op.the-variants.{Delete, Insert, Retain}
 use Rattle.merging.specs.Lent.{Lent, lengthsOf, sum, spellingOf}
@@ -58,11 +57,6 @@ agrees lent l os cs a =
     }
 
 -- an insert's tokens spell as much as they are long
-spelled-length : (text : List ℕ) (ts : List Token) → AllIn (length text) ts → length (spelled text ts) ≡ tokensLength ts
-unfolding AllIn spelled tokensLength
-spelled-length text [] h = refl
-spelled-length text (t ∷ ts) h = rw (length-append, length-spell text t (h .1 .0), spelled-length text ts (h .1 .1))
-
 run-length : (lent : Lent) (f k : ℕ) → Run lent f k → length (spellingOf lent f k) ≡ sum (lengthsOf lent f k)
 run-length lent f k r = spelled-length (lent .inserted) (tokensFrom (lent .spans) (lent .keys) f k) (r .tokens) ∙ lengths-total lent f k
 

@@ -13,18 +13,6 @@ use Rattle.merging.specs.Meeting.{cutAt, cutAtEnd, keptLength}
 use Rattle.operation.specs.declared.Next.the-variants.{Here, Done}
 use Rattle.operation.specs.Meets.{tailBy}
 
-pub cut-inside : (o l b : ℕ) → o < b → b < o + l → cutAt o l b ≡ b - o
-unfolding cutAt
-cut-inside o l b h k = rw (lt-ltb _ _ h, lt-ltb _ _ k, cutAt)
-
-pub cut-behind : (o l b : ℕ) → o < b → o + l ≤ b → cutAt o l b ≡ l
-unfolding cutAt
-cut-behind o l b h k = rw (lt-ltb _ _ h, le-ltb _ _ k, cutAt)
-
-pub cut-before : (o l b : ℕ) → b ≤ o → cutAt o l b ≡ l
-unfolding cutAt
-cut-before o l b h = rw (le-ltb _ _ h, cutAt)
-
 pub kept-beyond : (o l : ℕ) (x : Op) (rs : List Op) → o < orderOf x → keptLength o l (x ∷ rs) ≡ cutAt o l (orderOf x)
 unfolding keptLength
 kept-beyond o l x rs h = rw (lt-ltb _ _ h, keptLength)

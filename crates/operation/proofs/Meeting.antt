@@ -1,13 +1,12 @@
 -- The code's own terms are the merge's definition: what is lost, what stays remembered, where the shared text stands, what is cut.
 -- By cases on the operation and the remembered one; a moved start is a drop. Assumes nothing.
-use Prim.Native.Nat.{ℕ, zero, suc, _+_, _-_, _*_, _≤_, _<_}
+use Prim.Native.Nat.{ℕ, zero, suc, _+_, _-_, _*_}
 use mathlib.Core.Path.{_≡_, refl, sym, ap, ap₂, _∙_}
 use mathlib.Core.Bool.{Bool, true, false}
 use mathlib.Core.List.{List, [], _∷_}
-use native.Mathlib.Omega.{arith}
 use native.Mathlib.Nat.{add-assoc}
 use lib.Dec.{eqb, ltb}
-use lib.ListN.{length, take, drop, getD}
+use lib.ListN.{take, drop, getD}
 use lib.Seq.{slice, slice-empty, drop-drop}
 use Rattle.overlap.specs.declared.Range.{Range}
 use Rattle.overlap.specs.Overlap.{overlapOf}
@@ -15,14 +14,13 @@ use Rattle.merging.specs.declared.Op.{Op}
 use Rattle.merging.specs.declared.Op.the-variants.{Delete, Insert, Retain}
 use Rattle.merging.specs.Lent.{Lent, rulesOf, keysOf, lengthsOf, sum}
 use Rattle.merging.specs.Operations.{lengthOf}
-use Rattle.merging.specs.Meeting.{Remembered, inserted, keptLength, frontOf, tailOf, behindCut, lostOf, otherOf, usedUp}
-use Rattle.merging.specs.Cursors.{Place, placeOf, overlapPlace, removedOf}
-use Rattle.operation.specs.declared.Next.{Next}
+use Rattle.merging.specs.Meeting.{inserted, keptLength, tailOf, behindCut, lostOf, otherOf, usedUp}
+use Rattle.merging.specs.Cursors.{placeOf, removedOf}
 use Rattle.operation.specs.declared.Next.the-variants.{Here, Done}
 use Rattle.operation.specs.declared.Last.{Last}
 use Rattle.operation.specs.declared.Last.the-variants.{Nothing, Deleted, Retained, Inserted}
 use Rattle.operation.specs.Views.{heads, lastOf, ofSpans}
-use Rattle.operation.specs.Meets.{tailBy, lostBy, met, metBy, metIn, usedBy, placeBy}
+use Rattle.operation.specs.Meets.{tailBy, lostBy, metBy, usedBy, placeBy}
 
 -- the cut looks at the next operation alone
 pub kept-next : (o l : ℕ) (x : Op) (rs : List Op) → keptLength o l (x ∷ []) ≡ keptLength o l (x ∷ rs)

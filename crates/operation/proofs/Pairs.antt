@@ -1,6 +1,6 @@
 -- What an operation meets, by what it and the remembered one are.
 -- Each is a clause of the definition, under equations that a match gives. Assumes nothing.
-use Prim.Native.Nat.{ℕ, _+_, _-_}
+use Prim.Native.Nat.{ℕ, _+_}
 use mathlib.Core.Path.{_≡_}
 use mathlib.Core.List.{List}
 use lib.Seq.{slice}

@@ -3,9 +3,9 @@
 use Prim.Native.Nat.{ℕ, _+_, _-_, _≤_}
 use mathlib.Core.Path.{_≡_, refl, sym, ap, _∙_}
 use mathlib.Core.List.{List, [], _++_, append-nil}
-use mathlib.Core.Logic.{_⊎_, ⊎-elim}
+use mathlib.Core.Logic.{⊎-elim}
 use native.Mathlib.Omega.{arith}
-use lib.ListN.{length, take, drop, length-take, length-drop, length-append, take-append-drop}
+use lib.ListN.{length, take, drop, length-drop, length-append, take-append-drop}
 use lib.Seq.{slice, take-take, drop-drop, take-add, drop-at, take-all, length-take-le, drop-append-le, drop-append-add}
 use lib.ListN.{drop-of-length-le}
 use borrow.Rule.Slice.PartMut.{midOf, postOf, putMid, same-len-mid, take-put, mid-len}

@@ -6,6 +6,7 @@ use mathlib.Core.Logic.{_⊎_}
 use Rattle.operation.specs.declared.Met.{Met}
 use lib.ListN.{length, take, drop}
 use lib.Seq.{slice}
+use Rattle.numbers.specs.Sizes.{most}
 use Rattle.merging.specs.declared.Op.{Op}
 use Rattle.merging.specs.declared.Op.the-variants.{Delete, Insert, Retain}
 use Rattle.merging.specs.Lent.{Lent}
@@ -32,10 +33,6 @@ abbrev pub reach : Op → ℕ
 reach (Delete o l) = o + l
 reach (Insert o f n) = f + n
 reach (Retain o l) = o + l
-
--- no sum of an operation's numbers passes this
-abbrev pub most : ℕ
-most = 9223372036854775808
 
 abbrev pub NextFits : Next → Type 0
 NextFits (Here a) = reach a ≤ most

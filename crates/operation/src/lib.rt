@@ -1,7 +1,7 @@
 // What a taken operation meets: the cut of a retain, the meet rule, and the overlap of inserts.
 use merging::Op;
-use merging::Shift;
 use merging::order_of;
+use numbers::wide;
 use overlap::Range;
 ghost use mathlib.Core.Path.{_≡_};
 ghost use Prim.Native.Nat.{_+_, _-_, _*_, _≤_, min};
@@ -14,7 +14,8 @@ ghost use Rattle.merging.specs.Operations.{lengthOf};
 ghost use Rattle.merging.specs.Meeting.{cutAt, cutAtEnd, keptLength, frontOf};
 ghost use Rattle.merging.specs.Meeting.{shortened as without};
 ghost use Rattle.merging.specs.Cursors.{overlapPlace, removedOf};
-ghost use Rattle.operation.specs.Views.{heads, reach, most, size, tokens, NextFits, LastFits, Apart, Meetable, Reaches, Lies, Placeable, Scratched, ofSpans};
+ghost use Rattle.numbers.specs.Sizes.{most};
+ghost use Rattle.operation.specs.Views.{heads, reach, size, tokens, NextFits, LastFits, Apart, Meetable, Reaches, Lies, Placeable, Scratched, ofSpans};
 ghost use Rattle.operation.specs.Meets.{tailBy, lostBy, met, metBy, usedBy, placeBy, Placed};
 
 // What is next on a side.
@@ -342,12 +343,6 @@ pub fn sum_of(lengths: &[u32]) -> usize
         i += 1;
     }
     total
-}
-
-pub fn wide(x: u32) -> usize
-    ensures { λ r. ⌜ r ≡ x ⌝ }
-{
-    x as usize
 }
 
 // The sum of the lengths of tokens.

@@ -2,7 +2,6 @@
 -- Each is a case of the definition. Assumes nothing.
 use Prim.Native.Nat.{ℕ, _≤_, _<_}
 use mathlib.Core.Path.{_≡_, refl, sym, _∙_}
-use mathlib.Core.Bool.{true, false}
 use mathlib.Core.List.{List, [], _∷_}
 use native.Mathlib.Omega.{arith}
 use borrow.Author.Tests.{lt-ltb, le-ltb}
@@ -98,7 +97,3 @@ same-content lent (Retain o l) = number-equal l l (omega arith) (omega arith)
 
 pub itself : (lent : Lent) (a : Op) → Equal ≡ orderRule lent a a
 itself lent a = by-content lent a a (omega arith) (omega arith) (omega arith) (omega arith) (sym (same-content lent a))
-
--- a test that said false did not say true
-pub never : {A : Type 0} → false ≡ true → A
-never e = let z : _≡_ {A = ℕ} 0 1 = cc in absurd (omega arith)

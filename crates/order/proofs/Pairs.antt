@@ -15,7 +15,8 @@ use Rattle.merging.specs.declared.Op.{Op}
 use Rattle.merging.specs.Lent.{Lent}
 use Rattle.merging.specs.Operations.{opOf, opsFrom, spanOf}
 use Rattle.merging.specs.OrderRule.{thenBy, orderRule, priorityOf}
-use Rattle.order.specs.Readable.{ofText, Readable, Ready, SamePart, most}
+use Rattle.numbers.specs.Sizes.{most}
+use Rattle.order.specs.Readable.{ofText, Readable, Ready, SamePart}
 use Rattle.merging.proofs.Decoded.{op-delete, op-retain}
 use Rattle.order.proofs.Comparing.{itself}
 

@@ -3,6 +3,7 @@ use Prim.Native.Nat.{ℕ, _+_, _*_, _≤_, _<_}
 use mathlib.Core.Path.{_≡_}
 use mathlib.Core.List.{List, [], _∷_}
 use lib.ListN.{length, getD}
+use Rattle.numbers.specs.Sizes.{most}
 use Rattle.records.specs.declared.Operation.{Operation}
 use Rattle.records.specs.Tokens.{tokensLent}
 use Rattle.merging.specs.declared.Op.{Op}
@@ -24,10 +25,6 @@ abbrev pub Readable : List ℕ → List ℕ → List ℕ → Op → Type 0
 Readable text spans keys (Delete o l) = Unit {0}
 Readable text spans keys (Insert o f n) = Run text spans keys f n
 Readable text spans keys (Retain o l) = Unit {0}
-
--- "Sums are exact": no sum of the original that a list consumes passes this
-abbrev pub most : ℕ
-most = 9223372036854775808
 
 -- every operation of a list that consumed `at` of the original is readable, and what the list consumes is a number
 unfoldable pub Ready : List ℕ → List ℕ → List ℕ → ℕ → List Op → Type 0

@@ -1,5 +1,6 @@
 // Two runs of tokens compared by what they spell, across the tokens' boundaries.
 use merging::Order;
+use numbers::wide;
 ghost use mathlib.Core.Path.{_≡_};
 ghost use Prim.Native.Nat.{_<_};
 ghost use Rattle.records.specs.Tokens.{spelling};
@@ -29,12 +30,6 @@ impl Reader {
             end: self.end,
         }
     }
-}
-
-fn wide(x: u32) -> usize
-    ensures { λ r. ⌜ r ≡ x ⌝ }
-{
-    x as usize
 }
 
 // The place where the next code point stands, past the tokens that are read; the end, if none does.

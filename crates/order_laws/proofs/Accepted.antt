@@ -19,7 +19,8 @@ use Rattle.merging.specs.Operations.{opsFrom}
 use Rattle.merging.specs.Tiling.{Tiled, Inserts}
 use Rattle.merging.proofs.OneTurn.{tiled-le}
 use Rattle.merging_laws.proofs.Decoding.{Run as Lends, Listed, tiled, runs}
-use Rattle.order.specs.Readable.{Run, Ready, most}
+use Rattle.numbers.specs.Sizes.{most}
+use Rattle.order.specs.Readable.{Run, Ready}
 
 -- each token of a run that is all in the text is a range of it
 inside : (n : ℕ) (spans keys : List ℕ) (k first : ℕ) → AllIn n (tokensFrom spans keys first k)

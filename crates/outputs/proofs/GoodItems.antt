@@ -23,7 +23,7 @@ use Rattle.verdict.proofs.Chains.{first-passed, rest-passed}
 use Rattle.shapes.proofs.Accepted.{spelled-length}
 use Rattle.checks.proofs.Accepted.{accepted-list}
 use Rattle.edit_format.specs.Tests.{both}
-use Rattle.edit_format.specs.Items.{Keep, kept, dropped, allPoints, itemsGood, Good}
+use Rattle.edit_format.specs.Items.{kept, dropped, allPoints, itemsGood, Good}
 use Rattle.edit_format.proofs.Picks.{both-1}
 use Rattle.merging.specs.declared.Op.{Op}
 use Rattle.merging.specs.declared.Op.the-variants.{Delete, Insert, Retain}

@@ -3,20 +3,13 @@
 use Prim.Native.Nat.{ℕ, _+_, _-_, _≤_, _<_}
 use mathlib.Core.Path.{_≡_, sym, subst, ap, _∙_}
 use mathlib.Core.List.{List}
-use mathlib.Core.Logic.{_⊎_, inl, inr, ⊎-elim}
+use mathlib.Core.Logic.{⊎-elim}
 use native.Mathlib.Nat.{eq-or-lt-of-le}
-use native.Mathlib.Decide.{decLe}
 use native.Mathlib.Omega.{arith}
 use lib.ListN.{getD, set, length}
 use lib.Seq.{getD-set-same, getD-set-other}
+use Rattle.numbers.proofs.Orders.{le-or-lt}
 use Rattle.overlap.specs.Table.{Ends, Best, Table}
-
-pub le-or-lt : (a b : ℕ) → (a ≤ b) ⊎ (b < a)
-le-or-lt a b = go (decLe a b)
-  where
-    go : Dec (a ≤ b) → (a ≤ b) ⊎ (b < a)
-    go (yes h) = inl h
-    go (no h) = inr (omega arith)
 
 -- a candidate for the next place: k keys end the first i, and no l keys with the next one, l < b, end the first i + 1 with l above k
 pub record Cand (p t : List ℕ) (b i k : ℕ) : Type 0 where

@@ -3,27 +3,24 @@
 use Prim.Native.Nat.{ℕ, zero, suc, _+_, _-_, _≤_, _<_}
 use mathlib.Core.Path.{_≡_, refl, sym, subst, ap, ap₂, _∙_}
 use mathlib.Core.List.{List, [], _∷_}
-use mathlib.Core.Bool.{Bool, true, false, _&&_}
+use mathlib.Core.Bool.{Bool, true, false}
 use mathlib.Core.Logic.{_⊎_, inl, inr, ⊎-elim}
 use native.Mathlib.Nat.{eq-or-lt-of-le}
 use native.Mathlib.Omega.{arith}
 use lib.ListN.{length, take, drop, length-take, length-drop}
 use lib.Dec.{eqb}
 use borrow.Author.Tests.{eqb-true, eq-eqb}
+use Rattle.room.proofs.Choices.{and-both}
 use Rattle.overlap.specs.Overlap.{range, same, occurs, first, longest, overlapOf, touched, Answered}
 use Rattle.overlap.specs.declared.Range.{Range}
 use Rattle.overlap.specs.declared.Found.{Found}
-
-and-true : (a b : Bool) → (a && b) ≡ true → (a ≡ true) × (b ≡ true)
-and-true true b h = (refl, h)
-and-true false b h = let z : _≡_ {A = ℕ} 0 1 = cc in absurd (omega arith)
 
 same-eq : (xs ys : List ℕ) → same xs ys ≡ true → xs ≡ ys
 same-eq [] [] h = refl
 same-eq [] (y ∷ ys) h = cc
 same-eq (x ∷ xs) [] h = cc
 same-eq (x ∷ xs) (y ∷ ys) h =
-    let b = and-true (eqb x y) (same xs ys) h in
+    let b = and-both (eqb x y) (same xs ys) h in
     ap₂ _∷_ (eqb-true x y (b .0)) (same-eq xs ys (b .1))
 
 same-refl : (xs : List ℕ) → same xs xs ≡ true

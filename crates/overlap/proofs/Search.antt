@@ -10,7 +10,8 @@ use lib.ListN.{getD, length, take, drop, length-drop}
 use lib.Seq.{getD-take, getD-drop, ext-getD, length-take-le}
 use Rattle.overlap.specs.Table.{Ends}
 use Rattle.overlap.specs.Overlap.{range, occurs, overlapOf}
-use Rattle.overlap.proofs.Endings.{Seen, none, le-or-lt}
+use Rattle.numbers.proofs.Orders.{le-or-lt}
+use Rattle.overlap.proofs.Endings.{Seen, none}
 use Rattle.overlap.proofs.Overlaps.{occurs-eq, occurs-in, the-only}
 
 module _ (p t : List ℕ) (k s : ℕ) where

@@ -6,17 +6,11 @@ ghost use Rattle.overlap.specs.Overlap.{overlapOf, Answered};
 ghost use Rattle.overlap.specs.Table.{Table, Fits, Filled};
 use crate::Found;
 use crate::Range;
+use numbers::wide;
 use refusal::Refusal;
 
 // The most keys of a side.
 const LIMIT: usize = 8192;
-
-// An entry of the table as a length.
-fn wide(entry: u32) -> usize
-    ensures { λ r. ⌜ r ≡ entry ⌝ }
-{
-    entry as usize
-}
 
 // table[j] becomes the length of the longest beginning of new[..=j], short of the whole, that also
 // ends it. Past new's length the table is left as it was.

@@ -14,7 +14,7 @@ use Rattle.records.specs.Tokens.{tokensLent, tokensFrom}
 use Rattle.verdict.specs.declared.Verdict.the-variants.{Accepted, Refused}
 use Rattle.sizes.specs.Texts.{runText}
 use Rattle.shapes.specs.Shapes.{runGood}
-use Rattle.verdict.proofs.Bools.{leb-same}
+use Rattle.numbers.proofs.Orders.{leb-same}
 use Rattle.sizes.proofs.Sums.{cap, cap-on, cap-test}
 use Rattle.raw_lists.specs.declared.Raw.{Raw}
 use Rattle.raw_lists.specs.Raws.{rawAt, rawsFrom, rawsOf, piecesLent}

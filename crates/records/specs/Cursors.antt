@@ -1,5 +1,5 @@
 -- The cursors that a flat list of numbers holds, two numbers each. Assumes nothing.
-use Prim.Native.Nat.{ℕ, zero, suc, _+_, _*_, _/_}
+use Prim.Native.Nat.{ℕ, zero, suc, _+_, _*_, _/_, _≤_}
 use mathlib.Core.List.{List, [], _∷_}
 use lib.ListN.{length, getD, set}
 use Rattle.records.specs.declared.Cursor.{Cursor}
@@ -21,6 +21,11 @@ cursorsFrom xs i (suc k) = cursorAt xs i ∷ cursorsFrom xs (i + 1) k
 -- "the cursors lent": all whole ones
 unfoldable pub cursorsOf : List ℕ → List Cursor
 cursorsOf xs = cursorsFrom xs 0 (length xs / 2)
+
+-- "a cursor lies past the end": none does, no index is above e
+unfoldable pub Within : ℕ → List Cursor → Type 0
+Within e [] = Unit
+Within e (c ∷ cs) = (c .index ≤ e) × Within e cs
 
 -- "keeps its identity number", "a new index": the numbers of cursors
 unfoldable pub flatCursors : List Cursor → List ℕ

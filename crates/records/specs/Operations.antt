@@ -3,7 +3,6 @@ use Prim.Native.Nat.{ℕ, zero, suc, _+_, _*_, _/_}
 use mathlib.Core.List.{List, [], _∷_}
 use lib.ListN.{length, getD, set}
 use Rattle.records.specs.declared.Operation.{Operation}
-use Rattle.records.specs.Rooms.{filled}
 
 -- "The checked list is lent as a slice of operation records: kind, order, length, side, and for an insert its tokens": the one at place i
 abbrev pub operationAt : List ℕ → ℕ → Operation
@@ -38,7 +37,3 @@ putOperation d i o =
     (set (set (set (set (set d (i * 6) (o .kind)) (i * 6 + 1) (o .order)) (i * 6 + 2) (o .length)) (i * 6 + 3) (o .side)) (i * 6 + 4) (o .first))
     (i * 6 + 5)
     (o .count)
-
--- "operation records": those at the places i to n of the room d
-abbrev pub operationRoom : List ℕ → ℕ → List Operation → ℕ → List ℕ
-operationRoom d i os n = filled d (i * 6) (flatOperations os) (n * 6)

@@ -2,9 +2,9 @@
 -- Each is list arithmetic over `take` and `drop`, for values of any type. Assumes nothing.
 use mathlib.Core.Path.{_≡_, refl}
 use mathlib.Core.List.{List, [], _++_}
-use Prim.Native.Nat.{_+_, _≤_}
+use Prim.Native.Nat.{_≤_}
 use native.Mathlib.Nat.{zero-add}
-use lib.ListN.{length, take, drop, length-append, length-drop}
+use lib.ListN.{length, drop, length-append, length-drop}
 use lib.Seq.{take-append-seam, drop-append-add, drop-append-seam, drop-drop}
 use native.Mathlib.Omega.{arith}
 use Rattle.room.specs.Placed.{placed, answered}

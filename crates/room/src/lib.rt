@@ -1,6 +1,5 @@
 // Writing into lent rooms. A run of values is put at a place; what stands before and past it is as
 // it was. One function for each width: they differ in the element only, and share their laws.
-ghost use mathlib.Core.Path.{_≡_};
 ghost use Prim.Native.Nat.{_+_, _≤_};
 ghost use lib.ListN.{length};
 ghost use Rattle.room.specs.Placed.{Put};

@@ -23,8 +23,10 @@ use Rattle.sizes.specs.Sizes.{Small, lentFits, listFits}
 use Rattle.sizes.proofs.Fits.{sized-of}
 use Rattle.shapes.specs.Shapes.{runGood, isRun, isRecord, recordsFrom}
 use Rattle.shapes.specs.Tiling.{tilingFrom, tilingOf, withinFrom}
-use Rattle.shapes.specs.Accepted.{Tiles, AllIn, Insert, Part, Shapes, Within, AcceptedList}
-use Rattle.verdict.proofs.Bools.{no-way, and-left, and-right}
+use Rattle.records.specs.Cursors.{Within}
+use Rattle.shapes.specs.Accepted.{Tiles, AllIn, Insert, Part, Shapes, AcceptedList}
+use Rattle.room.proofs.Choices.{no-way}
+use Rattle.verdict.proofs.Bools.{and-left, and-right}
 use Rattle.verdict.proofs.Chains.{never, went}
 
 -- tiling

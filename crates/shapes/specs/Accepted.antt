@@ -10,6 +10,7 @@ use Rattle.records.specs.declared.Operation.{Operation}
 use Rattle.records.specs.declared.Token.{Token}
 use Rattle.records.specs.declared.Cursor.{Cursor}
 use Rattle.records.specs.Tokens.{tokensLent, tokensFrom}
+use Rattle.records.specs.Cursors.{Within}
 use Rattle.sizes.specs.declared.Limits.{Limits}
 use Rattle.sizes.specs.Texts.{total, claimedBy, insertedBy, textLength}
 
@@ -40,11 +41,6 @@ pub record Part (o : Operation) : Type 0 where
 unfoldable pub Shapes : ℕ → List ℕ → List ℕ → List Operation → Type 0
 Shapes n spans keys [] = Unit
 Shapes n spans keys (o ∷ os) = (o .side < 2) × ((Insert n spans keys o ⊎ Part o) × Shapes n spans keys os)
-
--- "a cursor lies past the end of its own list's text": none is so
-unfoldable pub Within : ℕ → List Cursor → Type 0
-Within e [] = Unit
-Within e (c ∷ cs) = (c .index ≤ e) × Within e cs
 
 -- "Order for lists: 3, 4, 1, 2, 5": none was given for this list
 pub record AcceptedList (l : Limits) (original text spans keys : List ℕ) (os : List Operation) (cs : List Cursor) : Type 0 where

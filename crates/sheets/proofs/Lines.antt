@@ -7,6 +7,7 @@ use mathlib.Core.List.{List, [], _∷_}
 use native.Mathlib.Omega.{arith}
 use lib.Dec.{leb}
 use lib.ListN.{length, drop, length-replicate}
+use Rattle.numbers.specs.Points.{isPoint}
 use Rattle.room.proofs.Answers.{same-room}
 use Rattle.overlap.specs.Overlap.{overlapOf, longest, first}
 use Rattle.records.specs.declared.Operation.{Operation}
@@ -68,11 +69,11 @@ unfolding padding
 points-behind = zeros-fine 67581 2
 
 accepts-abcdef : measured 67583 W.Accepted letters (flatSpans (tokensOf lefts rights)) (flatKeys (tokensOf lefts rights)) (leftOf lefts) (rightOf lefts rights) ≡ W.Accepted
-unfolding measured andThen sized pointsFrom total runText runGood recordsFrom tilingFrom withinFrom tokensFrom tokensOf flatSpans flatKeys allTokens listOf runsOf runOf pointTokens elongated parts lastRight firstLeft joinedFrom cookedFrom piecesLength size texts
+unfolding measured andThen sized pointsFrom isPoint total runText runGood recordsFrom tilingFrom withinFrom tokensFrom tokensOf flatSpans flatKeys allTokens listOf runsOf runOf pointTokens elongated parts lastRight firstLeft joinedFrom cookedFrom piecesLength size texts
 accepts-abcdef = refl
 
 accepts-nothing : measured 67583 W.Accepted [] (flatSpans (tokensOf [] [])) (flatKeys (tokensOf [] [])) (leftOf []) (rightOf [] []) ≡ W.Accepted
-unfolding measured andThen sized pointsFrom total recordsFrom tilingFrom withinFrom tokensOf flatSpans flatKeys allTokens listOf runsOf elongated parts cookedFrom texts
+unfolding measured andThen sized pointsFrom isPoint total recordsFrom tilingFrom withinFrom tokensOf flatSpans flatKeys allTokens listOf runsOf elongated parts cookedFrom texts
 accepts-nothing = refl
 
 long-abcdef : length (textOf padding lefts rights) ≡ 67583
@@ -80,7 +81,7 @@ unfolding textOf texts
 long-abcdef = same-room (88 ∷ 89 ∷ []) padding (omega (arith, long)) ∙ long
 
 points-abcdef : pointsFrom (textOf padding lefts rights) 0 ≡ W.Accepted
-unfolding textOf texts pointsFrom
+unfolding textOf texts pointsFrom isPoint
 points-abcdef = points-behind
 
 long-nothing : length (textOf padding [] []) ≡ 67583

@@ -7,7 +7,8 @@ use Rattle.utf8_read.specs.Grammar.{utf8-1, utf8-char}
 use Rattle.utf8_read.specs.Table.{decode}
 use Rattle.utf8_read.specs.Reading.{good-from, points-from}
 use Rattle.edit_format.specs.Digits.{digit, digitOf, isDigit}
-use Rattle.edit_format.specs.Items.{Item, Keep, Drop, Add, kept, dropped, added, isKeep, endsKeep, isPoint}
+use Rattle.numbers.specs.Points.{isPoint}
+use Rattle.edit_format.specs.Items.{Item, Keep, Drop, Add, kept, dropped, added, isKeep, endsKeep}
 use Rattle.edit_format.specs.Reading.{Accepted, lineNo, kindKey, keyOf, hexes, several, base, fitsItem, fits, kindOf, itemOf, opened, next, begun, keyed, numbered, step, run, finish, readFile}
 use Rattle.merge_files.specs.Program.{padding, lentOf, leftOf, rightOf, mergedOf, ofFiles, resultOf}
 use Rattle.sheets.specs.Ascii.{ascii, lines}

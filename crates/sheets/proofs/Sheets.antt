@@ -1,6 +1,7 @@
 -- Shown: every starred sheet of the paper.
 -- How: the laws of each part, brought together; that no merge is refused, by computation.
 use mathlib.Core.Path.{refl}
+use Rattle.numbers.specs.Points.{isPoint}
 use Rattle.records.specs.Tokens.{tokensFrom}
 use Rattle.overlap.proofs.Sheets.{sheets-hold as overlaps-hold}
 use Rattle.diff.proofs.Sheets.{sheets as replays-hold}
@@ -17,7 +18,7 @@ use Rattle.sheets.specs.Sheets.{Accepts, Sheets}
 use Rattle.sheets.proofs.Lines.{lines-hold}
 
 merges-accepted : Accepts sheets
-unfolding listsVerdict andThen sized pointsFrom recordsFrom runGood tilingFrom withinFrom total runText tokensFrom
+unfolding listsVerdict andThen sized pointsFrom isPoint recordsFrom runGood tilingFrom withinFrom total runText tokensFrom
 merges-accepted = (refl, (refl, (refl, tt)))
 
 pub all : Sheets

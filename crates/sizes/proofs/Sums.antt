@@ -17,7 +17,7 @@ use Rattle.records.specs.Tokens.{tokensLent, tokenAt, tokensFrom}
 use Rattle.records.proofs.Operations as O
 use Rattle.records.proofs.Tokens as T
 use Rattle.sizes.specs.Texts.{total, inText, runText, runLent, insertedBy, retainedBy}
-use Rattle.verdict.proofs.Bools.{leb-same}
+use Rattle.numbers.proofs.Orders.{leb-same}
 
 abbrev pub cap : ℕ
 cap = 1000000

@@ -1,5 +1,6 @@
 // Refusal 3 of lists: their sizes, and the length of a list's text. Of the caller only its limits are
 // asked, that they are below the cap: every sum stops where it cannot grow to a wrong answer any more.
+use numbers::wide;
 ghost use mathlib.Core.Path.{_≡_};
 ghost use Prim.Native.Nat.{_+_, _≤_, min};
 ghost use Rattle.records.specs.Operations.{operationsOf};
@@ -38,12 +39,6 @@ pub fn other_limits() -> Limits
         text: 131070,
         cursors: 512,
     }
-}
-
-pub fn wide(x: u32) -> usize
-    ensures { λ r. ⌜ r ≡ x ⌝ }
-{
-    x as usize
 }
 
 // A sum that stops at 1,000,000, which is above every limit.

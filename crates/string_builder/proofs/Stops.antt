@@ -1,15 +1,16 @@
 -- A step of the builder: where it ends, and what part of the original it passes.
 -- Two cases, by whether the step ends within the original. Assumes nothing.
 use mathlib.Core.Path.{_≡_, sym, ap, _∙_}
-use mathlib.Core.List.{List, [], append-nil}
+use mathlib.Core.List.{List, []}
 use Prim.Native.Nat.{ℕ, _+_, _-_, _≤_}
 use native.Mathlib.Decide.{decLt}
 use native.Mathlib.Nat.{add-zero}
 use native.Mathlib.Omega.{arith}
-use lib.ListN.{length, take, drop, length-drop, drop-of-length-le, take-append-drop}
+use lib.ListN.{length, take, drop, length-drop, drop-of-length-le}
 use lib.Seq.{take-all, take-nil, length-take-le}
 use borrow.Author.Tests.{le-leb, lt-leb}
-use Rattle.room.specs.Placed.{placed, Put}
+use Rattle.room.specs.Placed.{Put}
+use Rattle.room.proofs.Placing.{placed-none}
 use Rattle.string_builder.specs.Builder.{stopAt}
 
 pub stop-short : (len at n : ℕ) → at + n ≤ len → stopAt len at n ≡ at + n
@@ -68,9 +69,5 @@ pub none-left : (o : List ℕ) (at n : ℕ) → length o ≤ at → take n (drop
 none-left o at n h = rw (drop-of-length-le o h) (take-nil n)
 
 -- a run of nothing changes no room
-pub placed-none : (d : List ℕ) (at : ℕ) → placed d at [] ≡ d
-unfolding placed
-placed-none d at = rw (add-zero at, append-nil) (take-append-drop at d)
-
 pub put-none : (d : List ℕ) (at : ℕ) → Put [] d at d at
 put-none d at = record { next = sym (add-zero at); stands = sym (placed-none d at) }

@@ -7,7 +7,7 @@ use mathlib.Core.List.{List, [], _∷_}
 use native.Mathlib.Omega.{arith}
 use lib.ListN.{length}
 use Rattle.merging.specs.Lent.{lentOf}
-use Rattle.diff.specs.Replay.{Edit, retain, insert}
+use Rattle.diff.specs.Replay.{Edit}
 use Rattle.records.specs.declared.Operation.{Operation}
 use Rattle.records.specs.declared.Token.{Token}
 use Rattle.records.specs.Operations.{operationAt, operationsFrom, operationsOf}

@@ -7,7 +7,7 @@ use native.Mathlib.Omega.{arith}
 use lib.ListN.{length, length-append}
 use lib.IntN.{ℤ}
 use Rattle.merging.specs.Lent.{lentOf}
-use Rattle.diff.specs.Replay.{Edit, retain, delete, insert}
+use Rattle.diff.specs.Replay.{Edit}
 use Rattle.room.specs.Placed.{placed, answered}
 use Rattle.room.proofs.Answers.{one-more, same-room}
 use Rattle.records.specs.declared.Operation.{Operation}

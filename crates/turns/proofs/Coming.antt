@@ -1,6 +1,6 @@
 -- Shown: what `ahead_of` and `advance` answer, each way through them by itself.
 -- How: the records from a place on are one record and those behind it, or none.
-use Prim.Native.Nat.{ℕ, _+_, _-_, _/_, _≤_, _<_}
+use Prim.Native.Nat.{ℕ, _+_, _/_, _≤_, _<_}
 use mathlib.Core.Path.{_≡_, refl, sym}
 use mathlib.Core.List.{List, [], _∷_}
 use native.Mathlib.Omega.{arith}
@@ -10,7 +10,7 @@ use Rattle.records.proofs.Operations.{from-more, from-none}
 use Rattle.merging.specs.declared.Op.{Op}
 use Rattle.merging.specs.Operations.{spanOf, opOf, opsFrom}
 use Rattle.operation.specs.declared.Next.the-variants.{Here, Done}
-use Rattle.operation.specs.Views.{most}
+use Rattle.numbers.specs.Sizes.{most}
 use Rattle.turns.specs.Looking.{listFrom, FirstFits, Looks}
 
 never : {A : Type 0} (op : Op) → Here op ≡ Done → A

@@ -2,7 +2,7 @@
 -- How: keys and lengths are two runs put at two places; the parts of the room by Parts, the cases by the definition's test.
 use Prim.Native.Nat.{ℕ, zero, suc, _+_, _-_, _*_, _≤_, _<_}
 use mathlib.Core.Path.{_≡_, refl, sym, _∙_, ap}
-use mathlib.Core.List.{List, _∷_, _++_}
+use mathlib.Core.List.{List, _++_}
 use native.Mathlib.Omega.{arith}
 use native.Mathlib.Decide.{ℕ-discrete}
 use borrow.Author.Tests.{eq-eqb, ne-eqb}
@@ -14,10 +14,12 @@ use Rattle.merging.specs.Lent.{Lent, keysOf, lengthsOf}
 use Rattle.merging.specs.Meeting.{inserted, appended, rememberOf}
 use Rattle.operation.specs.declared.Last.{Last}
 use Rattle.operation.specs.declared.Last.the-variants.{Nothing, Deleted, Retained, Inserted}
-use Rattle.operation.specs.Views.{lastOf, tokens, ofSpans}
+use Rattle.operation.specs.Views.{lastOf, ofSpans}
+use Rattle.operation.proofs.Meeting.{lengths-of}
 use Rattle.turns.specs.declared.Memory.{Memory}
 use Rattle.turns.specs.Remembering.{Writable, Kept, Written, keptFrom, Began, Rememberable, Remembers, Since}
-use Rattle.turns.proofs.Parts.{drop-take, length-placed, placed-before, placed-behind, placed-holds}
+use Rattle.room.proofs.Placing.{placed-length}
+use Rattle.turns.proofs.Parts.{drop-take, placed-before, placed-behind, placed-holds}
 
 -- the lengths of tokens, one by one
 pub length-lengths : (lent : Lent) (first count : ℕ) → length (lengthsOf lent first count) ≡ count
@@ -34,14 +36,9 @@ getD-lengths lent first (suc n) (suc k) h =
     rw e (getD-lengths lent (first + 1) n k (omega arith))
 
 -- keys and lengths depend on nothing else that was lent
-same-lengths : (lent : Lent) (first count : ℕ) → lengthsOf (ofSpans (lent .spans)) first count ≡ lengthsOf lent first count
-unfolding lengthsOf
-same-lengths lent first zero = refl
-same-lengths lent first (suc n) = ap (λ (r : List ℕ). getD (lent .spans) (first * 2 + 1) 0 ∷ r) (same-lengths lent (first + 1) n)
-
 lent-lengths : (lent : Lent) (spans : List ℕ) (first count : ℕ) → lent .spans ≡ spans
     → lengthsOf (ofSpans spans) first count ≡ lengthsOf lent first count
-lent-lengths lent spans first count e = rw (← e) (same-lengths lent first count)
+lent-lengths lent spans first count e = rw (← e) (lengths-of lent first count)
 
 lent-keys : (lent : Lent) (keys : List ℕ) (first count : ℕ) → lent .keys ≡ keys → slice first (first + count) keys ≡ keysOf lent first count
 unfolding keysOf
@@ -53,12 +50,12 @@ module _ (w ks ls : List ℕ) (half at n : ℕ) (ek : length ks ≡ n) (el : len
   first-fits = omega arith
 
   second-fits : half + at + length ls ≤ length (placed w at ks)
-  second-fits = omega (arith, length-placed w at ks first-fits)
+  second-fits = omega (arith, placed-length w at ks first-fits)
 
   both-kept : Kept w (placed (placed w at ks) (half + at) ls) half at n
   both-kept =
       record {
-        same = length-placed (placed w at ks) (half + at) ls second-fits ∙ length-placed w at ks first-fits;
+        same = placed-length (placed w at ks) (half + at) ls second-fits ∙ placed-length w at ks first-fits;
         front = λ a b g.
             placed-before (placed w at ks) (half + at) ls second-fits a b (omega arith) ∙ placed-before w at ks first-fits a b g;
         middle = λ a b f g.

@@ -2,10 +2,10 @@
 -- How: list arithmetic over `take` and `drop`, for values of any type.
 use Prim.Native.Nat.{ℕ, zero, suc, _+_, _-_, _≤_}
 use mathlib.Core.Path.{_≡_, sym, _∙_, ap}
-use mathlib.Core.List.{List, [], _∷_, _++_, append-nil}
+use mathlib.Core.List.{List, [], _∷_, _++_}
 use native.Mathlib.Omega.{arith}
-use native.Mathlib.Nat.{sub-zero, add-zero}
-use lib.ListN.{length, take, drop, length-append, length-drop, take-append-drop}
+use native.Mathlib.Nat.{sub-zero}
+use lib.ListN.{length, take, drop, length-append}
 use lib.Seq.{slice, take-append-le, drop-append-le, take-at, drop-at, length-take-le, take-take, take-nil, drop-drop}
 use Rattle.room.specs.Placed.{placed}
 
@@ -16,20 +16,12 @@ drop-take (suc f) zero l = let e : 0 - suc f ≡ 0 = omega arith in rw e
 drop-take (suc f) (suc t) [] = sym (take-nil (suc t - suc f))
 drop-take (suc f) (suc t) (x ∷ l) = let e : suc t - suc f ≡ t - f = omega arith in rw e (drop-take f t l)
 
-pub placed-none : {A : Type 0} (d : List A) (at : ℕ) → placed d at [] ≡ d
-unfolding placed
-placed-none d at = rw (append-nil (take at d), add-zero at) (take-append-drop at d)
-
 module _ {A : Type 0} (d : List A) (at : ℕ) (s : List A) (h : at + length s ≤ length d) where
   front : length (take at d) ≡ at
   front = length-take-le at d (omega arith)
 
   head : length (take at d ++ s) ≡ at + length s
   head = rw (length-append, front)
-
-  pub length-placed : length (placed d at s) ≡ length d
-  unfolding placed
-  length-placed = rw (length-append, head, length-drop) (omega arith)
 
   pub placed-before : (a b : ℕ) → b ≤ at → slice a b (placed d at s) ≡ slice a b d
   unfolding placed

@@ -8,7 +8,8 @@ use Rattle.merging.specs.declared.Op.{Op}
 use Rattle.merging.specs.Operations.{spanOf, opsFrom}
 use Rattle.operation.specs.declared.Next.{Next}
 use Rattle.operation.specs.declared.Next.the-variants.{Here, Done}
-use Rattle.operation.specs.Views.{heads, most}
+use Rattle.numbers.specs.Sizes.{most}
+use Rattle.operation.specs.Views.{heads}
 use Rattle.turns.specs.declared.Ahead.{Ahead}
 
 -- "An insert's order is the original text consumed before it": the operations of a list from a place on, where `at` is consumed

@@ -12,7 +12,8 @@ use Rattle.merging.specs.Lent.{Lent, lengthsOf}
 use Rattle.merging.specs.Meeting.{rememberOf}
 use Rattle.operation.specs.declared.Last.{Last}
 use Rattle.operation.specs.declared.Last.the-variants.{Nothing, Deleted, Retained, Inserted}
-use Rattle.operation.specs.Views.{lastOf, reach, most, LastFits, Keyed, Lies, tokens, ofSpans}
+use Rattle.numbers.specs.Sizes.{most}
+use Rattle.operation.specs.Views.{lastOf, reach, LastFits, Keyed, Lies, tokens, ofSpans}
 use Rattle.turns.specs.declared.Memory.{Memory}
 
 -- the tokens are lent, and the work room has place for their keys in its first half and for their lengths in its second

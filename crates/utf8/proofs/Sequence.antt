@@ -1,40 +1,24 @@
 -- A code point and its sequence: the encoding is a good sequence that decodes to it, and the only one.
 -- By the four rows: quotients and remainders of a number that is made of parts. Assumes nothing.
 use mathlib.Core.Path.{_≡_, refl, sym, ap, _∙_}
-use mathlib.Core.Bool.{true, _&&_}
-use mathlib.Core.Logic.{⊎-elim}
+use mathlib.Core.Bool.{true}
 use mathlib.Core.List.{List, [], _∷_, _++_}
 use Prim.Native.Nat.{ℕ, suc, _+_, _*_, _-_, _/_, _%_, _≤_, _<_}
 use native.Mathlib.Omega.{arith}
 use native.Mathlib.Decide.{decLt}
 use lib.ListN.{length, take, drop}
 use lib.Seq.{take-length}
-use lib.Dec.{ltb, leb}
-use borrow.Author.Tests.{le-ltb, le-leb, ltb-true, leb-true}
 use Rattle.utf8_read.specs.Grammar.{utf8-char}
-use Rattle.utf8_read.specs.Table.{scalar, six, more, encode, decode}
-use Rattle.utf8_read.proofs.Tests.{and-both, or-one}
+use Rattle.numbers.specs.Points.{isPoint}
+use Rattle.numbers.proofs.Points.{point-low, point-high, point-most, point-past}
+use Rattle.utf8_read.specs.Table.{six, more, encode, decode}
 use Rattle.utf8_read.proofs.Rules.{Within, Two, Three, Four}
-use Rattle.utf8_read.proofs.Sequences.{At, found, stands, front-1, front-2, front-3, front-4, value-1, value-2, value-3, value-4}
+use Rattle.utf8_read.proofs.Sequences.{At, found, front-1, front-2, front-3, front-4, value-1, value-2, value-3, value-4}
 use Rattle.utf8_write.proofs.Encodes.{row-1, row-2, row-3, row-4}
-use Rattle.utf8_write.proofs.Scalar.{scalar-low, scalar-below}
-
--- a number past the surrogates and not too great
-scalar-high : (x : ℕ) → 0xe000 ≤ x → x ≤ 0x10ffff → scalar x ≡ true
-unfolding scalar
-scalar-high x g h = rw (le-ltb x 0xd800 (omega arith), le-leb 0xe000 x g, le-leb x 0x10ffff h)
-
--- a code point is below the surrogates or above them
-not-between : (x : ℕ) → scalar x ≡ true → 0xd800 ≤ x → 0xe000 ≤ x
-unfolding scalar
-not-between x e g =
-    ⊎-elim (λ t. absurd (omega (arith, ltb-true x 0xd800 t)))
-    (λ t. leb-true 0xe000 x (and-both (leb 0xe000 x) (leb x 0x10ffff) t .0))
-    (or-one (ltb x 0xd800) (leb 0xe000 x && leb x 0x10ffff) e)
 
 record Back (q : List ℕ) (x : ℕ) : Type 0 where
   same : q ≡ encode x
-  whole : scalar x ≡ true
+  whole : isPoint x ≡ true
 
 two-cells : (a b a′ b′ : ℕ) → a ≡ a′ → b ≡ b′ → (a ∷ b ∷ []) ≡ (a′ ∷ b′ ∷ [])
 two-cells a b a′ b′ e f = rw (e, f)
@@ -46,7 +30,7 @@ four-cells : (a b c d a′ b′ c′ d′ : ℕ) → a ≡ a′ → b ≡ b′ �
 four-cells a b c d a′ b′ c′ d′ e f g h = rw (e, f, g, h)
 
 back-1 : (a : ℕ) → a < 0x80 → Back (a ∷ []) a
-back-1 a h = record { same = sym (row-1 a h); whole = scalar-low a (omega arith) }
+back-1 a h = record { same = sym (row-1 a h); whole = point-low a (omega arith) }
 
 back-2 : (a b : ℕ) → Two a b → Back (a ∷ b ∷ []) (more (a % 32) b)
 back-2 a b t =
@@ -60,7 +44,7 @@ back-2 a b t =
     let w : x ≡ (a - 192) * 64 + (b - 128) = omega arith in
     record {
       same = two-cells a b (0xc0 + x / 64) (six x) (omega arith) (omega arith) ∙ sym (row-2 x (omega arith) (omega arith));
-      whole = scalar-low x (omega arith);
+      whole = point-low x (omega arith);
     }
 
 back-3 : (a b c : ℕ) → Three a b c → Back (a ∷ b ∷ c ∷ []) (more (more (a % 16) b) c)
@@ -83,8 +67,8 @@ back-3 a b c t =
           three-cells a b c (0xe0 + x / 4096) (six (x / 64)) (six x) (omega arith) (omega arith) (omega arith)
           ∙ sym (row-3 x low (omega arith));
       whole = elim (decLt a 0xed) [
-        | yes l ↦ scalar-low x (omega arith)
-        | no l ↦ elim (decLt a 0xee) [ yes k ↦ scalar-low x (omega (arith, t .plain (omega arith))) | no k ↦ scalar-high x (omega arith) (omega arith) ]
+        | yes l ↦ point-low x (omega arith)
+        | no l ↦ elim (decLt a 0xee) [ yes k ↦ point-low x (omega (arith, t .plain (omega arith))) | no k ↦ point-high x (omega arith) (omega arith) ]
       ];
     }
 
@@ -155,7 +139,7 @@ back-4 a b c d t =
           four-cells a b c d (0xf0 + x / 262144) (six (x / 4096)) (six (x / 64)) (six x) (first-4 a _ fa (m .first)) (tail-4 b _ fb (m .second))
           (tail-4 c _ fc (m .third)) (tail-4 d _ fd (m .fourth))
           ∙ sym (row-4 x low);
-      whole = scalar-high x (omega (arith, low)) high;
+      whole = point-high x (omega (arith, low)) high;
     }
 
 -- the sequence at a place is the encoding of its number, which is a code point
@@ -168,7 +152,7 @@ at-back {s} {at} (At.four a m) = rw (value-4 s at m, front-4 s at m) (back-4 _ _
 pub encoded-at : {s : List ℕ} {at l : ℕ} → At s at l → take l (drop at s) ≡ encode (decode (take l (drop at s)))
 encoded-at a = at-back a .same
 
-pub scalar-at : {s : List ℕ} {at l : ℕ} → At s at l → scalar (decode (take l (drop at s))) ≡ true
+pub scalar-at : {s : List ℕ} {at l : ℕ} → At s at l → isPoint (decode (take l (drop at s))) ≡ true
 scalar-at a = at-back a .whole
 
 -- the rows' first bytes and tails
@@ -178,13 +162,13 @@ tail-of y = omega arith
 shape-2 : (x : ℕ) → 0x80 ≤ x → x < 0x800 → Two (0xc0 + x / 64) (six x)
 shape-2 x g h = record { first = omega arith; second = tail-of x }
 
-shape-3 : (x : ℕ) → 0x800 ≤ x → x < 0x10000 → scalar x ≡ true → Three (0xe0 + x / 4096) (six (x / 64)) (six x)
+shape-3 : (x : ℕ) → 0x800 ≤ x → x < 0x10000 → isPoint x ≡ true → Three (0xe0 + x / 4096) (six (x / 64)) (six x)
 shape-3 x g h e = record {
   first = omega arith;
   second = tail-of (x / 64);
   third = tail-of x;
   shortest = λ z. omega arith;
-  plain = λ z. elim (decLt x 0xd800) [ yes l ↦ omega arith | no l ↦ omega (arith, not-between x e (omega arith)) ];
+  plain = λ z. elim (decLt x 0xd800) [ yes l ↦ omega arith | no l ↦ omega (arith, point-past x e (omega arith)) ];
 }
 
 shape-4 : (x : ℕ) → 0x10000 ≤ x → x < 0x110000 → Four (0xf0 + x / 262144) (six (x / 4096)) (six (x / 64)) (six x)
@@ -198,14 +182,14 @@ shape-4 x g h = record {
 }
 
 -- the encoding of a code point stands at the front of whatever it is put before
-pub stands-first : (x : ℕ) (t : List ℕ) → scalar x ≡ true → At (encode x ++ t) 0 (length (encode x))
+pub stands-first : (x : ℕ) (t : List ℕ) → isPoint x ≡ true → At (encode x ++ t) 0 (length (encode x))
 stands-first x t e = elim (decLt x 0x80) [
   | yes h ↦ rw (row-1 x h) (At.one h (omega arith))
   | no a ↦ elim (decLt x 0x800) [
     | yes h ↦ (let g : 0x80 ≤ x = omega arith in rw (row-2 x g h) (At.two (shape-2 x g h) (omega arith)))
     | no b ↦ elim (decLt x 0x10000) [
       | yes h ↦ (let g : 0x800 ≤ x = omega arith in rw (row-3 x g h) (At.three (shape-3 x g h e) (omega arith)))
-      | no c ↦ (let g : 0x10000 ≤ x = omega arith in rw (row-4 x g) (At.four (shape-4 x g (scalar-below x e)) (omega arith)))
+      | no c ↦ (let g : 0x10000 ≤ x = omega arith in rw (row-4 x g) (At.four (shape-4 x g (omega (arith, point-most x e))) (omega arith)))
     ]
   ]
 ]
@@ -214,7 +198,7 @@ back-six : (y : ℕ) → more (y / 64) (six y) ≡ y
 back-six y = omega arith
 
 -- and decodes to it
-pub decodes : (x : ℕ) → scalar x ≡ true → decode (encode x) ≡ x
+pub decodes : (x : ℕ) → isPoint x ≡ true → decode (encode x) ≡ x
 unfolding decode
 decodes x e = elim (decLt x 0x80) [
   | yes h ↦ rw (row-1 x h)
@@ -226,7 +210,7 @@ decodes x e = elim (decLt x 0x80) [
           (let p : (0xe0 + x / 4096) % 16 ≡ x / 64 / 64 = omega arith in rw (p, back-six (x / 64)) (back-six x))
       | no c ↦
           rw (row-4 x (omega arith))
-          (let h = scalar-below x e in
+          (let h = point-most x e in
           let p : (0xf0 + x / 262144) % 8 ≡ x / 4096 / 64 = omega arith in
           rw (p, back-six (x / 4096), twice x, back-six (x / 64)) (back-six x))
     ]

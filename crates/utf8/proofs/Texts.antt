@@ -9,7 +9,8 @@ use native.Mathlib.Nat.{zero-add}
 use lib.ListN.{length, take, drop, length-append, drop-of-length-le}
 use lib.Seq.{take-add, take-length, drop-drop, drop-append-seam, take-append-seam, length-take-le}
 use Rattle.utf8_read.specs.Grammar.{utf8-char}
-use Rattle.utf8_read.specs.Table.{scalar, encode, decode}
+use Rattle.numbers.specs.Points.{isPoint}
+use Rattle.utf8_read.specs.Table.{encode, decode}
 use Rattle.utf8_read.specs.Reading.{good-from, good-end, points-from, points}
 use Rattle.utf8_read.proofs.Sequences.{At, found, fits}
 use Rattle.utf8_read.proofs.Steps.{next-good, next-points, stop-good, stop-points, good-most}
@@ -95,7 +96,7 @@ pub write-back : (s : List ℕ) → good-end s ≡ length s → encode-all (poin
 write-back s e = written-again s ∙ ap (λ (n : ℕ). take n s) e ∙ take-length s
 
 -- a code point in front is read first
-first-read : (x : ℕ) (t : List ℕ) → scalar x ≡ true
+first-read : (x : ℕ) (t : List ℕ) → isPoint x ≡ true
     → (good-end (encode x ++ t) ≡ length (encode x) + good-end t) × (points (encode x ++ t) ≡ x ∷ points t)
 first-read x t e =
     let a = stands-first x t e in
@@ -113,7 +114,7 @@ pub read-back : (xs : List ℕ) → scalars xs ≡ length xs → (good-end (enco
 unfolding good-from points-from
 read-back [] e = (rw no-bytes, rw no-bytes)
 read-back (x ∷ xs) e =
-    let o = first-of x xs (scalar x) refl e in
+    let o = first-of x xs (isPoint x) refl e in
     let r = read-back xs (o .1) in
     let f = first-read x (encode-all xs) (o .0) in (
       ap good-end (first-bytes x xs)
@@ -127,7 +128,7 @@ read-back (x ∷ xs) e =
 scalars-join : (xs ys : List ℕ) → scalars xs ≡ length xs → scalars ys ≡ length ys → scalars (xs ++ ys) ≡ length (xs ++ ys)
 scalars-join [] ys e f = f
 scalars-join (x ∷ xs) ys e f =
-    let o = first-of x xs (scalar x) refl e in
+    let o = first-of x xs (isPoint x) refl e in
     first-good x (xs ++ ys) (o .0) ∙ ap suc (scalars-join xs ys (o .1) f)
 
 -- a good text followed by a good text is good, and its code points are theirs

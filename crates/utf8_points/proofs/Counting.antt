@@ -6,12 +6,12 @@ use mathlib.Core.List.{List, [], _∷_, _++_}
 use Prim.Native.Nat.{ℕ, suc, _+_, _-_, _≤_, _<_}
 use native.Mathlib.Omega.{arith}
 use native.Mathlib.Numerals.{add-one}
-use lib.ListN.{length, getD, take, drop, take-append-drop, length-drop, length-take, drop-of-length-le}
+use lib.ListN.{length, getD, take, drop, take-append-drop, length-take, drop-of-length-le}
 use lib.Seq.{take-suc, drop-drop}
 use Rattle.room.specs.Choice.{pick}
 use Rattle.utf8_read.specs.Grammar.{tail}
 use Rattle.utf8_read.specs.Window.{starts}
-use Rattle.utf8_read.proofs.Tests.{pick-elim}
+use Rattle.room.proofs.Choices.{pick-elim}
 
 pub of-tail : (b : ℕ) → tail b ≡ true → 0 ≡ starts (b ∷ [])
 unfolding starts

@@ -1,5 +1,6 @@
 // UTF-8, read (RFC 3629): how many code points a good text holds, and the code points, put into a room.
 // Counting goes by many bytes at a time, which the compiler makes vectors of, and so does ASCII.
+use numbers::bytes::wide;
 ghost use mathlib.Core.Path.{_≡_};
 ghost use mathlib.Core.List.{[], _∷_};
 ghost use Prim.Native.Nat.{_+_, _%_, _<_, _≤_, _^_};
@@ -50,12 +51,6 @@ pub fn starts_of(bytes: &[u8]) -> usize
 pub struct Point {
     pub code: u32,
     pub len: usize,
-}
-
-fn wide(b: u8) -> u32
-    ensures { λ r. ⌜ r ≡ b ⌝ }
-{
-    b as u32
 }
 
 // x with the six bits of b after it.

@@ -10,9 +10,10 @@ use lib.Dec.{ltb}
 use borrow.Author.Tests.{ltb-true}
 use lib.ListN.{length, getD, drop}
 use Rattle.utf8_read.specs.Grammar.{tail, utf8-2, utf8-3, utf8-4, utf8-char}
-use Rattle.utf8_read.specs.Reading.{good-from, good-end}
+use Rattle.utf8_read.specs.Reading.{good-end}
 use Rattle.utf8_read.specs.Window.{ones, misfit, Local, Ascii, Clean, Stretch, Reached, Walked}
-use Rattle.utf8_read.proofs.Tests.{never, or-none, and-both}
+use Rattle.room.proofs.Choices.{never, and-both}
+use Rattle.utf8_read.proofs.Tests.{or-none}
 use Rattle.utf8_read.proofs.Rules.{in-two, in-three, in-four}
 use Rattle.utf8_read.proofs.Sequences.{At, stands, none, found, fits}
 use Rattle.utf8_read.proofs.Leads.{lead, says-2, says-3, says-4, says-none}

@@ -10,7 +10,7 @@ use lib.ListN.{length, getD}
 use borrow.Author.Tests.{ltb-true, ltb-false}
 use Rattle.utf8_read.specs.Grammar.{utf8-2, utf8-3, utf8-4}
 use Rattle.utf8_read.specs.Window.{ones}
-use Rattle.utf8_read.proofs.Tests.{pick-elim}
+use Rattle.room.proofs.Choices.{pick-elim}
 use Rattle.utf8_read.proofs.Rules.{Within, two-in, three-in, four-in}
 use Rattle.utf8_read.proofs.Sequences.{At}
 

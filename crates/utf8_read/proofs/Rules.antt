@@ -9,7 +9,8 @@ use native.Mathlib.Decide.{decLt}
 use lib.Dec.{leb, eqb}
 use borrow.Author.Tests.{le-leb, leb-true, eq-eqb, ne-eqb, eqb-true}
 use Rattle.utf8_read.specs.Grammar.{range, tail, utf8-1, utf8-2, utf8-3, utf8-4}
-use Rattle.utf8_read.proofs.Tests.{and-both, or-one, refuted}
+use Rattle.room.proofs.Choices.{and-both}
+use Rattle.utf8_read.proofs.Tests.{or-one, refuted}
 
 pub record Within (first last b : ℕ) : Type 0 where
   pub low : first ≤ b

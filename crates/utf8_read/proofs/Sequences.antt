@@ -2,7 +2,7 @@
 -- The grammar's choices are gone through once, by `shown`; everything else goes by the kind. Assumes nothing.
 use mathlib.Core.Path.{_≡_, refl, ap, _∙_, subst}
 use mathlib.Core.List.{List, [], _∷_}
-use Prim.Native.Nat.{ℕ, zero, suc, _+_, _-_, _%_, _≤_, _<_}
+use Prim.Native.Nat.{ℕ, zero, suc, _+_, _%_, _≤_, _<_}
 use native.Mathlib.Omega.{arith}
 use native.Mathlib.Nat.{add-zero}
 use native.Mathlib.Numerals.{add-one}
@@ -10,7 +10,8 @@ use lib.ListN.{length, getD, take, drop, length-drop}
 use lib.Seq.{drop-cons, getD-drop}
 use Rattle.utf8_read.specs.Grammar.{utf8-1, utf8-2, utf8-3, utf8-4, from-2, from-3, from-4, utf8-char}
 use Rattle.utf8_read.specs.Table.{decode, more}
-use Rattle.utf8_read.proofs.Tests.{pick-elim, refuted}
+use Rattle.room.proofs.Choices.{pick-elim}
+use Rattle.utf8_read.proofs.Tests.{refuted}
 use Rattle.utf8_read.proofs.Rules.{Two, Three, Four, one-in, in-one, in-two, in-three, three-in, in-four, four-in, two-in}
 
 -- a sequence of l bytes stands at a place

@@ -12,7 +12,8 @@ use borrow.Author.Tests.{le-leb, lt-leb, leb-false, ltb-false, eq-eqb, ne-eqb}
 use Rattle.utf8_read.specs.Grammar.{tail}
 use Rattle.utf8_read.specs.Reading.{good-from}
 use Rattle.utf8_read.specs.Window.{misfit, Local, Clean, Ascii}
-use Rattle.utf8_read.proofs.Tests.{never, or-none}
+use Rattle.room.proofs.Choices.{never}
+use Rattle.utf8_read.proofs.Tests.{or-none}
 use Rattle.utf8_read.proofs.Rules.{in-tail, tail-in, tail-below}
 use Rattle.utf8_read.proofs.Sequences.{At, fits}
 use Rattle.utf8_read.proofs.Steps.{next-good}

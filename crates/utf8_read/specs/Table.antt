@@ -1,13 +1,8 @@
 -- RFC 3629, section 3, "UTF-8 definition": its table, by quotients and remainders. Assumes nothing.
 use Prim.Native.Nat.{ℕ, _+_, _*_, _/_, _%_}
-use mathlib.Core.Bool.{Bool, _&&_, _||_}
 use mathlib.Core.List.{List, [], _∷_}
-use lib.Dec.{ltb, leb}
+use lib.Dec.{ltb}
 use Rattle.room.specs.Choice.{pick}
-
--- "characters from the U+0000..U+10FFFF range", and "The definition of UTF-8 prohibits encoding character numbers between U+D800 and U+DFFF"
-unfoldable pub scalar : ℕ → Bool
-scalar x = ltb x 0xd800 || (leb 0xe000 x && leb x 0x10ffff)
 
 -- "The following octet(s) all have the higher-order bit set to 1 and the following bit set to 0, leaving 6 bits in each"
 abbrev pub six : ℕ → ℕ

@@ -1,36 +1,22 @@
 -- How far numbers are code points: by blocks, one by one, and at the first that is none.
 -- The count so far and the count of what is left together are the count of the whole. Assumes nothing.
 use mathlib.Core.Path.{_≡_, refl, sym, ap}
-use mathlib.Core.Bool.{Bool, true, false, _&&_}
-use mathlib.Core.Logic.{⊎-elim}
+use mathlib.Core.Bool.{Bool, true, false}
 use mathlib.Core.List.{List, [], _∷_}
 use Prim.Native.Nat.{ℕ, zero, suc, _+_, _≤_, _<_}
 use native.Mathlib.Omega.{arith}
 use native.Mathlib.Numerals.{add-one}
 use lib.ListN.{length, getD, drop, drop-of-length-le}
-use lib.Dec.{ltb, leb}
-use borrow.Author.Tests.{lt-ltb, ltb-true, leb-true}
-use Rattle.utf8_read.specs.Table.{scalar}
-use Rattle.utf8_read.proofs.Tests.{and-both, or-one, pick-elim}
+use Rattle.numbers.specs.Points.{isPoint}
+use Rattle.room.proofs.Choices.{pick-elim}
 use Rattle.utf8_read.proofs.Sequences.{front-1}
 use Rattle.utf8_write.specs.Writing.{scalars, Scalars}
 
-pub scalar-low : (x : ℕ) → x < 0xd800 → scalar x ≡ true
-unfolding scalar
-scalar-low x h = rw (lt-ltb x 0xd800 h)
-
-pub scalar-below : (x : ℕ) → scalar x ≡ true → x < 0x110000
-unfolding scalar
-scalar-below x e =
-    ⊎-elim (λ t. omega (arith, ltb-true x 0xd800 t))
-    (λ t. let p = and-both (leb 0xe000 x) (leb x 0x10ffff) t in omega (arith, leb-true x 0x10ffff (p .1)))
-    (or-one (ltb x 0xd800) (leb 0xe000 x && leb x 0x10ffff) e)
-
-pub first-good : (x : ℕ) (s : List ℕ) → scalar x ≡ true → scalars (x ∷ s) ≡ suc (scalars s)
+pub first-good : (x : ℕ) (s : List ℕ) → isPoint x ≡ true → scalars (x ∷ s) ≡ suc (scalars s)
 unfolding scalars
 first-good x s e = rw e
 
-first-bad : (x : ℕ) (s : List ℕ) → scalar x ≡ false → scalars (x ∷ s) ≡ 0
+first-bad : (x : ℕ) (s : List ℕ) → isPoint x ≡ false → scalars (x ∷ s) ≡ 0
 unfolding scalars
 first-bad x s e = rw e
 
@@ -42,7 +28,7 @@ pub record Judged (s : List ℕ) (i : ℕ) : Type 0 where
   pub most : i ≤ length s
   pub sum : i + scalars (drop i s) ≡ scalars s
 
-pub by-one : {s : List ℕ} {i : ℕ} → Judged s i → i < length s → scalar (getD s i 0) ≡ true → Judged s (i + 1)
+pub by-one : {s : List ℕ} {i : ℕ} → Judged s i → i < length s → isPoint (getD s i 0) ≡ true → Judged s (i + 1)
 by-one {s} {i} j h e = record {
   most = omega arith;
   sum = omega (arith, j .sum, ap scalars (front-1 s i (omega arith)), first-good (getD s i 0) (drop (i + 1) s) e);
@@ -53,25 +39,25 @@ by-blocks zero s h f = record { most = omega arith; sum = omega arith }
 by-blocks (suc e) s h f =
     rw (sym (add-one e)) (by-one (by-blocks e s (omega arith) (λ k l m. f k l (omega arith))) (omega arith) (f e (omega arith) (omega arith)))
 
-pub at-bad : {s : List ℕ} {i : ℕ} → Judged s i → i < length s → scalar (getD s i 0) ≡ false → i ≡ scalars s
+pub at-bad : {s : List ℕ} {i : ℕ} → Judged s i → i < length s → isPoint (getD s i 0) ≡ false → i ≡ scalars s
 at-bad {s} {i} j h e = omega (arith, j .sum, ap scalars (front-1 s i (omega arith)), first-bad (getD s i 0) (drop (i + 1) s) e)
 
 pub at-end : {s : List ℕ} {i : ℕ} → Judged s i → length s ≤ i → i ≡ scalars s
 at-end {s} {i} j h = omega (arith, j .sum, ap scalars (drop-of-length-le s h), no-scalars)
 
 -- where all are code points, each is
-pub first-of : (x : ℕ) (s : List ℕ) (t : Bool) → scalar x ≡ t → scalars (x ∷ s) ≡ suc (length s) → (scalar x ≡ true) × (scalars s ≡ length s)
+pub first-of : (x : ℕ) (s : List ℕ) (t : Bool) → isPoint x ≡ t → scalars (x ∷ s) ≡ suc (length s) → (isPoint x ≡ true) × (scalars s ≡ length s)
 first-of x s true q e = (q, omega (arith, first-good x s q))
 first-of x s false q e = absurd (omega (arith, first-bad x s q))
 
-pub each : (s : List ℕ) (i : ℕ) → scalars s ≡ length s → i < length s → scalar (getD s i 0) ≡ true
+pub each : (s : List ℕ) (i : ℕ) → scalars s ≡ length s → i < length s → isPoint (getD s i 0) ≡ true
 each [] i e h = absurd (omega arith)
-each (x ∷ s) zero e h = first-of x s (scalar x) refl e .0
-each (x ∷ s) (suc i) e h = each s i (first-of x s (scalar x) refl e .1) (omega arith)
+each (x ∷ s) zero e h = first-of x s (isPoint x) refl e .0
+each (x ∷ s) (suc i) e h = each s i (first-of x s (isPoint x) refl e .1) (omega arith)
 
 pub scalars-most : (s : List ℕ) → scalars s ≤ length s
 unfolding scalars
 scalars-most [] = omega arith
 scalars-most (x ∷ s) =
     let h = scalars-most s in
-    pick-elim (λ (n : ℕ). n ≤ suc (length s)) (scalar x) (λ _. omega arith) (λ _. omega arith)
+    pick-elim (λ (n : ℕ). n ≤ suc (length s)) (isPoint x) (λ _. omega arith) (λ _. omega arith)

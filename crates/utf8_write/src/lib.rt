@@ -4,19 +4,12 @@
 ghost use mathlib.Core.Path.{_≡_};
 ghost use mathlib.Core.Bool.{true};
 ghost use mathlib.Core.List.{[], _∷_};
-ghost use Prim.Native.Nat.{_+_, _/_, _%_, _<_, _≤_, _^_};
+ghost use Prim.Native.Nat.{_+_, _/_, _<_, _≤_, _^_};
 ghost use lib.ListN.{length};
 ghost use Rattle.room.specs.Placed.{Put, answered};
-ghost use Rattle.utf8_read.specs.Table.{scalar, six, encode};
+ghost use Rattle.utf8_read.specs.Table.{six, encode};
 ghost use Rattle.utf8_read.specs.Window.{Ascii};
 ghost use Rattle.utf8_write.specs.Writing.{scalars, encode-all, Scalars, step};
-
-// A number that is a code point: no surrogate, and at most 10FFFF.
-fn is_scalar(x: u32) -> bool
-    ensures { λ r. ⌜ r ≡ scalar x ⌝ }
-{
-    (x < 0xd800) | ((0xe000 <= x) & (x <= 0x10ffff))
-}
 
 // Whether the 16 numbers from a place on are code points.
 fn clear(text: &[u32], at: usize) -> bool
@@ -26,7 +19,7 @@ fn clear(text: &[u32], at: usize) -> bool
     let mut ok = true;
     let mut k: usize = 0;
     'clear: while k < 16 {
-        ok = ok & is_scalar(text[at + k]);
+        ok = ok & numbers::is_point(text[at + k]);
         k += 1;
     }
     ok
@@ -52,7 +45,7 @@ pub fn scalars_of(text: &[u32]) -> usize
 {
     let mut i = clear_end(text);
     'judge: while i < text.len() {
-        if !is_scalar(text[i]) {
+        if !numbers::is_point(text[i]) {
             return i;
         }
         i += 1;

@@ -11,6 +11,8 @@ pub use due::is_counted;
 pub use due::is_refusal;
 pub use due::room_due;
 pub use number::Line;
+pub use number::as_u8;
+pub use number::as_u32;
 pub use number::behind;
 pub use number::numbers_i64;
 pub use number::numbers_u8;

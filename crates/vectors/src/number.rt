@@ -73,11 +73,12 @@ fn number_at(bytes: &[u8], at: usize) -> Number
     }
 }
 
-fn as_u8(n: u64) -> u8 {
+// The largest where a number does not fit.
+pub fn as_u8(n: u64) -> u8 {
     if n < 256 { n as u8 } else { 255 }
 }
 
-fn as_u32(n: u64) -> u32 {
+pub fn as_u32(n: u64) -> u32 {
     if n < 4294967296 { n as u32 } else { 4294967295 }
 }
 

@@ -9,10 +9,11 @@ use native.Mathlib.Numerals.{add-one}
 use lib.ListN.{length, getD, drop, drop-of-length-le}
 use lib.Seq.{drop-cons}
 use lib.Bits.{bitOr, or-add-and, and-le-l, and-le-r}
-use borrow.Author.Tests.{lt-ltb}
 use Rattle.refusal.specs.declared.Refusal.the-variants.{CodePoint}
 use Rattle.verdict.specs.declared.Verdict.the-variants.{Accepted, Refused}
-use Rattle.verdict.specs.Points.{isPoint, pointsFrom, Reading, Searched}
+use Rattle.numbers.specs.Points.{isPoint}
+use Rattle.numbers.proofs.Points.{point-low}
+use Rattle.verdict.specs.Points.{pointsFrom, Reading, Searched}
 
 pub reads-begin : (text : List ℕ) (from : ℕ) → from ≤ length text → Reading text from from
 reads-begin text from l = record { most = l; rest = refl }
@@ -58,7 +59,7 @@ scan-end {text} {at} {end} {i} h l e = let all : i ≡ end = omega (arith, h .mo
 pub low-both : (bits c : ℕ) → bitOr bits c < 55296 → (bits < 55296) × (isPoint c ≡ true)
 low-both bits c h =
     let l : c < 55296 = omega (arith, or-add-and bits c, and-le-l bits c) in
-    (omega (arith, or-add-and bits c, and-le-r bits c), rw (lt-ltb c 55296 l))
+    (omega (arith, or-add-and bits c, and-le-r bits c), point-low c l)
 
 -- a search that found none
 pub none-bad : {text : List ℕ} {from to i : ℕ} → Reading text from i → i ≤ to → to ≤ i → Searched text from to to

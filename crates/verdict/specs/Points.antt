@@ -1,18 +1,14 @@
 -- Refusal 4. Assumes nothing.
 use Prim.Native.Nat.{ℕ, _+_, _≤_, _<_}
 use mathlib.Core.Path.{_≡_}
-use mathlib.Core.Bool.{Bool, true, false, _&&_, _||_}
+use mathlib.Core.Bool.{true, false}
 use mathlib.Core.List.{List, [], _∷_}
-use lib.Dec.{leb, ltb}
 use lib.ListN.{length, getD, drop}
+use Rattle.numbers.specs.Points.{isPoint}
 use Rattle.refusal.specs.declared.Refusal.the-variants.{CodePoint}
 use Rattle.verdict.specs.declared.Verdict.{Verdict}
 use Rattle.verdict.specs.declared.Verdict.the-variants.{Accepted, Refused}
 use Rattle.verdict.specs.Verdicts.{andThen}
-
--- "a number above 10FFFF hex or in D800 to DFFF" is none
-abbrev pub isPoint : ℕ → Bool
-isPoint c = ltb c 55296 || (ltb 57343 c && leb c 1114111)
 
 -- "4: a lent text holds a number above 10FFFF hex or in D800 to DFFF. Carries: its index": from index i on
 unfoldable pub pointsFrom : List ℕ → ℕ → Verdict

@@ -3,18 +3,11 @@ ghost use mathlib.Core.Path.{_≡_};
 ghost use Prim.Native.Nat.{_<_, _≤_};
 ghost use lib.ListN.{length};
 ghost use mathlib.Core.Bool.{true};
-ghost use Rattle.verdict.specs.Points.{isPoint, pointsFrom, pointsVerdict, Reading, Searched};
+ghost use Rattle.verdict.specs.Points.{pointsFrom, pointsVerdict, Reading, Searched};
 
 pub enum Verdict {
     Accepted,
     Refused(refusal::Refusal),
-}
-
-// Whether a number is a code point that a text may hold.
-fn is_point(c: u32) -> bool
-    ensures { λ r. ⌜ r ≡ isPoint c ⌝ }
-{
-    (c < 0xD800) | ((0xDFFF < c) & (c <= 0x10FFFF))
 }
 
 // Whether the numbers from one place to another are below the surrogates; they may be and it is not told,
@@ -41,7 +34,7 @@ fn all_points(text: &[u32], at: usize, end: usize) -> bool
     let mut points = true;
     let mut i = at;
     'block: while i < end {
-        points = points & is_point(text[i]);
+        points = points & numbers::is_point(text[i]);
         i += 1;
     }
     points
@@ -55,7 +48,7 @@ fn points_to(text: &[u32], at: usize, end: usize) -> usize
     let mut i = at;
     'points: while i < end {
         let c = text[i];
-        if is_point(c) {
+        if numbers::is_point(c) {
             i += 1;
         } else {
             return i;

@@ -7,9 +7,9 @@ use native.Mathlib.Omega.{arith}
 use lib.ListN.{length, take, drop, length-append}
 use lib.Seq.{take-add, drop-drop}
 use Rattle.room.specs.Placed.{placed, Put}
-use Rattle.diff.proofs.Building.{placed-length, placed-more}
+use Rattle.room.proofs.Placing.{placed-length, placed-more}
 use Rattle.records.specs.declared.Token.{Token}
-use Rattle.records.specs.Tokens.{tokenAt, tokensFrom, spell, spelled, spelling}
+use Rattle.records.specs.Tokens.{tokenAt, tokensFrom, spelled, spelling}
 use Rattle.records.proofs.Tokens.{from-more, from-none, length-spell}
 use Rattle.shapes.specs.Accepted.{AllIn}
 use Rattle.words.specs.Words.{Lends, firstStart}

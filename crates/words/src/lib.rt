@@ -1,17 +1,11 @@
 // Words into a lent text room: a range of the original, and what a run of tokens spells. Each is put
 // at a place; what stands before and past it is as it was.
-ghost use mathlib.Core.Path.{_≡_};
+use numbers::wide;
 ghost use Prim.Native.Nat.{_+_, _≤_};
 ghost use lib.ListN.{length, take, drop};
 ghost use Rattle.room.specs.Placed.{Put};
 ghost use Rattle.records.specs.Tokens.{tokensLent, tokensFrom, spelling};
 ghost use Rattle.words.specs.Words.{Lends, firstStart};
-
-fn wide(x: u32) -> usize
-    ensures { λ r. ⌜ r ≡ x ⌝ }
-{
-    x as usize
-}
 
 // So many code points of the original from a place on.
 pub fn put_original(

@@ -9,7 +9,8 @@ use native.Mathlib.Decide.{decLt}
 use lib.ListN.{length, getD, drop, take, set, length-append, length-set}
 use lib.Seq.{set-split}
 use Rattle.room.specs.Placed.{placed, Put}
-use Rattle.diff.proofs.Building.{placed-length, placed-more, put-none}
+use Rattle.room.proofs.Placing.{placed-length, placed-more}
+use Rattle.string_builder.proofs.Stops.{put-none}
 use Rattle.edit_format.specs.Digits.{digit, digits}
 use Rattle.edit_format.specs.Items.{Add}
 use Rattle.edit_format.specs.Written.{points, numberLine, addKey, itemLine}

@@ -2,20 +2,17 @@
 -- Both loops take `digits-last` apart, one digit a turn. Assumes nothing.
 use mathlib.Core.Path.{_≡_, refl, sym, ap, _∙_}
 use mathlib.Core.List.{List, [], _∷_, _++_, append-assoc, append-nil}
-use Prim.Native.Nat.{ℕ, zero, suc, _+_, _-_, _*_, _/_, _%_, _≤_, _<_, zero-le}
-use native.Mathlib.Nat.{mod-lt}
+use Prim.Native.Nat.{ℕ, zero, suc, _+_, _-_, _/_, _%_, _≤_, _<_}
 use native.Mathlib.Omega.{arith}
 use native.Mathlib.Decide.{decLt}
 use lib.ListN.{length, take, drop, getD, set, length-append, length-set}
 use lib.Seq.{take-suc, set-at, length-take-le}
 use lib.Dec.{ltb}
-use borrow.Author.Tests.{lt-ltb, le-ltb}
-use Rattle.room.specs.Choice.{pick}
 use Rattle.room.specs.Placed.{placed, Put}
 use Rattle.edit_format.specs.Digits.{digit, digits, digitsIn}
-use Rattle.edit_format.proofs.Picks.{pick-elim}
+use Rattle.room.proofs.Choices.{pick-elim}
 use Rattle.edit_format.proofs.DigitLaws.{digits-one, digits-last}
-use Rattle.diff.proofs.Building.{placed-none, placed-length}
+use Rattle.room.proofs.Placing.{placed-none}
 
 length-in : (f m n : ℕ) → length (digitsIn f m n) ≤ f + 1
 unfolding digitsIn

@@ -1,7 +1,7 @@
 -- `is_good` says yes only of a list in which there is nothing to refuse.
 -- Each no is an empty promise. Assumes nothing.
 use Rattle.checks.proofs.Passing.{good-list}
-use Rattle.verdict.proofs.Bools.{no-way}
+use Rattle.room.proofs.Choices.{no-way}
 use borrow.Author.Tests.{not-false}
 use native.Mathlib.Omega.{arith}
 use borrow.Author.Needs.{needs}

@@ -2,7 +2,7 @@
 -- Each no is an empty promise; a run that is whole is an insert's. Assumes nothing.
 use Rattle.checks.proofs.Passing.{whole-insert}
 use Rattle.sizes.proofs.Sums.{lent-fits}
-use Rattle.verdict.proofs.Bools.{no-way}
+use Rattle.room.proofs.Choices.{no-way}
 use borrow.Author.Tests.{not-false}
 use mathlib.Core.Path.{sym, _∙_}
 use borrow.Author.Needs.{needs}

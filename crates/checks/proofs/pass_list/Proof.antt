@@ -1,7 +1,7 @@
 -- `pass_list` sums up a list, and gives no pass where it may have found something to refuse.
 -- The loop keeps `Passing`, whose ways are in the file of that name. Assumes nothing.
 use Rattle.checks.proofs.Passing.{Passing, passing-begins, retains-most, passes-insert, passes-part, passed}
-use Rattle.verdict.proofs.Bools.{no-way}
+use Rattle.room.proofs.Choices.{no-way}
 use borrow.Author.Tests.{not-false}
 use native.Mathlib.Omega.{arith}
 use mathlib.Core.Path.{refl, sym, _∙_}

@@ -1,7 +1,7 @@
 -- `pass_run` tells that a run's tokens are good, and their text up to the cap.
 -- The loop keeps `Running`, whose ways are in Passing. Assumes nothing.
 use Rattle.checks.proofs.Passing.{Running, run-begins, run-on, run-ends}
-use Rattle.verdict.proofs.Bools.{no-way}
+use Rattle.room.proofs.Choices.{no-way}
 use borrow.Author.Tests.{not-false}
 use mathlib.Core.Path.{refl, sym, _∙_}
 use Prim.Native.Nat.{_-_}

@@ -7,7 +7,6 @@ use native.Mathlib.Omega.{arith}
 use native.Mathlib.Nat.{add-zero}
 use mathlib.Core.Path.{_≡_, sym, _∙_}
 use Prim.Native.Nat.{_+_, _-_, _≤_, zero-le}
-use borrow.Author.Needs.{needs}
 use Rattle.edit_lines.proofs.has_key.Statement.{statement}
 use Rattle.edit_lines.proofs.has_key.Tie as tie
 

@@ -1,8 +1,7 @@
 -- Shown: `number_line` answers `lineAt`.
 -- How: each way through it is a law of proofs/Begins.antt.
-use lib.ListN.{length, drop, length-drop}
-use Prim.Native.Nat.{_≤_, _-_}
-use mathlib.Core.Path.{_≡_, sym, ap, _∙_}
+use lib.ListN.{length-drop}
+use mathlib.Core.Path.{sym, ap, _∙_}
 use native.Mathlib.Omega.{arith}
 use Rattle.edit_lines.proofs.Begins.{long}
 use Rattle.edit_lines.specs.Scan.{lineAt, closedAt}

@@ -1,10 +1,9 @@
 -- Shown: `add_line` meets its contract.
 -- How: each way through it is a law of proofs/ItemLines.antt.
 use lib.ListN.{length-drop}
-use mathlib.Core.Path.{refl, sym, _∙_}
+use mathlib.Core.Path.{sym, _∙_}
 use native.Mathlib.Omega.{arith}
 use Rattle.edit_format.specs.Written.{addKey}
-use Rattle.edit_read.specs.Judged.{PointsRead}
 use Rattle.edit_lines.proofs.Begins.{long}
 use Rattle.edit_read.proofs.ItemLines.{add-off, add-fails, add-fits}
 use borrow.Author.Needs.{needs}

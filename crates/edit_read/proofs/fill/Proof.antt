@@ -1,7 +1,6 @@
 -- Shown: `fill` meets its contract.
 -- How: loop `items` keeps `Filling`, and each way through it is a law of proofs/Filled.antt.
 use Prim.Native.Nat.{_-_}
-use mathlib.Core.Path.{sym, _∙_}
 use native.Mathlib.Omega.{arith}
 use Rattle.edit_read.proofs.Filled.{Filling, begins, items-long, text-long, record-fits, text-fits, accepting, never-bad, goes-on, items-all, text-all}
 use borrow.Author.Needs.{needs}

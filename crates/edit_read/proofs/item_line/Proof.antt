@@ -4,7 +4,6 @@ use native.Mathlib.Omega.{arith}
 use borrow.Author.Tests.{eq-eqb, ne-eqb}
 use Rattle.edit_format.specs.Reading.{keeping, dropping, adding, kindOf}
 use Rattle.edit_read.proofs.ItemLines.{cut-off, as-kind}
-use borrow.Author.Needs.{needs}
 use Rattle.edit_read.proofs.item_line.Statement.{statement}
 use Rattle.edit_read.proofs.item_line.Tie as tie
 

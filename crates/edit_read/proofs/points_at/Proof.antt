@@ -1,8 +1,7 @@
 -- Shown: `points_at` meets its contract.
 -- How: loop `points` keeps `SoFar`, and each way through it is a law of proofs/Adding.antt.
 use Prim.Native.Nat.{_-_, _+_}
-use mathlib.Core.Path.{sym, ap, _∙_}
-use native.Mathlib.Omega.{arith}
+use mathlib.Core.Path.{sym, _∙_}
 use Rattle.edit_read.proofs.Adding.{SoFar, starts, goes-on, ends, fails, is-full}
 use borrow.Author.Needs.{needs}
 use Rattle.edit_read.proofs.points_at.Statement.{statement}

@@ -1,6 +1,5 @@
 -- Shown: `read` meets its contract.
 -- How: each way through it is a law of proofs/Filled.antt.
-use native.Mathlib.Omega.{arith}
 use Rattle.edit_read.proofs.Filled.{refused, few-records, little-text, fillable, filled}
 use borrow.Author.Needs.{needs}
 use Rattle.edit_read.proofs.read.Statement.{statement}

@@ -1,8 +1,7 @@
 -- Shown: `read_header` meets its contract.
 -- How: each way through it is a law of proofs/HeadLines.antt.
 use mathlib.Core.Path.{refl, sym, _∙_}
-use native.Mathlib.Omega.{arith}
-use Rattle.edit_format.specs.Reading.{form, original, result, items, keyOf, several}
+use Rattle.edit_format.specs.Reading.{form, original, result, keyOf, several}
 use Rattle.edit_read.proofs.HeadLines.{ends-in, no-form, other-form, form-read, no-original, long-original, original-read, no-result, result-read, no-items, many-items, items-read}
 use borrow.Author.Needs.{needs}
 use Rattle.edit_read.proofs.read_header.Statement.{statement}

@@ -1,7 +1,6 @@
 -- Shown: `check` answers `checkedBy`.
 -- How: each way through it is a law of proofs/Checking.antt.
 use mathlib.Core.Path.{sym, ap, _∙_}
-use native.Mathlib.Omega.{arith}
 use Rattle.edit_write.specs.Passes.{shaped}
 use Rattle.diff.specs.Passes.{pointed}
 use Rattle.edit_write.proofs.Checking.{many-items, long-text, too-big, bad-point, bad-shape, all-fine}

@@ -3,7 +3,6 @@
 use Prim.Native.Nat.{_-_}
 use native.Mathlib.Omega.{arith}
 use Rattle.edit_write.proofs.Counting.{ItemsCount, items-begin, items-more, items-end}
-use borrow.Author.Needs.{needs}
 use Rattle.edit_write.proofs.items_length.Statement.{statement}
 use Rattle.edit_write.proofs.items_length.Tie as tie
 

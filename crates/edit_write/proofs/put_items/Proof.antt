@@ -1,6 +1,5 @@
 -- Shown: `put_items` meets its contract.
 -- How: loop `items` keeps `Emitting`, and each way through it is a law of proofs/Emitting.antt.
-use borrow.Author.Needs.{needs}
 use Rattle.edit_write.proofs.Emitting.{Emitting, emit-begins, item-in, emit-more, emit-ends}
 use native.Mathlib.Omega.{arith}
 use Prim.Native.Nat.{_-_}

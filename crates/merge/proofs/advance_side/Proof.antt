@@ -1,7 +1,6 @@
 -- `advance_side` looks at what is next on the side of a number.
 -- By the number. Assumes nothing.
 use borrow.Author.Tests.{eq-eqb, ne-eqb}
-use borrow.Author.Needs.{needs}
 use Rattle.merge.proofs.advance_side.Statement.{statement}
 use Rattle.merge.proofs.advance_side.Tie as tie
 

@@ -1,10 +1,9 @@
 -- `run` makes all turns of the merge: the rooms hold what the definition gives. The loop's invariant is Going, kept by each turn;
 -- its measure is the work that is left of both lists. Assumes nothing.
-use Prim.Native.Nat.{ℕ, _+_}
-use mathlib.Core.Path.{_≡_, sym, _∙_}
+use Prim.Native.Nat.{_+_}
+use mathlib.Core.Path.{sym, _∙_}
 use native.Mathlib.Omega.{arith}
 use borrow.Author.Needs.{needs}
-use lib.ListN.{length}
 use Rattle.merging.specs.Merge.{work}
 use Rattle.turns.specs.Looking.{listFrom, aheadOf}
 use Rattle.merge.proofs.Running.{Going}

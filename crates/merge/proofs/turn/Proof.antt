@@ -11,7 +11,8 @@ use Rattle.records.specs.declared.Cursor.{Cursor}
 use Rattle.turns.specs.Remembering.{Rememberable}
 use Rattle.turns.specs.declared.Memory.{Memory}
 use Rattle.turns.specs.declared.Ahead.{Ahead}
-use Rattle.operation.specs.Views.{reach, most, ofSpans, Lies}
+use Rattle.numbers.specs.Sizes.{most}
+use Rattle.operation.specs.Views.{reach, ofSpans, Lies}
 use Rattle.operation.specs.declared.Last.{Last}
 use Rattle.operation.specs.declared.Next.{Next}
 use Rattle.merging.specs.Turn.{emitted}

@@ -1,13 +1,12 @@
 -- Shown: `insert_overlap` answers `overlapOf`.
 -- How: each way through it is a law of proofs/Scratch.antt.
 use Rattle.operation.proofs.Scratch.{part-is, scratched, rest-is, untouched}
-use Rattle.overlap.specs.Overlap.{overlapOf}
 use Rattle.overlap.specs.Table.{Table, Filled}
 use borrow.Rule.Slice.PartMut.{midOf, putMid, mid-len}
-use lib.Seq.{slice, length-slice}
+use lib.Seq.{slice}
 use lib.ListN.{length, take, drop}
 use mathlib.Core.List.{List}
-use mathlib.Core.Path.{_≡_, sym, ap, _∙_, subst}
+use mathlib.Core.Path.{_≡_, sym, _∙_, subst}
 use Prim.Native.Nat.{ℕ, _+_, _-_, _≤_}
 use native.Mathlib.Omega.{arith}
 use borrow.Author.Needs.{needs}

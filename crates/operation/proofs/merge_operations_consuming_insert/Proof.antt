@@ -10,7 +10,7 @@ use Rattle.operation.specs.declared.Last.the-variants.{Inserted}
 use Rattle.merging.specs.declared.Op.the-variants.{Insert}
 use Rattle.overlap.proofs.Overlaps.{overlaps}
 use Rattle.overlap.specs.declared.Range.{Range}
-use mathlib.Core.Path.{_≡_, sym, ap, _∙_}
+use mathlib.Core.Path.{sym, ap, _∙_}
 use Prim.Native.Nat.{ℕ}
 use native.Mathlib.Omega.{arith}
 use borrow.Author.Needs.{needs}

@@ -4,7 +4,6 @@ use Rattle.operation.proofs.Scratch.{part-is}
 use Rattle.operation.specs.Meets.{placeBy}
 use Rattle.operation.specs.Views.{Placeable}
 use Rattle.operation.specs.declared.Met.{Met}
-use Rattle.operation.specs.declared.Last.the-variants.{Inserted}
 use Rattle.operation.specs.declared.Last.{Last}
 use borrow.Rule.Slice.PartMut.{mid-len}
 use mathlib.Core.List.{List}

@@ -3,7 +3,6 @@
 use Prim.Native.Nat.{_+_, _*_}
 use Rattle.operation.proofs.Sums.{Counting, counting, counted, all-counted}
 use Rattle.operation.specs.Views.{ofSpans}
-use lib.ListN.{length}
 use Prim.Native.Nat.{_-_}
 use native.Mathlib.Omega.{arith}
 use borrow.Author.Needs.{needs}

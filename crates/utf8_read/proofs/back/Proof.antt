@@ -3,7 +3,7 @@
 use Rattle.utf8_read.proofs.Judging.{not-first, stayed, came}
 use native.Mathlib.Omega.{arith}
 use mathlib.Core.Path.{sym, _∙_}
-use Prim.Native.Nat.{_-_, _≤_, _<_}
+use Prim.Native.Nat.{_≤_, _<_}
 use borrow.Author.Needs.{needs}
 use Rattle.utf8_read.proofs.back.Statement.{statement}
 use Rattle.utf8_read.proofs.back.Tie as tie

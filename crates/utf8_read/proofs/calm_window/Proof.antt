@@ -2,7 +2,7 @@
 -- The three blocks overlap to the whole window. Assumes nothing.
 use Rattle.utf8_read.proofs.Judging.{three-calm}
 use mathlib.Core.Path.{sym}
-use Rattle.utf8_read.proofs.Tests.{never}
+use Rattle.room.proofs.Choices.{never}
 use borrow.Author.Needs.{needs}
 use Rattle.utf8_read.proofs.calm_window.Statement.{statement}
 use Rattle.utf8_read.proofs.calm_window.Tie as tie

@@ -4,7 +4,7 @@ use Prim.Native.Nat.{ℕ, _+_, _-_, _≤_}
 use mathlib.Core.Path.{_≡_, sym, _∙_}
 use mathlib.Core.Bool.{true}
 use native.Mathlib.Omega.{arith}
-use Rattle.utf8_read.specs.Table.{scalar}
+use Rattle.numbers.specs.Points.{isPoint}
 use Rattle.utf8_read.proofs.Judging.{each-more}
 use Rattle.utf8_write.specs.Writing.{Scalars}
 use borrow.Author.Needs.{needs}
@@ -20,17 +20,17 @@ abbrev μ-clear : tie.MeasureT-clear
 clear-holds : tie.Need-clear-holds Inv-clear μ-clear
 clear-holds c = (omega arith, λ _ k l m. absurd (omega arith))
 
-add-is-scalar : tie.Need-add-is-scalar Inv-clear μ-clear
-add-is-scalar c = search needs
+add-is-point : tie.Need-add-is-point Inv-clear μ-clear
+add-is-point c = search needs
 
-mul-is-scalar : tie.Need-mul-is-scalar Inv-clear μ-clear
-mul-is-scalar c = search needs
+mul-is-point : tie.Need-mul-is-point Inv-clear μ-clear
+mul-is-point c = search needs
 
-shared-slice-read-is-scalar : tie.Need-shared-slice-read-is-scalar Inv-clear μ-clear
-shared-slice-read-is-scalar c = search needs
+shared-slice-read-is-point : tie.Need-shared-slice-read-is-point Inv-clear μ-clear
+shared-slice-read-is-point c = search needs
 
-is-scalar-requires : tie.Need-is-scalar-requires Inv-clear μ-clear
-is-scalar-requires c κs = search needs
+is-point-requires : tie.Need-is-point-requires Inv-clear μ-clear
+is-point-requires c κs = search needs
 
 add-k : tie.Need-add-k Inv-clear μ-clear
 add-k c = search needs
@@ -43,8 +43,8 @@ clear-again c =
     let c3 = c .before .before .before in
     let c5 = c3 .before .before in (
       omega arith,
-      each-more (λ (x : ℕ). scalar x ≡ true) (c5 .args .text .now) (c5 .args .at) (c5 .args .at + c3 .clear .k) _ (c3 .clear .ok) _ (c3 .clear .inv .1)
-          (λ t. sym (c .is-scalar .ensures) ∙ t) (omega arith),
+      each-more (λ (x : ℕ). isPoint x ≡ true) (c5 .args .text .now) (c5 .args .at) (c5 .args .at + c3 .clear .k) _ (c3 .clear .ok) _ (c3 .clear .inv .1)
+          (λ t. sym (c .is-point .ensures) ∙ t) (omega arith),
     )
 
 returns : tie.Need-returns Inv-clear μ-clear
@@ -57,10 +57,10 @@ clear-spec =
     Inv-clear
     μ-clear
     clear-holds
-    add-is-scalar
-    mul-is-scalar
-    shared-slice-read-is-scalar
-    is-scalar-requires
+    add-is-point
+    mul-is-point
+    shared-slice-read-is-point
+    is-point-requires
     add-k
     clear-less
     clear-again

@@ -1,9 +1,9 @@
 -- `clear_end` goes on by blocks of code points.
 -- ASCII numbers are code points, and stretches of code points join. Assumes nothing.
 use Rattle.utf8_write.specs.Writing.{Scalars}
-use Rattle.utf8_write.proofs.Scalar.{scalar-low}
+use Rattle.numbers.proofs.Points.{point-low}
 use Rattle.utf8_read.proofs.Judging.{each-join}
-use Rattle.utf8_read.specs.Table.{scalar}
+use Rattle.numbers.specs.Points.{isPoint}
 use borrow.Author.Tests.{not-false}
 use native.Mathlib.Omega.{arith}
 use mathlib.Core.Bool.{true}
@@ -23,7 +23,7 @@ plain-end-requires : tie.Need-plain-end-requires Inv-many μ-many
 plain-end-requires c κs = omega arith
 
 many-holds : tie.Need-many-holds Inv-many μ-many
-many-holds c = (c .plain-end .ensures .1, λ k l m. scalar-low _ (omega (arith, c .plain-end .ensures .2 k l m)))
+many-holds c = (c .plain-end .ensures .1, λ k l m. point-low _ (omega (arith, c .plain-end .ensures .2 k l m)))
 
 sub-many : tie.Need-sub-many Inv-many μ-many
 sub-many c = c .many .inv .0
@@ -45,7 +45,7 @@ many-again c =
     let c3 = c .before .before .before in
     let c6 = c3 .before .before .before in (
       omega arith,
-      each-join (λ (x : ℕ). scalar x ≡ true) (c6 .args .text .now) 0 (c3 .many .end) (c3 .many .end) _ (omega arith) (c3 .many .inv .1)
+      each-join (λ (x : ℕ). isPoint x ≡ true) (c6 .args .text .now) 0 (c3 .many .end) (c3 .many .end) _ (omega arith) (c3 .many .inv .1)
           (c .before .clear .ensures (not-false _ (c .if1 .left))),
     )
 

@@ -22,20 +22,20 @@ clear-end-requires c κs = search needs
 judge-holds : tie.Need-judge-holds Inv-judge μ-judge
 judge-holds c = by-blocks _ _ (c .clear-end .ensures .0) (c .clear-end .ensures .1)
 
-mul-is-scalar : tie.Need-mul-is-scalar Inv-judge μ-judge
-mul-is-scalar c = search needs
+mul-is-point : tie.Need-mul-is-point Inv-judge μ-judge
+mul-is-point c = search needs
 
-shared-slice-read-is-scalar : tie.Need-shared-slice-read-is-scalar Inv-judge μ-judge
-shared-slice-read-is-scalar c = search needs
+shared-slice-read-is-point : tie.Need-shared-slice-read-is-point Inv-judge μ-judge
+shared-slice-read-is-point c = search needs
 
-is-scalar-requires : tie.Need-is-scalar-requires Inv-judge μ-judge
-is-scalar-requires c κs = search needs
+is-point-requires : tie.Need-is-point-requires Inv-judge μ-judge
+is-point-requires c κs = search needs
 
 returns : tie.Need-returns Inv-judge μ-judge
 returns c =
     let c3 = c .before .before .before in
     let c4 = c3 .before in
-    at-bad (c4 .judge .inv) (c3 .judge-test .taken) (sym (c .before .is-scalar .ensures) ∙ not-true _ (c .if1 .taken))
+    at-bad (c4 .judge .inv) (c3 .judge-test .taken) (sym (c .before .is-point .ensures) ∙ not-true _ (c .if1 .taken))
 
 add-i : tie.Need-add-i Inv-judge μ-judge
 add-i c = search needs
@@ -47,7 +47,7 @@ judge-again : tie.Need-judge-again Inv-judge μ-judge
 judge-again c =
     let c3 = c .before .before .before in
     let c4 = c3 .before in
-    by-one (c4 .judge .inv) (c3 .judge-test .taken) (sym (c .before .is-scalar .ensures) ∙ not-false _ (c .if1 .left))
+    by-one (c4 .judge .inv) (c3 .judge-test .taken) (sym (c .before .is-point .ensures) ∙ not-false _ (c .if1 .left))
 
 returns-2 : tie.Need-returns-2 Inv-judge μ-judge
 returns-2 c = at-end (c .before .judge .inv) (omega arith)
@@ -60,9 +60,9 @@ scalars-of-spec =
     μ-judge
     clear-end-requires
     judge-holds
-    mul-is-scalar
-    shared-slice-read-is-scalar
-    is-scalar-requires
+    mul-is-point
+    shared-slice-read-is-point
+    is-point-requires
     returns
     add-i
     judge-less

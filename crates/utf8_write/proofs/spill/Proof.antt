@@ -5,7 +5,8 @@ use Prim.Native.Nat.{_-_, _<_}
 use mathlib.Core.Path.{sym, _∙_}
 use lib.ListN.{length}
 use native.Mathlib.Omega.{arith}
-use Rattle.utf8_write.proofs.Scalar.{scalar-below, each}
+use Rattle.numbers.proofs.Points.{point-most}
+use Rattle.utf8_write.proofs.Scalar.{each}
 use Rattle.utf8_write.proofs.Spilling.{Spilling, Grown, narrow-text, narrow-room, narrow-long, begins, part-ascii, run-fits, by-run, code-fits, by-code, not-yet, as-long, ends}
 use borrow.Author.Needs.{needs}
 use Rattle.utf8_write.proofs.spill.Statement.{statement}
@@ -122,7 +123,7 @@ put-code-requires c κs =
     c3 .some .inv .grown _ (c17 .pre .1)
     (by-run (c12 .spill .inv) _ (c10 .plain-end .ensures .0) (c10 .plain-end .ensures .1) (c10 .plain-end .ensures .2) _ _ (c7 .narrow2 .ensures)) in
     let l : c3 .some .i < length (c17 .args .text .now) = omega (arith, c4 .near .ensures) in
-    (omega (arith, scalar-below _ (each _ _ (c17 .pre .0) l)), code-fits f l (c17 .pre .1))
+    (omega (arith, point-most _ (each _ _ (c17 .pre .0) l)), code-fits f l (c17 .pre .1))
 
 add-i : tie.Need-add-i Inv-some μ-some Inv-spill μ-spill
 add-i c = omega (arith, c .before .before .before .before .before .before .before .near .ensures)

@@ -3,7 +3,6 @@
 use native.Mathlib.Omega.{arith}
 use Rattle.written_lines.proofs.Counting.{line-length}
 use Rattle.written_lines.proofs.Emitting.{put-number-line, digits-in, lf-in, line-long}
-use borrow.Author.Needs.{needs}
 use Rattle.written_lines.proofs.put_line.Statement.{statement}
 use Rattle.written_lines.proofs.put_line.Tie as tie
 

@@ -1,8 +1,8 @@
 -- `bad_point` finds the first number that is no code point. What is left of the text gives the whole answer (Points).
 -- Assumes nothing.
-use Rattle.diff.proofs.Points.{Looking, low-fine, look-begins, look-ends, look-low, look-surrogate, look-high, look-beyond}
+use Rattle.diff.proofs.Points.{Looking, low-fine, look-begins, look-ends, look-on, look-bad}
 use lib.ListN.{length}
-use mathlib.Core.Path.{sym}
+use mathlib.Core.Path.{sym, _∙_}
 use Prim.Native.Nat.{_-_}
 use borrow.Author.Needs.{needs}
 use Rattle.diff.proofs.diff.bad_point.Statement.{statement}
@@ -32,27 +32,20 @@ mul-x c = search needs
 shared-slice-read-x : tie.Need-shared-slice-read-x Inv-text μ-text
 shared-slice-read-x c = search needs
 
+is-point-requires : tie.Need-is-point-requires Inv-text μ-text
+is-point-requires c κs = search needs
+
 text-less : tie.Need-text-less Inv-text μ-text
 text-less c = search needs
 
 text-again : tie.Need-text-again Inv-text μ-text
-text-again c = look-low (c .before .before .before .text .inv) (c .before .before .text-test .taken) (c .if2 .taken)
+text-again c = look-on (c .before .before .before .before .text .inv) (c .before .before .before .text-test .taken) (sym (c .before .is-point .ensures) ∙ c .if2 .taken)
 
 returns-2 : tie.Need-returns-2 Inv-text μ-text
-returns-2 c = look-surrogate (c .before .before .before .before .text .inv) (c .before .before .before .text-test .taken) (c .before .if2 .left) (c .if3 .taken)
-
-text-less-2 : tie.Need-text-less-2 Inv-text μ-text
-text-less-2 c = search needs
-
-text-again-2 : tie.Need-text-again-2 Inv-text μ-text
-text-again-2 c = look-high (c .before .before .before .before .before .text .inv) (c .before .before .before .before .text-test .taken)
-    (c .before .if3 .left) (c .if4 .taken)
+returns-2 c = look-bad (c .before .before .before .before .text .inv) (c .before .before .before .text-test .taken) (sym (c .before .is-point .ensures) ∙ c .if2 .left)
 
 returns-3 : tie.Need-returns-3 Inv-text μ-text
-returns-3 c = look-beyond (c .before .before .before .before .before .text .inv) (c .before .before .before .before .text-test .taken) (c .if4 .left)
-
-returns-4 : tie.Need-returns-4 Inv-text μ-text
-returns-4 c = look-ends (c .before .text .inv) (c .text-test .left)
+returns-3 c = look-ends (c .before .text .inv) (c .text-test .left)
 
 pub bad-point-spec : {M : Type 1} → statement M
 bad-point-spec =
@@ -66,10 +59,8 @@ bad-point-spec =
     add-next
     mul-x
     shared-slice-read-x
+    is-point-requires
     text-less
     text-again
     returns-2
-    text-less-2
-    text-again-2
-    returns-3
-    returns-4)
+    returns-3)

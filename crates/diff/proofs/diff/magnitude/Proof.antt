@@ -6,7 +6,8 @@ use native.Mathlib.Omega.{arith}
 use native.Mathlib.Numerals.{add-one}
 use lib.IntN.{pos, negsuc, natAbs}
 use mir.Facts.{toZ-ofZ}
-use Rattle.diff.proofs.Signs.{negative, plain, plus-one, minus, neg-fits, pos-fits}
+use Rattle.numbers.proofs.Signs.{neg-fits, pos-fits}
+use Rattle.diff.proofs.Signs.{negative, plain, plus-one, minus}
 use Rattle.diff.proofs.diff.magnitude.Statement.{statement}
 use Rattle.diff.proofs.diff.magnitude.Tie as tie
 

@@ -5,7 +5,7 @@ use Rattle.diff.specs.Checks.{used}
 use borrow.Author.Tests.{lt-ltb, le-ltb}
 use lib.ListN.{length}
 use mathlib.Core.Path.{refl, sym, _∙_}
-use Prim.Native.Nat.{_+_, _-_, _/_}
+use Prim.Native.Nat.{_+_, _-_}
 use borrow.Author.Needs.{needs}
 use Rattle.diff.proofs.diff.passes.Statement.{statement}
 use Rattle.diff.proofs.diff.passes.Tie as tie

@@ -1,6 +1,7 @@
 -- `text_item` is what a text asks for. Start and length are no negative numbers where they are cast (Signs).
 -- Assumes nothing.
-use Rattle.diff.proofs.Signs.{negative, plain, pos-fits}
+use Rattle.numbers.proofs.Signs.{pos-fits}
+use Rattle.diff.proofs.Signs.{negative, plain}
 use Rattle.diff.specs.Items.{ranged}
 use borrow.Author.Tests.{le-leb, lt-leb}
 use mir.Facts.{toZ-ofZ}

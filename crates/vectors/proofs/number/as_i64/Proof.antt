@@ -1,6 +1,6 @@
 -- `as_i64` does not wrap: a magnitude below 2^63 fits with either sign.
 -- Assumes nothing.
-use Rattle.vectors.proofs.Signs.{pos-fits, neg-fits}
+use Rattle.numbers.proofs.Signs.{pos-fits, neg-fits}
 use mir.Facts.{toZ-ofZ}
 use lib.IntN.{+ℤ-idl}
 use borrow.Author.Needs.{needs}
