@@ -1,9 +1,10 @@
 -- Lists that were accepted keep the facts of an accepted list; a list that keeps them, over texts of code points, is accepted.
 -- The checks of the chain, one by one. Assumes nothing.
-use Prim.Native.Nat.{ℕ}
+use Prim.Native.Nat.{ℕ, min}
 use mathlib.Core.Path.{_≡_}
 use mathlib.Core.Bool.{true, _&&_}
 use mathlib.Core.List.{List}
+use native.Mathlib.Omega.{arith}
 use lib.ListN.{length}
 use borrow.Author.Tests.{le-leb}
 use Rattle.records.specs.declared.Operation.{Operation}
@@ -15,7 +16,8 @@ use Rattle.verdict.proofs.Bools.{and-left, and-right}
 use Rattle.verdict.proofs.Chains.{first-passed, rest-passed, size-passed}
 use Rattle.sizes.specs.declared.Limits.{Limits}
 use Rattle.sizes.specs.Texts.{total, claimedBy, insertedBy, textLength}
-use Rattle.sizes.specs.Sizes.{lentFits, listFits}
+use Rattle.sizes.specs.Sizes.{Small, lentFits, listFits}
+use Rattle.sizes.proofs.Sums.{cap}
 use Rattle.shapes.specs.Accepted.{AcceptedList}
 use Rattle.shapes.proofs.Accepted.{list-facts, records-yes, tiling-yes, within-yes}
 use Rattle.checks.specs.Lists.{listVerdict, listsVerdict}
@@ -31,6 +33,11 @@ module _ (l : Limits) (original text spans keys : List ℕ) (os : List Operation
       list-facts l original text spans keys os cs (and-left (lentFits original text) (listFits l m spans keys os cs) s)
       (and-right (lentFits original text) (listFits l m spans keys os cs) s)
       (first-passed _ _ p) (first-passed _ _ q) (rest-passed _ _ q)
+
+  -- the text that an accepted list inserts is below the cap
+  pub text-known : (x : ℕ) → Small l → listVerdict l original text spans keys os cs ≡ Accepted → x ≡ min cap (total (insertedBy (length text) spans keys) os)
+      → x ≡ total (insertedBy (length text) spans keys) os
+  text-known x s h e = omega (arith, accepted-list h .inserted-most, s .text)
 
   pub verdict-yes : AcceptedList l original text spans keys os cs → pointsVerdict original text ≡ Accepted
       → listVerdict l original text spans keys os cs ≡ Accepted

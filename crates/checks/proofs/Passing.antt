@@ -2,7 +2,7 @@
 -- The loop's invariant is that of each sum and each check together. Assumes nothing.
 use Prim.Native.Nat.{ℕ, _+_, _-_, _/_, _≤_, _<_, min, zero-le}
 use mathlib.Core.Path.{_≡_, refl, sym, _∙_}
-use mathlib.Core.Bool.{true}
+use mathlib.Core.Bool.{true, false}
 use mathlib.Core.List.{List}
 use native.Mathlib.Omega.{arith}
 use native.Mathlib.Decide.{ℕ-discrete}
@@ -17,6 +17,7 @@ use Rattle.records.specs.Tokens.{tokenAt, tokensFrom}
 use Rattle.records.specs.Cursors.{cursorsOf}
 use Rattle.records.proofs.Operations as O
 use Rattle.records.proofs.Cursors as C
+use Rattle.refusal.specs.declared.Refusal.the-variants.{Size}
 use Rattle.verdict.specs.declared.Verdict.{Verdict}
 use Rattle.verdict.specs.declared.Verdict.the-variants.{Accepted, Refused}
 use Rattle.sizes.specs.declared.Limits.{Limits}
@@ -29,7 +30,8 @@ use Rattle.sizes.specs.Sizes.{Small, lentFits}
 use Rattle.shapes.specs.Tiling.{withinFrom}
 use Rattle.checks.specs.Lists.{listVerdict, listsVerdict}
 use Rattle.checks.specs.Passing.{Whole, Inserts, Summed, Good}
-use Rattle.verdict.proofs.Bools.{and-left}
+use Rattle.verdict.proofs.Bools.{and-left, first-no}
+use Rattle.verdict.proofs.Chains.{too-big}
 use Rattle.sizes.proofs.Sums.{cap, cap-cap, Adding, adding-begins, adding-in, adding-ends, inserted-other, inserted-run, Totals, totals-begin, totals-on, totals-end}
 use Rattle.shapes.proofs.Shapely.{Looking, looks-begin, looks-on, looks-end, run-is, record-insert, record-part, Recording, records-begin, records-on, records-end}
 use Rattle.shapes.proofs.Tiled.{Tiled, tiled-begin, tiled-insert, tiled-on, tiled-end}
@@ -137,7 +139,7 @@ module _ {l : Limits} {n m : ℕ} {spans keys xs : List ℕ} {count i at tokens 
 -- the sizes and the cursors, behind a pass
 pub good-list : (l : Limits) (n m : ℕ) (spans keys xs ys : List ℕ) (p : Pass) (v : Verdict) → length xs / 6 ≤ l .operations → length ys / 2 ≤ l .cursors
     → Summed l n m spans keys (operationsOf xs) p → v ≡ withinFrom (p .retained + p .inserted) (cursorsOf ys) 0 → v ≡ Accepted
-    → Good l n m spans keys (operationsOf xs) (cursorsOf ys)
+    → Good l n m spans keys (operationsOf xs) (cursorsOf ys) p
 good-list l n m spans keys xs ys p v a b h e f =
     record {
       fits =
@@ -150,25 +152,31 @@ good-list l n m spans keys xs ys p v a b h e f =
       records = sym (h .records);
       tiles = sym (h .tiles);
       within = rw (h .retained, h .inserted) at (sym e ∙ f);
+      inserted = h .inserted;
     }
 
 pub lent-few : (original text : List ℕ) → lentFits original text ≡ true → length original ≤ 65535
 lent-few original text h = leb-true (length original) 65535 (and-left (leb (length original) 65535) (leb (length text) 131070) h)
+
+pub no-size : (l : Limits) (original text spans keys : List ℕ) (os : List Operation) (cs : List Cursor) → lentFits original text ≡ false
+    → listVerdict l original text spans keys os cs ≡ Refused Size
+unfolding listVerdict
+no-size l original text spans keys os cs e = sym (too-big _ _ (first-no _ _ e))
 
 then-none : (v : Verdict) → v ≡ andThen v Accepted
 unfolding andThen
 then-none Accepted = refl
 then-none (Refused r) = refl
 
-pub good-alone : (l : Limits) (original text spans keys : List ℕ) (os : List Operation) (cs : List Cursor) → lentFits original text ≡ true
-    → Good l (length original) (length text) spans keys os cs → pointsVerdict original text ≡ listVerdict l original text spans keys os cs
+pub good-alone : (l : Limits) (original text spans keys : List ℕ) (os : List Operation) (cs : List Cursor) (p : Pass) → lentFits original text ≡ true
+    → Good l (length original) (length text) spans keys os cs p → pointsVerdict original text ≡ listVerdict l original text spans keys os cs
 unfolding listVerdict sized andThen
-good-alone l original text spans keys os cs f g =
+good-alone l original text spans keys os cs p f g =
     rw (f, g .fits, g .records, g .tiles, g .within) (then-none (pointsVerdict original text))
 
-pub good-lists : (l : Limits) (original text spans keys : List ℕ) (left right : List Operation) (cs ds : List Cursor) → lentFits original text ≡ true
-    → Good l (length original) (length text) spans keys left cs → Good l (length original) (length text) spans keys right ds
+pub good-lists : (l : Limits) (original text spans keys : List ℕ) (left right : List Operation) (cs ds : List Cursor) (p q : Pass) → lentFits original text ≡ true
+    → Good l (length original) (length text) spans keys left cs p → Good l (length original) (length text) spans keys right ds q
     → pointsVerdict original text ≡ listsVerdict l original text spans keys left right cs ds
 unfolding listsVerdict sized andThen
-good-lists l original text spans keys left right cs ds f g h =
+good-lists l original text spans keys left right cs ds p q f g h =
     rw (f, g .fits, h .fits, g .records, h .records, g .tiles, h .tiles, g .within, h .within) (then-none (pointsVerdict original text))

@@ -6,7 +6,10 @@ use lib.ListN.{length}
 use Rattle.records.specs.declared.Operation.{Operation}
 use Rattle.records.specs.declared.Cursor.{Cursor}
 use Rattle.verdict.specs.declared.Verdict.{Verdict}
+use Rattle.verdict.specs.declared.Verdict.the-variants.{Accepted, Refused}
 use Rattle.sizes.specs.declared.Limits.{Limits}
+use Rattle.checks.specs.declared.Checked.{Checked}
+use Rattle.checks.specs.declared.Checked.the-variants.{Inserted, Refused as No}
 use Rattle.verdict.specs.Verdicts.{andThen, sized}
 use Rattle.verdict.specs.Points.{pointsVerdict}
 use Rattle.sizes.specs.Texts.{textLength}
@@ -34,3 +37,8 @@ listsVerdict l original text spans keys left right leftCursors rightCursors =
     (andThen (andThen (tilingOf (length original) left) (tilingOf (length original) right))
     (andThen (withinFrom (textLength (length text) spans keys left) leftCursors 0)
     (withinFrom (textLength (length text) spans keys right) rightCursors 0)))))
+
+-- a verdict with the text that an accepted list inserts beside it
+unfoldable pub checkedOf : Verdict → ℕ → Checked
+checkedOf Accepted n = Inserted n
+checkedOf (Refused r) n = No r

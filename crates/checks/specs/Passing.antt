@@ -35,9 +35,10 @@ pub record Summed (l : Limits) (n m : ℕ) (spans keys : List ℕ) (os : List Op
   pub records : Accepted ≡ recordsFrom m spans keys os 0
   pub tiles : Accepted ≡ tilingOf n os
 
--- none of refusals 3, 1, 2 and 5 is given
-pub record Good (l : Limits) (n m : ℕ) (spans keys : List ℕ) (os : List Operation) (cs : List Cursor) : Type 0 where
+-- none of refusals 3, 1, 2 and 5 is given, and how much text is inserted
+pub record Good (l : Limits) (n m : ℕ) (spans keys : List ℕ) (os : List Operation) (cs : List Cursor) (r : Pass) : Type 0 where
   pub fits : listFits l m spans keys os cs ≡ true
   pub records : recordsFrom m spans keys os 0 ≡ Accepted
   pub tiles : tilingOf n os ≡ Accepted
   pub within : withinFrom (textLength m spans keys os) cs 0 ≡ Accepted
+  pub inserted : r .inserted ≡ total (insertedBy m spans keys) os

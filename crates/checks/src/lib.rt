@@ -8,8 +8,10 @@ ghost use Rattle.records.specs.Operations.{operationsOf};
 ghost use Rattle.records.specs.Tokens.{tokensLent, tokensFrom};
 ghost use Rattle.records.specs.Cursors.{cursorsOf};
 ghost use mathlib.Core.Bool.{true, false};
+ghost use lib.ListN.{length};
+ghost use Rattle.sizes.specs.Texts.{total, insertedBy};
 ghost use Rattle.sizes.specs.Sizes.{Small};
-ghost use Rattle.checks.specs.Lists.{listVerdict, listsVerdict};
+ghost use Rattle.checks.specs.Lists.{listVerdict, listsVerdict, checkedOf};
 ghost use Rattle.checks.specs.Passing.{Whole, Inserts, Summed, Good};
 
 // Refusals 3, 4, 1, 2 and 5 of one list, in this order: check by check.
@@ -238,8 +240,8 @@ fn pass_list(
     no_pass()
 }
 
-// Whether one pass shows that there is nothing to refuse in a list.
-fn is_good(
+// The sums of a list in which one pass shows that there is nothing to refuse.
+fn good_sums(
     limits: Limits,
     n: usize,
     m: usize,
@@ -247,29 +249,86 @@ fn is_good(
     keys: &[u32],
     operations: &[usize],
     cursors: &[usize],
-) -> bool
+) -> Pass
     requires { ⌜ Small limits × (n ≤ 65535) ⌝ }
-    ensures { λ r. ⌜ (r ≡ true → Good limits n m (now (spans .entry)) (now (keys .entry)) (operationsOf (now (operations .entry))) (cursorsOf (now (cursors .entry)))) ⌝ }
+    ensures { λ r. ⌜ (r .good ≡ true → Good limits n m (now (spans .entry)) (now (keys .entry)) (operationsOf (now (operations .entry))) (cursorsOf (now (cursors .entry))) r) ⌝ }
 {
     if limits.operations < operations.len() / 6 {
-        return false;
+        return no_pass();
     }
     if limits.cursors < cursors.len() / 2 {
-        return false;
+        return no_pass();
     }
     let sums = pass_list(limits, n, m, spans, keys, operations);
     if !sums.good {
-        return false;
+        return no_pass();
     }
     let end = sums.retained + sums.inserted;
     let verdict = shapes::check_cursors(cursors, end);
     match verdict {
-        Verdict::Accepted => true,
-        Verdict::Refused(refusal) => false,
+        Verdict::Accepted => sums,
+        Verdict::Refused(refusal) => no_pass(),
     }
 }
 
-// Refusals 3, 4, 1, 2 and 5 of one list, in this order. One pass mostly shows that there is none.
+// The verdict on a list, and of one that is accepted how much text it inserts.
+pub enum Checked {
+    Inserted(usize),
+    Refused(refusal::Refusal),
+}
+
+// The same, check by check.
+fn judge_sums(
+    limits: Limits,
+    original: &[u32],
+    text: &[u32],
+    spans: &[u32],
+    keys: &[u32],
+    operations: &[usize],
+    cursors: &[usize],
+) -> Checked
+    requires { ⌜ Small limits ⌝ }
+    ensures { λ r. ⌜ r ≡ checkedOf (listVerdict limits (now (original .entry)) (now (text .entry)) (now (spans .entry)) (now (keys .entry)) (operationsOf (now (operations .entry))) (cursorsOf (now (cursors .entry)))) (total (insertedBy (length (now (text .entry))) (now (spans .entry)) (now (keys .entry))) (operationsOf (now (operations .entry)))) ⌝ }
+{
+    match judge_list(limits, original, text, spans, keys, operations, cursors) {
+        Verdict::Refused(refusal) => Checked::Refused(refusal),
+        Verdict::Accepted => {
+            let inserted = sizes::inserted(spans, keys, text.len(), operations);
+            Checked::Inserted(inserted)
+        }
+    }
+}
+
+// Refusals 3, 4, 1, 2 and 5 of one list, in this order, or how much text it inserts. One pass mostly
+// shows that there is none.
+pub fn sum_list(
+    limits: Limits,
+    original: &[u32],
+    text: &[u32],
+    spans: &[u32],
+    keys: &[u32],
+    operations: &[usize],
+    cursors: &[usize],
+) -> Checked
+    requires { ⌜ Small limits ⌝ }
+    ensures { λ r. ⌜ r ≡ checkedOf (listVerdict limits (now (original .entry)) (now (text .entry)) (now (spans .entry)) (now (keys .entry)) (operationsOf (now (operations .entry))) (cursorsOf (now (cursors .entry)))) (total (insertedBy (length (now (text .entry))) (now (spans .entry)) (now (keys .entry))) (operationsOf (now (operations .entry)))) ⌝ }
+{
+    let n = original.len();
+    let m = text.len();
+    if !sizes::lent_fits(original, text) {
+        return Checked::Refused(refusal::Refusal::Size);
+    }
+    let sums = good_sums(limits, n, m, spans, keys, operations, cursors);
+    if !sums.good {
+        return judge_sums(limits, original, text, spans, keys, operations, cursors);
+    }
+    match verdict::check_texts(original, text) {
+        Verdict::Refused(refusal) => Checked::Refused(refusal),
+        Verdict::Accepted => Checked::Inserted(sums.inserted),
+    }
+}
+
+// Refusals 3, 4, 1, 2 and 5 of one list, in this order.
 pub fn check_list(
     limits: Limits,
     original: &[u32],
@@ -282,15 +341,10 @@ pub fn check_list(
     requires { ⌜ Small limits ⌝ }
     ensures { λ r. ⌜ r ≡ listVerdict limits (now (original .entry)) (now (text .entry)) (now (spans .entry)) (now (keys .entry)) (operationsOf (now (operations .entry))) (cursorsOf (now (cursors .entry))) ⌝ }
 {
-    let n = original.len();
-    let m = text.len();
-    if !sizes::lent_fits(original, text) {
-        return Verdict::Refused(refusal::Refusal::Size);
+    match sum_list(limits, original, text, spans, keys, operations, cursors) {
+        Checked::Refused(refusal) => Verdict::Refused(refusal),
+        Checked::Inserted(inserted) => Verdict::Accepted,
     }
-    if !is_good(limits, n, m, spans, keys, operations, cursors) {
-        return judge_list(limits, original, text, spans, keys, operations, cursors);
-    }
-    verdict::check_texts(original, text)
 }
 
 // Refusals 3, 4, 1, 2 and 5 of the two lists of a merge, each on both before the next. One
@@ -314,7 +368,8 @@ pub fn check_lists(
     if !sizes::lent_fits(original, text) {
         return Verdict::Refused(refusal::Refusal::Size);
     }
-    if !is_good(limits, n, m, spans, keys, left, left_cursors) {
+    let left_sums = good_sums(limits, n, m, spans, keys, left, left_cursors);
+    if !left_sums.good {
         return judge_lists(
             limits,
             original,
@@ -327,7 +382,8 @@ pub fn check_lists(
             right_cursors,
         );
     }
-    if !is_good(limits, n, m, spans, keys, right, right_cursors) {
+    let right_sums = good_sums(limits, n, m, spans, keys, right, right_cursors);
+    if !right_sums.good {
         return judge_lists(
             limits,
             original,

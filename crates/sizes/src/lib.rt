@@ -130,7 +130,7 @@ pub fn claimed(operations: &[usize]) -> usize
 }
 
 // The text that a list inserts, capped.
-fn inserted(spans: &[u32], keys: &[u32], n: usize, operations: &[usize]) -> usize
+pub fn inserted(spans: &[u32], keys: &[u32], n: usize, operations: &[usize]) -> usize
     ensures { λ r. ⌜ r ≡ min 1000000 (total (insertedBy n (now (spans .entry)) (now (keys .entry))) (operationsOf (now (operations .entry)))) ⌝ }
 {
     let count = operations.len() / 6;

@@ -17,8 +17,8 @@ returns : tie.Need-returns
 unfolding listsVerdict
 returns c = too-big _ _ (first-no _ _ (sym (c .before .lent-fits .ensures) ∙ not-true _ (c .if1 .taken)))
 
-is-good-requires : tie.Need-is-good-requires
-is-good-requires c κs =
+good-sums-requires : tie.Need-good-sums-requires
+good-sums-requires c κs =
     let c10 = c .before .before .before .before .before .before .before .before .before .before in
     (c10 .pre, lent-few (c10 .args .original .now) (c10 .args .text .now) (sym (c .before .lent-fits .ensures) ∙ not-false _ (c .if1 .left)))
 
@@ -28,11 +28,11 @@ judge-lists-requires c κs = search needs
 returns-2 : tie.Need-returns-2
 returns-2 c = search needs
 
-is-good-requires-2 : tie.Need-is-good-requires-2
-is-good-requires-2 c κs =
-    let c2 = c .before .before in
-    let c12 = c2 .before .before .before .before .before .before .before .before .before .before in
-    (c12 .pre, lent-few (c12 .args .original .now) (c12 .args .text .now) (sym (c2 .before .lent-fits .ensures) ∙ not-false _ (c2 .if1 .left)))
+good-sums-requires-2 : tie.Need-good-sums-requires-2
+good-sums-requires-2 c κs =
+    let c3 = c .before .before .before in
+    let c13 = c3 .before .before .before .before .before .before .before .before .before .before in
+    (c13 .pre, lent-few (c13 .args .original .now) (c13 .args .text .now) (sym (c3 .before .lent-fits .ensures) ∙ not-false _ (c3 .if1 .left)))
 
 judge-lists-requires-2 : tie.Need-judge-lists-requires-2
 judge-lists-requires-2 c κs = search needs
@@ -45,17 +45,16 @@ check-texts-requires c κs = search needs
 
 returns-4 : tie.Need-returns-4
 returns-4 c =
-    let c2 = c .before .before in
-    let c3 = c2 .before in
+    let c3 = c .before .before .before in
     let c4 = c3 .before in
-    let c5 = c4 .before in
-    let c6 = c5 .before in
-    let c15 = c6 .before .before .before .before .before .before .before .before .before in
-    let a = c15 .args in
+    let c6 = c4 .before .before in
+    let c7 = c6 .before in
+    let c8 = c7 .before in
+    let a = c8 .before .before .before .before .before .before .before .before .before .args in
     c .check-texts .ensures
-    ∙ good-lists (a .limits) (a .original .now) (a .text .now) (a .spans .now) (a .keys .now) _ _ _ _ (sym (c6 .lent-fits .ensures) ∙ not-false _ (c5 .if1 .left))
-    (c4 .is-good .ensures (not-false _ (c3 .if2 .left)))
-    (c2 .is-good2 .ensures (not-false _ (c .before .if3 .left)))
+    ∙ good-lists (a .limits) (a .original .now) (a .text .now) (a .spans .now) (a .keys .now) _ _ _ _ _ _
+    (sym (c8 .lent-fits .ensures) ∙ not-false _ (c7 .if1 .left)) (c6 .good-sums .ensures (not-false _ (c4 .if2 .left)))
+    (c3 .good-sums2 .ensures (not-false _ (c .before .if3 .left)))
 
 pub check-lists-spec : {M : Type 1} → statement M
 check-lists-spec =
@@ -63,10 +62,10 @@ check-lists-spec =
     (tie.spec
     lent-fits-requires
     returns
-    is-good-requires
+    good-sums-requires
     judge-lists-requires
     returns-2
-    is-good-requires-2
+    good-sums-requires-2
     judge-lists-requires-2
     returns-3
     check-texts-requires
