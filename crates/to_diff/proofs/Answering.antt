@@ -1,24 +1,30 @@
 -- Shown: an accepted list is ready to be counted and written, and each way of the public calls answers and leaves what the definition says.
 -- How: the laws of accepted lists; a diff's items do not depend on the original.
 use Prim.Native.Nat.{ℕ, _*_, _/_, _≤_, _<_}
+use mathlib.Core.Bool.{Bool, true, _&&_}
 use mathlib.Core.Path.{_≡_, refl, sym, _∙_, ap}
 use mathlib.Core.List.{List, [], _∷_}
 use native.Mathlib.Omega.{arith}
 use lib.ListN.{length}
 use lib.IntN.{ℤ}
-use borrow.Author.Tests.{le-leb, lt-leb}
+use lib.Dec.{leb}
+use borrow.Author.Tests.{le-leb, lt-leb, leb-true}
 use Rattle.refusal.specs.declared.Refusal.{Refusal}
 use Rattle.refusal.specs.declared.Refusal.the-variants.{Room}
 use Rattle.records.specs.declared.Operation.{Operation}
+use Rattle.records.specs.Operations.{operationsOf}
 use Rattle.records.specs.Cursors.{cursorsFrom, cursorsOf}
+use Rattle.records.proofs.Operations.{length-of}
 use Rattle.records.specs.Tokens.{spelling}
 use Rattle.diff.specs.Replay.{Edit, delete, insert}
 use Rattle.sizes.specs.declared.Limits.{Limits}
-use Rattle.verdict.specs.declared.Verdict.{Verdict}
 use Rattle.verdict.specs.declared.Verdict.the-variants.{Accepted, Refused}
 use Rattle.verdict.specs.Verdicts.{andThen, roomed}
+use Rattle.verdict.proofs.Bools.{and-left, and-right}
+use Rattle.sizes.specs.Texts.{total, claimedBy, insertedBy}
 use Rattle.sizes.specs.Sizes.{otherwise}
-use Rattle.checks.specs.Lists.{listVerdict}
+use Rattle.checks.specs.declared.Checked.{Checked}
+use Rattle.checks.specs.Lists.{listVerdict, checkedOf}
 use Rattle.shapes.specs.Accepted.{AcceptedList}
 use Rattle.checks.proofs.Accepted.{accepted-list}
 use Rattle.edit_format.specs.Items.{added, texts}
@@ -34,7 +40,7 @@ use Rattle.merging_laws.proofs.Outputs.{diff-fits}
 use Rattle.to_diff.specs.declared.Diffed.the-variants.{Counts, Refused as No}
 use Rattle.to_diff.specs.declared.Sizes.{Sizes}
 use Rattle.to_diff.specs.Items.{itemsOf, diffOf}
-use Rattle.to_diff.specs.Answers.{verdictOn, roomFor, verdictIn, lengthsOf, Diffs}
+use Rattle.to_diff.specs.Answers.{verdictOn, checkedOn, roomFor, verdictIn, lengthsOf, Diffs}
 use Rattle.to_diff.specs.Writes.{Spells, items, Ready, Measures, Fits, Wrote}
 use Rattle.to_diff.proofs.Joining.{length-items, added-items}
 
@@ -44,8 +50,9 @@ unfolding cursorsOf cursorsFrom
 no-cursors [] e = refl
 no-cursors (x ∷ xs) e = absurd (omega arith)
 
-pub checked : (original text spans keys xs : List ℕ) (os : List Operation) (l : Limits) (v : Verdict) → l ≡ otherwise → length xs ≡ 0
-    → v ≡ listVerdict l original text spans keys os (cursorsOf xs) → v ≡ verdictOn (lentOf original text spans keys) os
+pub checked : (original text spans keys xs : List ℕ) (os : List Operation) (l : Limits) (v : Checked) → l ≡ otherwise → length xs ≡ 0
+    → v ≡ checkedOf (listVerdict l original text spans keys os (cursorsOf xs)) (total (insertedBy (length text) spans keys) os)
+    → v ≡ checkedOn (lentOf original text spans keys) os
 unfolding verdictOn
 checked original text spans keys xs os l v e z f = rw (no-cursors xs z, e) at f
 
@@ -86,6 +93,38 @@ ready original text spans keys os h =
       adds = omega (arith, ap added s, added-items es, f .text);
     }
 
+-- rooms that hold as many items as there are operations, and as much text as is inserted
+pub ample-fits : (original text spans keys xs : List ℕ) (b : Bool) (x : ℕ) (d : List ℤ) (e : List ℕ)
+    → verdictOn (lentOf original text spans keys) (operationsOf xs) ≡ Accepted → x ≡ total (insertedBy (length text) spans keys) (operationsOf xs)
+    → b ≡ leb (length xs / 6) (length d / 3) && leb x (length e) → b ≡ true → Fits (items text spans keys (operationsOf xs)) d e
+unfolding verdictOn diffOf
+ample-fits original text spans keys xs b x d e h ex eb t =
+    let os : List Operation = operationsOf xs in
+    let lent : Lent = lentOf original text spans keys in
+    let a : AcceptedList otherwise original text spans keys os [] = accepted-list otherwise original text spans keys os [] h in
+    let tight : Limits = record { operations = length os; tokens = total claimedBy os; text = total (insertedBy (length text) spans keys) os; cursors = 0 } in
+    let f = diff-fits lent tight os []
+    (record {
+      original-most = a .original-most;
+      text-most = a .text-most;
+      operations-most = omega arith;
+      cursors-most = omega arith;
+      tokens-most = omega arith;
+      inserted-most = omega arith;
+      shapes = a .shapes;
+      tiles = a .tiles;
+      within = a .within;
+    }) in
+    let s = same-diff original text spans keys os in
+    let es : List Edit = toDiff lent (opsFrom 0 os) in
+    let w : leb (length xs / 6) (length d / 3) && leb x (length e) ≡ true = sym eb ∙ t in
+    let k = leb-true (length xs / 6) (length d / 3) (and-left (leb (length xs / 6) (length d / 3)) (leb x (length e)) w) in
+    let l = leb-true x (length e) (and-right (leb (length xs / 6) (length d / 3)) (leb x (length e)) w) in
+    record {
+      items = omega (arith, ap length s, length-items es, f .items, length-of xs, k);
+      text = omega (arith, ap added s, added-items es, f .text, l);
+    }
+
 module _ (original text spans keys : List ℕ) (os : List Operation) where
   same : items text spans keys os ≡ diffOf (lentOf original text spans keys) os
   same = same-diff original text spans keys os
@@ -122,13 +161,20 @@ module _ (original text spans keys : List ℕ) (os : List Operation) where
       pub room-enough : s .items ≤ length d / 3 → s .text ≤ length e → Fits (items text spans keys os) d e
       room-enough k l = record { items = omega (arith, m .items); text = omega (arith, m .text) }
 
-      pub writes : {d′ : List ℤ} {e′ : List ℕ} → s .items ≤ length d / 3 → s .text ≤ length e → Wrote (items text spans keys os) d e d′ e′
+      pub writes : {d′ : List ℤ} {e′ : List ℕ} {r : Sizes} → s .items ≤ length d / 3 → s .text ≤ length e → Wrote (items text spans keys os) d e d′ e′ r
           → Diffs (lentOf original text spans keys) os d e d′ e′ (Counts (s .items) (s .text))
       unfolding verdictIn roomFor roomed andThen
       writes k l w =
           let t = le-leb (3 * length (diffOf (lentOf original text spans keys) os)) (length d) (omega (arith, many)) in
           let u = le-leb (length (texts (diffOf (lentOf original text spans keys) os))) (length e) (omega (arith, long)) in
           record { answer = rw (h, t, u, many, long); items = rw (h, t, u) (rw same at (w .items)); text = rw (h, t, u) (rw same at (w .text)) }
+
+  -- rooms that the diff fits, whether it was measured or not
+  pub writes-ample : {d : List ℤ} {e : List ℕ} {d′ : List ℤ} {e′ : List ℕ} (s : Sizes) → verdictOn (lentOf original text spans keys) os ≡ Accepted
+      → Fits (items text spans keys os) d e → Wrote (items text spans keys os) d e d′ e′ s
+      → Diffs (lentOf original text spans keys) os d e d′ e′ (Counts (s .items) (s .text))
+  writes-ample {d} {e} s h f w =
+      writes h s (w .sizes) d e (omega (arith, w .sizes .items, f .items)) (omega (arith, w .sizes .text, f .text)) w
 
   pub refuses : (d : List ℤ) (e : List ℕ) (r : Refusal) → verdictOn (lentOf original text spans keys) os ≡ Refused r
       → Diffs (lentOf original text spans keys) os d e d e (No r)

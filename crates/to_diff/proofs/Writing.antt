@@ -316,7 +316,8 @@ module _
     pub end-fits : (kept < 9223372036854775808) × ((place + length (keeps kept)) * 3 ≤ length d)
     end-fits = close-fits fits h few (closing-none text spans keys os n d₀ e₀ kept (h .used))
 
-    pub end-written : {d′ : List ℤ} {r : ℕ} → Kept kept place d d′ r → Wrote (items text spans keys os) d₀ e₀ d′ e
+    pub end-written : {d′ : List ℤ} {r : ℕ} → Kept kept place d d′ r
+        → Wrote (items text spans keys os) d₀ e₀ d′ e (record { items = r; text = at })
     unfolding pended itemsOf toDiff opsFrom
     end-written {d′} {r} k =
         let w : Writing text spans keys os n d₀ e₀ [] 0 r at d′ e =
@@ -324,6 +325,11 @@ module _
         in
         let all : w .done ≡ items text spans keys os = sym (append-nil (w .done)) ∙ w .splits in
         record {
+          sizes =
+              record {
+                items = w .places ∙ ap length all;
+                text = w .ends ∙ (ap (λ (is : List Item). length (texts is)) all ∙ texts-length (items text spans keys os));
+              };
           items = w .stands ∙ ap (λ (is : List Item). answered (recordsOf is) d₀) all;
           text = w .spelt ∙ ap (λ (is : List Item). answered (texts is) e₀) all;
         }

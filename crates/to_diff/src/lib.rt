@@ -1,7 +1,9 @@
 // A list's diff: its retains with neighbours joined, its deletes and its inserts, as items of three numbers
 // and their text. A retain is held back until what follows it is known.
 ghost use mathlib.Core.Path.{_≡_};
-ghost use Prim.Native.Nat.{_+_, _*_, _<_, _≤_};
+ghost use Prim.Native.Nat.{_+_, _*_, _/_, _<_, _≤_};
+ghost use mathlib.Core.Bool.{_&&_};
+ghost use lib.Dec.{leb};
 ghost use lib.ListN.{length};
 ghost use Rattle.room.specs.Placed.{placed};
 ghost use Rattle.records.specs.Operations.{operationsOf};
@@ -10,7 +12,7 @@ ghost use Rattle.words.specs.Words.{Lends};
 ghost use Rattle.edit_format.specs.Items.{Drop};
 ghost use Rattle.edit_format.specs.Records.{recordOf};
 ghost use Rattle.merging.specs.Lent.{lentOf};
-ghost use Rattle.to_diff.specs.Answers.{verdictOn, lengthsOf, Diffs};
+ghost use Rattle.to_diff.specs.Answers.{checkedOn, lengthsOf, Diffs};
 ghost use Rattle.to_diff.specs.Writes.{keeps, items, Ready, Kept, Inserted, Measures, Fits, Wrote};
 use item_records::dropped_number;
 use item_records::plain_number;
@@ -108,7 +110,8 @@ fn measure(text: &[u32], spans: &[u32], keys: &[u32], operations: &[usize]) -> S
     }
 }
 
-// The items and their text, into rooms that they fit. A retain is held back as long as retains follow.
+// The items and their text, into rooms that they fit, and how many they are. A retain is held back as
+// long as retains follow.
 fn write(
     text: &[u32],
     spans: &[u32],
@@ -116,9 +119,9 @@ fn write(
     operations: &[usize],
     room: &mut [i64],
     out: &mut [u32],
-)
+) -> Sizes
     requires { ⌜ Ready (now text) (now spans) (now keys) (operationsOf (now operations)) × Fits (items (now text) (now spans) (now keys) (operationsOf (now operations))) (now room) (now out) ⌝ }
-    ensures { λ r. ⌜ Wrote (items (now (text .entry)) (now (spans .entry)) (now (keys .entry)) (operationsOf (now (operations .entry)))) (now (room .entry)) (now (out .entry)) (now (room .exit)) (now (out .exit)) ⌝ }
+    ensures { λ r. ⌜ Wrote (items (now (text .entry)) (now (spans .entry)) (now (keys .entry)) (operationsOf (now (operations .entry)))) (now (room .entry)) (now (out .entry)) (now (room .exit)) (now (out .exit)) r ⌝ }
 {
     let count = operations.len() / 6;
     let mut i = 0;
@@ -145,21 +148,23 @@ fn write(
             i = next;
         }
     }
-    put_kept(room, place, kept);
+    let items = put_kept(room, place, kept);
+    Sizes { items, text: at }
 }
 
-// Refusals 3, 4, 1 and 2 of a list. There are no cursors, so none is refused.
+// Refusals 3, 4, 1 and 2 of a list, or how much text it inserts. There are no cursors, so none is
+// refused.
 fn check(
     original: &[u32],
     text: &[u32],
     spans: &[u32],
     keys: &[u32],
     operations: &[usize],
-) -> verdict::Verdict
-    ensures { λ r. ⌜ r ≡ verdictOn (lentOf (now (original .entry)) (now (text .entry)) (now (spans .entry)) (now (keys .entry))) (operationsOf (now (operations .entry))) ⌝ }
+) -> checks::Checked
+    ensures { λ r. ⌜ r ≡ checkedOn (lentOf (now (original .entry)) (now (text .entry)) (now (spans .entry)) (now (keys .entry))) (operationsOf (now (operations .entry))) ⌝ }
 {
     let limits = sizes::other_limits();
-    checks::check_list(
+    checks::sum_list(
         limits,
         original,
         text,
@@ -168,6 +173,16 @@ fn check(
         operations,
         &operations[..0],
     )
+}
+
+// Whether rooms hold whatever diff so many operations with so much inserted text may have.
+fn ample(count: usize, inserted: usize, room: usize, out: usize) -> bool
+    ensures { λ r. ⌜ r ≡ leb count (room / 3) && leb inserted out ⌝ }
+{
+    if room / 3 < count {
+        return false;
+    }
+    inserted <= out
 }
 
 // How many items and code points the diff of a list has: what `to_diff` must be lent.
@@ -181,8 +196,8 @@ pub fn to_diff_lengths(
     ensures { λ r. ⌜ r ≡ lengthsOf (lentOf (now (original .entry)) (now (text .entry)) (now (spans .entry)) (now (keys .entry))) (operationsOf (now (operations .entry))) ⌝ }
 {
     match check(original, text, spans, keys, operations) {
-        verdict::Verdict::Refused(refusal) => Diffed::Refused(refusal),
-        verdict::Verdict::Accepted => {
+        checks::Checked::Refused(refusal) => Diffed::Refused(refusal),
+        checks::Checked::Inserted(inserted) => {
             let sizes = measure(text, spans, keys, operations);
             Diffed::Counts {
                 items: sizes.items,
@@ -192,7 +207,8 @@ pub fn to_diff_lengths(
     }
 }
 
-// The diff of a list: its items into one room, their text into another.
+// The diff of a list: its items into one room, their text into another. It is measured first only where
+// the rooms are not ample.
 pub fn to_diff(
     original: &[u32],
     text: &[u32],
@@ -205,8 +221,15 @@ pub fn to_diff(
     ensures { λ r. ⌜ Diffs (lentOf (now (original .entry)) (now (text .entry)) (now (spans .entry)) (now (keys .entry))) (operationsOf (now (operations .entry))) (now (room .entry)) (now (out .entry)) (now (room .exit)) (now (out .exit)) r ⌝ }
 {
     match check(original, text, spans, keys, operations) {
-        verdict::Verdict::Refused(refusal) => Diffed::Refused(refusal),
-        verdict::Verdict::Accepted => {
+        checks::Checked::Refused(refusal) => Diffed::Refused(refusal),
+        checks::Checked::Inserted(inserted) => {
+            if ample(operations.len() / 6, inserted, room.len(), out.len()) {
+                let written = write(text, spans, keys, operations, room, out);
+                return Diffed::Counts {
+                    items: written.items,
+                    text: written.text,
+                };
+            }
             let sizes = measure(text, spans, keys, operations);
             if room.len() / 3 < sizes.items {
                 return Diffed::Refused(Refusal::Room);
