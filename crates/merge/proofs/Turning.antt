@@ -2,11 +2,13 @@
 -- remembered, and the values that the functions called give are the definition's. Assumes nothing.
 use Prim.Native.Nat.{ℕ, _+_, _-_, _*_, _≤_}
 use mathlib.Core.Path.{_≡_, refl, sym, ap, ap₂, _∙_, subst}
+use mathlib.Core.Bool.{Bool, true, false}
 use mathlib.Core.List.{List, [], _++_}
 use mathlib.Core.Logic.{inl, inr, ⊎-elim}
 use native.Mathlib.Omega.{arith}
 use lib.ListN.{length}
 use Rattle.room.specs.Placed.{answered}
+use Rattle.records.specs.declared.Cursor.{Cursor}
 use Rattle.records.specs.Cursors.{flatCursors}
 use Rattle.records.specs.Operations.{flatOperations}
 use Rattle.merging.specs.declared.Op.{Op}

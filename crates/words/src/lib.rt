@@ -1,6 +1,7 @@
 // Words into a lent text room: a range of the original, and what a run of tokens spells. Each is put
 // at a place; what stands before and past it is as it was.
 use numbers::wide;
+ghost use mathlib.Core.Path.{_≡_};
 ghost use Prim.Native.Nat.{_+_, _≤_};
 ghost use lib.ListN.{length, take, drop};
 ghost use Rattle.room.specs.Placed.{Put};
