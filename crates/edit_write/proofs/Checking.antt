@@ -21,6 +21,8 @@ use Rattle.diff.specs.Passes.{pointed}
 use Rattle.diff.proofs.Decoding.{items-more, items-none, insert-within}
 use Rattle.diff.proofs.Judging.{items-length}
 use Rattle.edit_format.specs.Items.{Item, kept, dropped, added}
+use Rattle.edit_format.specs.Written.{itemLines}
+use Rattle.written_lines.specs.Lengths.{cap}
 use Rattle.edit_write.specs.Writing.{fileItem, fileItems, fileOf, sizes, shapes, writable}
 use Rattle.edit_write.specs.Passes.{sumsOf, tallyOf, shaped, checkedBy}
 use Rattle.edit_write.specs.declared.Sums.{Sums}
@@ -43,7 +45,7 @@ pub rest-none : (xs : List ℤ) (text : List ℕ) (i : ℕ) → length xs / 3 �
 unfolding fileItems
 rest-none xs text i h = rw (items-none xs (length text) i (length xs / 3) h)
 
-text-length : (xs : List ℤ) (text : List ℕ) (i : ℕ) {s n : ℕ} → itemAt xs (length text) i ≡ Insert s n → length (take n (drop s text)) ≡ n
+pub text-length : (xs : List ℤ) (text : List ℕ) (i : ℕ) {s n : ℕ} → itemAt xs (length text) i ≡ Insert s n → length (take n (drop s text)) ≡ n
 text-length xs text i {s} {n} e = let w : s + n ≤ length text = insert-within xs (length text) i e in simp (length-take, length-drop) (omega arith)
 
 -- the sums of the items before i
@@ -250,5 +252,5 @@ module _ (xs : List ℤ) (text : List ℕ) where
     pub bad-shape : {i : ℕ} → pointed Nowhere ≡ points 0 text → shaped (At i) ≡ shapes false 0 (fileOf xs text) → Refused (Record i) ≡ checkedBy (writable (fileOf xs text) text) (fileOf xs text)
     bad-shape f d = rw (fitted .0, ← f, ← d)
 
-    pub all-fine : pointed Nowhere ≡ points 0 text → shaped Nowhere ≡ shapes false 0 (fileOf xs text) → Fine s ≡ checkedBy (writable (fileOf xs text) text) (fileOf xs text)
-    all-fine f d = rw (fitted .0, ← f, ← d, fitted .1)
+    pub all-fine : {n : ℕ} → pointed Nowhere ≡ points 0 text → shaped Nowhere ≡ shapes false 0 (fileOf xs text) → n ≡ cap (length (itemLines (fileOf xs text))) → Fine s n ≡ checkedBy (writable (fileOf xs text) text) (fileOf xs text)
+    all-fine f d w = rw (fitted .0, ← f, ← d, fitted .1, w)

@@ -29,8 +29,8 @@ pub refused-by : (v : Verdict) (is : List Item) {r : Refusal} → Refused r ≡ 
 refused-by fine is e = let z : _≡_ {A = ℕ} 0 1 = cc in absurd (omega arith)
 refused-by (refused r) is e = cc
 
-pub fine-by : (v : Verdict) (is : List Item) {s : Sums} → Fine s ≡ checkedBy v is → (v ≡ fine) × (s ≡ sumsOf is)
-fine-by fine is e = (refl, cc)
+pub fine-by : (v : Verdict) (is : List Item) {s : Sums} {m : ℕ} → Fine s m ≡ checkedBy v is → (v ≡ fine) × ((s ≡ sumsOf is) × (m ≡ cap (length (itemLines is))))
+fine-by fine is e = (refl, (cc, cc))
 fine-by (refused r) is e = let z : _≡_ {A = ℕ} 0 1 = cc in absurd (omega arith)
 
 module _ (xs : List ℤ) (text : List ℕ) where
@@ -39,18 +39,24 @@ module _ (xs : List ℤ) (text : List ℕ) where
   file-written = rw (file-length xs text)
 
   -- the sums of what can be written are small
-  pub small : {s : Sums} → Fine s ≡ checkedBy (writable (fileOf xs text) text) (fileOf xs text) → (s .kept ≤ 65535) × (s .added ≤ 131070)
+  pub small : {s : Sums} {m : ℕ} → Fine s m ≡ checkedBy (writable (fileOf xs text) text) (fileOf xs text) → (s .kept ≤ 65535) × (s .added ≤ 131070)
   small {s} e =
       let f = fine-by (writable (fileOf xs text) text) (fileOf xs text) e in
       let g = writable-good xs text (f .0) in
-      (omega (arith, ap (λ (t : Sums). t .kept) (f .1), g .original), omega (arith, ap (λ (t : Sums). t .added) (f .1), g .text))
+      (omega (arith, ap (λ (t : Sums). t .kept) (f .1 .0), g .original), omega (arith, ap (λ (t : Sums). t .added) (f .1 .0), g .text))
 
-  module _ {s : Sums} (e : Fine s ≡ checkedBy (writable (fileOf xs text) text) (fileOf xs text)) where
+  module _ {s : Sums} {m : ℕ} (e : Fine s m ≡ checkedBy (writable (fileOf xs text) text) (fileOf xs text)) where
     passed : writable (fileOf xs text) text ≡ fine
     passed = fine-by (writable (fileOf xs text) text) (fileOf xs text) e .0
 
     bytes : fileBytes xs text (s .used) (s .kept + s .added) ≡ written (fileOf xs text)
-    bytes = rw (fine-by (writable (fileOf xs text) text) (fileOf xs text) e .1) file-written
+    bytes = rw (fine-by (writable (fileOf xs text) text) (fileOf xs text) e .1 .0) file-written
+
+    pub lines-are : m ≡ cap (length (itemLines (fileOf xs text)))
+    lines-are = fine-by (writable (fileOf xs text) text) (fileOf xs text) e .1 .1
+
+    pub lines-most : m ≤ 1099511627776
+    lines-most = omega (arith, lines-are)
 
     pub exact : {n : ℕ} → n ≡ cap (length (fileBytes xs text (s .used) (s .kept + s .added))) → n ≡ length (written (fileOf xs text))
     exact f = omega (arith, ap length bytes, written-short (fileOf xs text) (writable-good xs text passed))

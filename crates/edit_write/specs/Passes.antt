@@ -1,4 +1,6 @@
 -- What the writer's passes find: sums, the first item that cannot be written, the file under a header. Assumes nothing.
+use mathlib.Core.Path.{_≡_}
+use mathlib.Core.Bool.{false}
 use Prim.Native.Nat.{ℕ, _+_, _/_}
 use mathlib.Core.List.{List, _++_}
 use lib.ListN.{length}
@@ -11,7 +13,8 @@ use Rattle.diff.specs.declared.diff.Bad.the-variants.{At, Nowhere}
 use Rattle.diff.specs.Checks.{Verdict, fine, refused}
 use Rattle.edit_format.specs.Items.{Item, kept, dropped, added}
 use Rattle.edit_format.specs.Written.{headLines, itemLines, numberLine, endKey}
-use Rattle.edit_write.specs.Writing.{fileOf}
+use Rattle.written_lines.specs.Lengths.{cap}
+use Rattle.edit_write.specs.Writing.{fileOf, shapes}
 use Rattle.edit_write.specs.declared.Sums.{Sums}
 use Rattle.edit_write.specs.declared.Tally.{Tally}
 use Rattle.edit_write.specs.declared.Tally.the-variants.{TooBig, Fits}
@@ -29,8 +32,14 @@ shaped (At i) = refused (Record i)
 shaped Nowhere = fine
 
 abbrev pub checkedBy : Verdict → List Item → Checked
-checkedBy fine is = Fine (sumsOf is)
+checkedBy fine is = Fine (sumsOf is) (cap (length (itemLines is)))
 checkedBy (refused r) is = Refused r
+
+-- neither sizes nor shapes refuse items with these sums and this length of their lines
+pub record Sound (is : List Item) (s : Sums) (n : ℕ) : Type 0 where
+  pub fits : Fits s ≡ tallyOf is
+  pub good : shaped Nowhere ≡ shapes false 0 is
+  pub lines : n ≡ cap (length (itemLines is))
 
 -- the file of the lent items under a header with these sums
 unfoldable pub fileBytes : List ℤ → List ℕ → ℕ → ℕ → List ℕ

@@ -25,11 +25,8 @@ line-length-requires-3 c κs = search needs
 plus-requires-3 : tie.Need-plus-requires-3
 plus-requires-3 c κs = omega (arith, c .before .plus2 .ensures)
 
-items-length-requires : tie.Need-items-length-requires
-items-length-requires c κs = search needs
-
 plus-requires-4 : tie.Need-plus-requires-4
-plus-requires-4 c κs = omega (arith, c .before .plus3 .ensures)
+plus-requires-4 c κs = omega (arith, c .plus3 .ensures)
 
 line-length-requires-4 : tie.Need-line-length-requires-4
 line-length-requires-4 c κs = search needs
@@ -38,7 +35,7 @@ plus-requires-5 : tie.Need-plus-requires-5
 plus-requires-5 c κs = omega (arith, c .before .plus4 .ensures)
 
 returns : tie.Need-returns
-returns c = file-sum _ _ _ _ refl (c .before .before .before .before .before .before .before .before .before .line-length .ensures) (c .before .before .before .before .before .before .before .before .plus .ensures) (c .before .before .before .before .before .before .before .line-length2 .ensures) (c .before .before .before .before .before .before .plus2 .ensures) (c .before .before .before .before .before .line-length3 .ensures) (c .before .before .before .before .plus3 .ensures) (c .before .before .before .items-length .ensures) (c .before .before .plus4 .ensures) (c .before .line-length4 .ensures) (c .plus5 .ensures)
+returns c = λ t e. file-sum _ t _ _ refl (c .before .before .before .before .before .before .before .before .line-length .ensures) (c .before .before .before .before .before .before .before .plus .ensures) (c .before .before .before .before .before .before .line-length2 .ensures) (c .before .before .before .before .before .plus2 .ensures) (c .before .before .before .before .line-length3 .ensures) (c .before .before .before .plus3 .ensures) e (c .before .before .plus4 .ensures) (c .before .line-length4 .ensures) (c .plus5 .ensures)
 
 pub file-length-spec : {M : Type 1} → statement M
 file-length-spec =
@@ -50,7 +47,6 @@ file-length-spec =
     plus-requires-2
     line-length-requires-3
     plus-requires-3
-    items-length-requires
     plus-requires-4
     line-length-requires-4
     plus-requires-5

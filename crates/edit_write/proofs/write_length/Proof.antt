@@ -1,7 +1,7 @@
 -- Shown: `write_length` answers `lengthOf`.
 -- How: each way through it is a law of proofs/Finishing.antt.
 use borrow.Author.Needs.{needs}
-use Rattle.edit_write.proofs.Finishing.{small, length-fine, length-refused}
+use Rattle.edit_write.proofs.Finishing.{small, lines-are, lines-most, length-fine, length-refused}
 use native.Mathlib.Omega.{arith}
 use mathlib.Core.Path.{sym, _∙_}
 use Rattle.edit_write.proofs.write_length.Statement.{statement}
@@ -10,20 +10,20 @@ use Rattle.edit_write.proofs.write_length.Tie as tie
 check-requires : tie.Need-check-requires
 check-requires c κs = search needs
 
-enum-known-s : tie.Need-enum-known-s
-enum-known-s c = search needs
+enum-known-sums : tie.Need-enum-known-sums
+enum-known-sums c = search needs
 
 add-result : tie.Need-add-result
-add-result c = let w = small _ _ (sym (c .before .before .s .given .1) ∙ c .before .before .before .before .check .ensures) in omega (arith, w .0, w .1)
+add-result c = let w = small _ _ (sym (c .before .before .sums .given .1) ∙ c .before .before .before .before .check .ensures) in omega (arith, w .0, w .1)
 
 file-length-requires : tie.Need-file-length-requires
-file-length-requires c κs = search needs
+file-length-requires c κs = lines-most _ _ (sym (c .before .before .sums .given .1) ∙ c .before .before .before .before .check .ensures)
 
 enum-known-refusal : tie.Need-enum-known-refusal
 enum-known-refusal c = search needs
 
 returns : tie.Need-returns
-returns c = length-fine _ _ (sym (c .before .before .before .s .given .1) ∙ c .before .before .before .before .before .check .ensures) (c .file-length .ensures)
+returns c = let e = sym (c .before .before .before .sums .given .1) ∙ c .before .before .before .before .before .check .ensures in length-fine _ _ e (c .file-length .ensures _ (lines-are _ _ e))
 
 returns-2 : tie.Need-returns-2
 returns-2 c = length-refused _ _ (sym (c .before .refusal .given .1) ∙ c .before .before .before .check .ensures)
@@ -33,7 +33,7 @@ write-length-spec =
     tie.close
     (tie.spec
     check-requires
-    enum-known-s
+    enum-known-sums
     add-result
     file-length-requires
     enum-known-refusal
