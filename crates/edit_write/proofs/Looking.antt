@@ -21,7 +21,6 @@ use Rattle.written_lines.proofs.Counting.{add-length, points-further, no-point}
 use Rattle.edit_write.specs.Writing.{fileItem, fileOf}
 use Rattle.edit_write.specs.Passes.{Sound}
 use Rattle.edit_write.specs.declared.Sums.{Sums}
-use Rattle.edit_write.specs.declared.Looked.{Looked}
 use Rattle.edit_write.specs.declared.Looked.the-variants.{Unsure, Sure}
 use Rattle.edit_write.proofs.Checking.{rest, rest-all, rest-at, rest-none, text-length, Tallying, tally-begins, tally-retain, tally-delete, tally-insert, tally-ends, Shaping, shape-begins, retain-on, delete-on, insert-on, shape-ends}
 use Rattle.edit_write.proofs.Counting.{keep-length, drop-length}
