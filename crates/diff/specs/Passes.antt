@@ -1,8 +1,7 @@
 -- What each pass over a diff finds, by the definitions of the checks that it serves.
 -- Assumes nothing.
-use Prim.Native.Nat.{ℕ, _<_}
+use Prim.Native.Nat.{ℕ}
 use mathlib.Core.List.{List}
-use lib.ListN.{getD}
 use lib.Dec.{ltb}
 use Rattle.room.specs.Choice.{pick}
 use Rattle.refusal.specs.declared.Refusal.the-variants.{CodePoint}
@@ -15,10 +14,6 @@ use Rattle.diff.specs.declared.diff.Walked.{Walked}
 use Rattle.diff.specs.declared.diff.Walked.the-variants.{Reached, Stopped}
 use Rattle.diff.specs.Replay.{Edit, mentioned, kept}
 use Rattle.diff.specs.Checks.{Verdict, fine, refused, textMost, used, records, numbers}
-
--- the numbers of a text, short of a place, are below the surrogates
-abbrev pub Low : List ℕ → ℕ → Type 0
-Low text e = (k : ℕ) → k < e → getD text k 0 < 0xd800
 
 -- 4, of one text
 abbrev pub pointed : Bad → Verdict

@@ -9,7 +9,7 @@ ghost use lib.Dec.{ltb};
 ghost use Rattle.diff.specs.Items.{numbered, ranged, itemAt, itemsFrom, itemsOf};
 ghost use Rattle.diff.specs.Replay.{editsOf};
 ghost use Rattle.diff.specs.Checks.{used, textMost, points, andThen};
-ghost use Rattle.diff.specs.Passes.{Low, pointed, surveyed, walked};
+ghost use Rattle.diff.specs.Passes.{pointed, surveyed, walked};
 use refusal::Refusal;
 
 // An item read out of the slice. Neither: of unknown kind, or a range outside what was lent.
@@ -86,37 +86,13 @@ pub enum Bad {
     Nowhere,
 }
 
-// Whether a text keeps below the surrogates, as most do. A flag and no way out, so that it is tested many at a time.
-fn is_low(text: &[u32]) -> bool
-    ensures { λ r. ⌜ (r ≡ true → Low (now (text .entry)) (length (now (text .entry)))) ⌝ }
-{
-    let mut low = true;
-    let mut i: usize = 0;
-    'text: while i < text.len() {
-        if 0xd800 <= text[i] {
-            low = false;
-        }
-        i += 1;
-    }
-    low
-}
-
 // Where a text has its first number that is no code point.
 pub fn bad_point(text: &[u32]) -> Bad
     ensures { λ r. ⌜ pointed r ≡ points 0 (now (text .entry)) ⌝ }
 {
-    if is_low(text) {
-        return Bad::Nowhere;
-    }
-    let mut i: usize = 0;
-    'text: while i < text.len() {
-        let next = i + 1;
-        let x = text[i];
-        if numbers::is_point(x) {
-            i = next;
-        } else {
-            return Bad::At(i);
-        }
+    let first = numbers::scalars_of(text);
+    if first < text.len() {
+        return Bad::At(first);
     }
     Bad::Nowhere
 }

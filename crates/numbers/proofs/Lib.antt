@@ -1,3 +1,4 @@
 pub mod Orders
 pub mod Points
+pub mod Scalar
 pub mod Signs

@@ -1,6 +1,6 @@
 -- Where a number is a code point and where it is none, and what a code point is below and past.
 -- One law for each of the four ranges; the rest by which range it would be in. Assumes nothing.
-use Prim.Native.Nat.{ℕ, _≤_, _<_}
+use Prim.Native.Nat.{ℕ, _/_, _≤_, _<_}
 use mathlib.Core.Path.{_≡_, sym, subst, _∙_}
 use mathlib.Core.Bool.{true, false}
 use native.Mathlib.Decide.{decLt}
@@ -17,6 +17,13 @@ module _ (x : ℕ) where
   pub point-high : 0xe000 ≤ x → x ≤ 0x10ffff → isPoint x ≡ true
   unfolding isPoint
   point-high g h = rw (le-ltb x 0xd800 (omega arith), le-leb 0xe000 x g, le-leb x 0x10ffff h)
+
+  -- surrogates are the twenty-eighth 2,048 numbers
+  pub point-but : (x / 0x800 ≡ 27 → ⊥) → x ≤ 0x10ffff → isPoint x ≡ true
+  point-but g h = elim (decLt x 0xd800) [
+    | yes l ↦ point-low l
+    | no l ↦ elim (decLt x 0xe000) [ yes m ↦ absurd (g (omega arith)) | no m ↦ point-high (omega arith) h ]
+  ]
 
   pub surrogate : 0xd800 ≤ x → x < 0xe000 → isPoint x ≡ false
   unfolding isPoint

@@ -14,9 +14,10 @@ use Rattle.utf8_read.specs.Table.{encode, decode}
 use Rattle.utf8_read.specs.Reading.{good-from, good-end, points-from, points}
 use Rattle.utf8_read.proofs.Sequences.{At, found, fits}
 use Rattle.utf8_read.proofs.Steps.{next-good, next-points, stop-good, stop-points, good-most}
-use Rattle.utf8_write.specs.Writing.{scalars, encode-all}
+use Rattle.numbers.specs.Points.{scalars}
+use Rattle.utf8_write.specs.Writing.{encode-all}
 use Rattle.utf8_write.proofs.Encodes.{parts}
-use Rattle.utf8_write.proofs.Scalar.{first-good, first-of, no-scalars}
+use Rattle.numbers.proofs.Scalar.{first-good, first-of, no-scalars}
 use Rattle.utf8.proofs.Sequence.{encoded-at, scalar-at, stands-first, decodes}
 
 no-bytes : encode-all [] ≡ []

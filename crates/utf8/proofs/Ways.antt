@@ -13,8 +13,9 @@ use Rattle.room.specs.Placed.{answered}
 use Rattle.utf8_read.specs.Reading.{good-end, points}
 use Rattle.utf8_read.specs.Window.{starts}
 use Rattle.utf8_read.proofs.Steps.{counts, good-most}
-use Rattle.utf8_write.specs.Writing.{scalars, encode-all}
-use Rattle.utf8_write.proofs.Scalar.{scalars-most}
+use Rattle.numbers.specs.Points.{scalars}
+use Rattle.utf8_write.specs.Writing.{encode-all}
+use Rattle.numbers.proofs.Scalar.{scalars-most}
 use Rattle.utf8.specs.Answers.{read-length-of, read-of, write-length-of, write-of, leaves, Answered}
 
 -- the end that was found is the end of the text, and what was counted are its code points

@@ -10,7 +10,8 @@ use Rattle.refusal.specs.declared.Refusal.the-variants.{CodePoint, Room, Utf8}
 use Rattle.room.specs.Choice.{pick}
 use Rattle.room.specs.Placed.{answered}
 use Rattle.utf8_read.specs.Reading.{good-end, points}
-use Rattle.utf8_write.specs.Writing.{scalars, encode-all}
+use Rattle.numbers.specs.Points.{scalars}
+use Rattle.utf8_write.specs.Writing.{encode-all}
 
 -- "bad UTF-8": "offset of the first byte of the first bad sequence"; else how many code points there are
 unfoldable pub read-length-of : List ℕ → Counted

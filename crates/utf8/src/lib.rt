@@ -39,7 +39,7 @@ pub fn read(bytes: &[u8], out: &mut [u32]) -> Counted
 pub fn write_length(text: &[u32]) -> Counted
     ensures { λ r. ⌜ r ≡ write-length-of (now (text .entry)) ⌝ }
 {
-    let end = utf8_write::scalars_of(text);
+    let end = numbers::scalars_of(text);
     if end < text.len() {
         return Counted::Refused(Refusal::CodePoint { index: end });
     }
@@ -50,7 +50,7 @@ pub fn write_length(text: &[u32]) -> Counted
 pub fn write(text: &[u32], out: &mut [u8]) -> Counted
     ensures { λ r. ⌜ Answered (write-of (now (text .entry)) (length (now (out .entry)))) r (encode-all (now (text .entry))) (now (out .entry)) (now (out .exit)) ⌝ }
 {
-    let fine = utf8_write::scalars_of(text);
+    let fine = numbers::scalars_of(text);
     if fine < text.len() {
         return Counted::Refused(Refusal::CodePoint { index: fine });
     }

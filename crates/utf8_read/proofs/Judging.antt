@@ -54,7 +54,7 @@ module _ (s : List ℕ) (at : ℕ) (h : at < length s) where
   pub no-first : (n : ℕ) → n ≡ ones (getD s at 0) → (n ≡ 0 → ⊥) → (n ≡ 2 → ⊥) → (n ≡ 3 → ⊥) → (n ≡ 4 → ⊥) → 0 ≡ utf8-char (drop at s)
   no-first n o z t r f = sym (none s at (omega arith) (λ l a. says-none a n (lead (getD s at 0) n (sym o)) z t r f))
 
--- one byte more of a window, and of a stretch of ASCII
+-- one byte more of a window
 pub local-more :
     (s : List ℕ) (a p e : ℕ) (bad m : Bool) → (bad ≡ false → Local s a (p + 3))
     → m ≡ misfit (getD s p 0) (getD s (p + 1) 0) (getD s (p + 2) 0) (getD s (p + 3) 0) → e ≡ p + 4 → (bad || m) ≡ false → Local s a e
@@ -62,27 +62,17 @@ local-more s a p e bad m f g q n i l h =
     let o = or-none bad m n in
     elim (decLt (i + 3) (p + 3)) [ yes k ↦ f (o .0) i l k | no k ↦ (let z : i ≡ p = omega arith in rw z (sym g ∙ o .1)) ]
 
--- what holds of each element of a stretch: of none, of one more, of two stretches
-pub each-more :
-    (P : ℕ → Type 0) (s : List ℕ) (a p e : ℕ) (ok t : Bool) → (ok ≡ true → (k : ℕ) → a ≤ k → k < p → P (getD s k 0)) → (t ≡ true → P (getD s p 0)) → e ≡ p + 1
-    → (ok && t) ≡ true → (k : ℕ) → a ≤ k → k < e → P (getD s k 0)
-each-more P s a p e ok t f g q n k l h =
-    let o = and-both ok t n in
-    elim (decLt k p) [ yes w ↦ f (o .0) k l w | no w ↦ (let z : k ≡ p = omega arith in rw z (g (o .1))) ]
-
-pub each-join :
-    (P : ℕ → Type 0) (s : List ℕ) (a b c d : ℕ) → c ≤ b → ((k : ℕ) → a ≤ k → k < b → P (getD s k 0)) → ((k : ℕ) → c ≤ k → k < d → P (getD s k 0))
-    → (k : ℕ) → a ≤ k → k < d → P (getD s k 0)
-each-join P s a b c d m f g k l h = elim (decLt k b) [ yes n ↦ f k l n | no n ↦ g k (omega arith) h ]
-
+-- a stretch of ASCII: none, one more, two joined
 pub ascii-none : (s : List ℕ) (a e : ℕ) → e ≤ a → Ascii s a e
 ascii-none s a e h k l m = absurd (omega arith)
 
 pub ascii-more : (s : List ℕ) (a p e : ℕ) (ok : Bool) → (ok ≡ true → Ascii s a p) → e ≡ p + 1 → (ok && ltb (getD s p 0) 0x80) ≡ true → Ascii s a e
-ascii-more s a p e ok f q n = each-more (λ (x : ℕ). x < 0x80) s a p e ok (ltb (getD s p 0) 0x80) f (ltb-true (getD s p 0) 0x80) q n
+ascii-more s a p e ok f q n k l h =
+    let o = and-both ok (ltb (getD s p 0) 0x80) n in
+    elim (decLt k p) [ yes w ↦ f (o .0) k l w | no w ↦ (let z : k ≡ p = omega arith in rw z (ltb-true (getD s p 0) 0x80 (o .1))) ]
 
 pub ascii-join : (s : List ℕ) (a b c d : ℕ) → c ≤ b → Ascii s a b → Ascii s c d → Ascii s a d
-ascii-join = each-join (λ (x : ℕ). x < 0x80)
+ascii-join s a b c d m f g k l h = elim (decLt k b) [ yes n ↦ f k l n | no n ↦ g k (omega arith) h ]
 
 pub three-calm :
     (s : List ℕ) (j : ℕ) (a b c : Bool) → (a ≡ true → Ascii s j (j + 16)) → (b ≡ true → Ascii s (j + 16) (j + 16 + 16))

@@ -1,3 +1,2 @@
 pub mod Encodes
-pub mod Scalar
 pub mod Spilling

@@ -1,5 +1,5 @@
-// UTF-8, written (RFC 3629): how far numbers are code points, how many bytes these take, and the bytes.
-// Judge and measure go by many numbers at a time, which the compiler makes vectors of, and begin behind the
+// UTF-8, written (RFC 3629): how many bytes code points take, and the bytes.
+// The measure goes by many numbers at a time, which the compiler makes vectors of, and begins behind the
 // blocks of ASCII that a text begins with.
 ghost use mathlib.Core.Path.{_≡_};
 ghost use mathlib.Core.Bool.{true};
@@ -9,49 +9,8 @@ ghost use lib.ListN.{length};
 ghost use Rattle.room.specs.Placed.{Put, answered};
 ghost use Rattle.utf8_read.specs.Table.{six, encode};
 ghost use Rattle.utf8_read.specs.Window.{Ascii};
-ghost use Rattle.utf8_write.specs.Writing.{scalars, encode-all, Scalars, step};
-
-// Whether the 16 numbers from a place on are code points.
-fn clear(text: &[u32], at: usize) -> bool
-    requires { ⌜ at + 16 ≤ length (now text) ⌝ }
-    ensures { λ r. ⌜ (r ≡ true → Scalars (now (text .entry)) at (at + 16)) ⌝ }
-{
-    let mut ok = true;
-    let mut k: usize = 0;
-    'clear: while k < 16 {
-        ok = ok & numbers::is_point(text[at + k]);
-        k += 1;
-    }
-    ok
-}
-
-// How far whole blocks of code points go, after those of ASCII.
-fn clear_end(text: &[u32]) -> usize
-    ensures { λ r. ⌜ (r ≤ length (now (text .entry))) × Scalars (now (text .entry)) 0 r ⌝ }
-{
-    let mut end = plain_end(text, 0);
-    'many: while 16 <= text.len() - end {
-        if !clear(text, end) {
-            return end;
-        }
-        end += 16;
-    }
-    end
-}
-
-// The index of the first number that is no code point; the length where all are.
-pub fn scalars_of(text: &[u32]) -> usize
-    ensures { λ r. ⌜ r ≡ scalars (now (text .entry)) ⌝ }
-{
-    let mut i = clear_end(text);
-    'judge: while i < text.len() {
-        if !numbers::is_point(text[i]) {
-            return i;
-        }
-        i += 1;
-    }
-    i
-}
+ghost use Rattle.numbers.specs.Points.{scalars};
+ghost use Rattle.utf8_write.specs.Writing.{encode-all, step};
 
 // 1 for a number that is not below another.
 fn at_least(x: u32, least: u32) -> u32

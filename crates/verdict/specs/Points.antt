@@ -1,9 +1,7 @@
 -- Refusal 4. Assumes nothing.
-use Prim.Native.Nat.{ℕ, _+_, _≤_, _<_}
-use mathlib.Core.Path.{_≡_}
+use Prim.Native.Nat.{ℕ, _+_}
 use mathlib.Core.Bool.{true, false}
 use mathlib.Core.List.{List, [], _∷_}
-use lib.ListN.{length, getD, drop}
 use Rattle.numbers.specs.Points.{isPoint}
 use Rattle.refusal.specs.declared.Refusal.the-variants.{CodePoint}
 use Rattle.verdict.specs.declared.Verdict.{Verdict}
@@ -18,14 +16,3 @@ pointsFrom (c ∷ cs) i = elim (isPoint c) [ true ↦ pointsFrom cs (i + 1) | fa
 -- "one lent inserted text .., checked after the original"
 abbrev pub pointsVerdict : List ℕ → List ℕ → Verdict
 pointsVerdict original text = andThen (pointsFrom original 0) (pointsFrom text 0)
-
--- what is left of a text from i on gives the answer of what is left from an earlier place on
-pub record Reading (text : List ℕ) (from i : ℕ) : Type 0 where
-  pub most : i ≤ length text
-  pub rest : pointsFrom (drop i text) i ≡ pointsFrom (drop from text) from
-
--- r is the first place from `from` on that holds no code point, or `to`
-pub record Searched (text : List ℕ) (from to r : ℕ) : Type 0 where
-  pub most : r ≤ to
-  pub read : Reading text from r
-  pub bad : r < to → isPoint (getD text r 0) ≡ false

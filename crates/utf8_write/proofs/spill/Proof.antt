@@ -6,7 +6,7 @@ use mathlib.Core.Path.{sym, _∙_}
 use lib.ListN.{length}
 use native.Mathlib.Omega.{arith}
 use Rattle.numbers.proofs.Points.{point-most}
-use Rattle.utf8_write.proofs.Scalar.{each}
+use Rattle.numbers.proofs.Scalar.{each}
 use Rattle.utf8_write.proofs.Spilling.{Spilling, Grown, narrow-text, narrow-room, narrow-long, begins, part-ascii, run-fits, by-run, code-fits, by-code, not-yet, as-long, ends}
 use borrow.Author.Needs.{needs}
 use Rattle.utf8_write.proofs.spill.Statement.{statement}
