@@ -3,8 +3,9 @@
 use mathlib.Core.Path.{_≡_, refl, sym, ap, _∙_}
 use mathlib.Core.Bool.{Bool, true, false}
 use mathlib.Core.List.{List, [], _∷_}
-use Prim.Native.Nat.{ℕ, zero, suc, _+_, _-_, _≤_, _<_, _^_}
+use Prim.Native.Nat.{ℕ, zero, suc, _+_, _-_, _/_, _≤_, _<_, _^_}
 use native.Mathlib.Omega.{arith}
+use lib.ListN.{length, take, drop}
 use lib.IntN.{ℤ, pos, negsuc}
 use lib.Dec.{leb}
 use borrow.Author.Tests.{leb-true}
@@ -14,7 +15,7 @@ use mir.Val.{toZ, ofZ}
 use mir.Facts.{toZ-ofZ, toZ-pos}
 use Rattle.room.specs.Choice.{pick}
 use Rattle.diff.specs.declared.diff.Item.the-variants.{Insert, Neither}
-use Rattle.diff.specs.Items.{numbered, ranged, itemOf, itemAt, itemsFrom}
+use Rattle.diff.specs.Items.{numbered, ranged, itemOf, itemAt, itemsFrom, itemsOf}
 
 -- a number of a slice is what its machine word reads as
 pub reads-back : (z : ℤ) → mag z < 2 ^ 63 → toZ w64 (ofZ w64 z) ≡ z
@@ -50,6 +51,15 @@ pub items-none : (xs : List ℤ) (lent i c : ℕ) → c ≤ i → itemsFrom xs l
 unfolding itemsFrom
 items-none xs lent i c h = let e : c - i ≡ 0 = omega arith in rw e
 
+items-from-length : (xs : List ℤ) (lent i k : ℕ) → length (itemsFrom xs lent i k) ≡ k
+unfolding itemsFrom
+items-from-length xs lent i zero = refl
+items-from-length xs lent i (suc k) = ap suc (items-from-length xs lent (i + 1) k)
+
+pub items-length : (xs : List ℤ) (lent : ℕ) → length (itemsOf xs lent) ≡ length xs / 3
+unfolding itemsOf
+items-length xs lent = items-from-length xs lent 0 (length xs / 3)
+
 -- a text that is read out of the slice lies within what was lent
 picked : (t : Bool) (a b s n : ℕ) → pick t (Insert a b) Neither ≡ Insert s n → (t ≡ true) × (a + b ≡ s + n)
 picked true a b s n e = let f : a ≡ s = cc in let g : b ≡ n = cc in (refl, rw (f, g))
@@ -74,3 +84,7 @@ item-within (negsuc k) a b lent s n e = let z : _≡_ {A = ℕ} 0 1 = cc in absu
 pub insert-within : (xs : List ℤ) (lent i : ℕ) {s n : ℕ} → itemAt xs lent i ≡ Insert s n → s + n ≤ lent
 unfolding itemAt
 insert-within xs lent i {s} {n} e = item-within _ _ _ lent s n e
+
+-- a range by its start and its end is the range by its start and length
+pub range-part : (t : List ℕ) (s n : ℕ) → take (s + n - s) (drop s t) ≡ take n (drop s t)
+range-part t s n = let m : s + n - s ≡ n = omega arith in rw (m)

@@ -15,14 +15,19 @@ use Rattle.refusal.specs.declared.Refusal.{Refusal}
 use Rattle.diff.specs.declared.diff.Item.{Item}
 use Rattle.diff.specs.declared.diff.Item.the-variants.{Retain, Delete, Insert, Neither}
 use Rattle.diff.specs.Items.{itemAt, itemsFrom}
-use Rattle.diff.specs.Replay.{Edit, retain, delete, insert, editOf, editsOf, replayed, mentioned, kept, added}
-use Rattle.diff.specs.Checks.{Verdict, fine, refused, used, numbers}
+use Rattle.diff.specs.Replay.{Edit, retain, delete, insert, editOf, editsOf, replayed, mentioned, left, kept, added}
+use Rattle.diff.specs.Checks.{Verdict, fine, refused, used, numbers, covers}
 use Rattle.diff.proofs.Decoding.{insert-within}
 
 -- a choice between a refusal and what follows came out fine: the test failed, and what follows is fine
-pub picked-fine : (t : Bool) (r : Refusal) (v : Verdict) → pick t (refused r) v ≡ fine → (t ≡ false) × (v ≡ fine)
+picked-fine : (t : Bool) (r : Refusal) (v : Verdict) → pick t (refused r) v ≡ fine → (t ≡ false) × (v ≡ fine)
 picked-fine true r v e = let z : true ≡ false = cc in (z, cc)
 picked-fine false r v e = (refl, e)
+
+-- edits that pass for covering leave nothing
+pub covers-none : (len : ℕ) (es : List Edit) → covers len es ≡ fine → left len es ≡ 0
+unfolding covers
+covers-none len es e = let w = picked-fine (ltb 0 (left len es)) _ fine e in omega (arith, ltb-false 0 (left len es) (w .0))
 
 -- numbers that never ask too much ask no more than there is
 pub numbers-enough : (at rest : ℕ) (es : List Edit) → numbers at rest es ≡ fine → mentioned es ≤ rest

@@ -2,9 +2,4 @@ pub mod Signs
 pub mod Decoding
 pub mod Points
 pub mod Turns
-pub mod Building
 pub mod Laws
-pub mod Judging
-pub mod Answering
-pub mod Covering
-pub mod Sheets

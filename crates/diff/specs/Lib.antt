@@ -2,5 +2,3 @@ pub mod Items
 pub mod Replay
 pub mod Checks
 pub mod Passes
-pub mod Answers
-pub mod Sheets

@@ -1,3 +1,2 @@
-// Diffs: items of numbers and text, and the two replays.
+// Diffs: items of numbers and text, and the passes that check them.
 pub mod diff;
-pub mod replay;

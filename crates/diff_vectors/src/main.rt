@@ -1,9 +1,9 @@
 // Runs the oracle's replays, plain and covering, which it reads from standard input; the bench sheets are the first three.
 // A case is seven lines: original, items, text, the plain answer and its text, the covering answer and its text.
-use diff::replay::from_covering_diff;
-use diff::replay::from_covering_diff_length;
-use diff::replay::from_diff;
-use diff::replay::from_diff_length;
+use replay::from_covering_diff;
+use replay::from_covering_diff_length;
+use replay::from_diff;
+use replay::from_diff_length;
 use vectors::Due;
 
 fn main() {

@@ -18,8 +18,7 @@ use Rattle.diff.specs.declared.diff.Bad.the-variants.{At, Nowhere}
 use Rattle.diff.specs.Items.{itemAt, itemsOf, itemsFrom}
 use Rattle.diff.specs.Checks.{andThen, refuseIf, points}
 use Rattle.diff.specs.Passes.{pointed}
-use Rattle.diff.proofs.Decoding.{items-more, items-none, insert-within}
-use Rattle.diff.proofs.Judging.{items-length}
+use Rattle.diff.proofs.Decoding.{items-more, items-none, items-length, insert-within}
 use Rattle.edit_format.specs.Items.{Item, kept, dropped, added}
 use Rattle.edit_format.specs.Written.{itemLines}
 use Rattle.written_lines.specs.Lengths.{cap}

@@ -8,7 +8,7 @@ use lib.ListN.{length, drop, take, length-append}
 use lib.IntN.{ℤ}
 use Rattle.diff.specs.declared.diff.Item.the-variants.{Retain, Delete, Insert, Neither}
 use Rattle.diff.specs.Items.{itemAt}
-use Rattle.diff.proofs.Building.{range-part}
+use Rattle.diff.proofs.Decoding.{range-part}
 use Rattle.edit_format.specs.Digits.{digits}
 use Rattle.edit_format.specs.Items.{Item, Keep, Drop}
 use Rattle.edit_format.specs.Written.{points, numberLine, keepKey, dropKey, endKey, formKey, originalKey, resultKey, itemsKey, itemLine, itemLines, Head, headLines}

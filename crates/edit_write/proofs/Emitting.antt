@@ -10,7 +10,7 @@ use Rattle.room.specs.Placed.{Put}
 use Rattle.diff.specs.declared.diff.Item.the-variants.{Retain, Delete, Insert, Neither}
 use Rattle.diff.specs.Items.{itemAt}
 use Rattle.string_builder.proofs.Stops.{put-none}
-use Rattle.diff.proofs.Building.{range-part}
+use Rattle.diff.proofs.Decoding.{range-part}
 use Rattle.edit_format.specs.Items.{Item, Add}
 use Rattle.edit_format.specs.Written.{numberLine, keepKey, dropKey, itemLine, itemLines}
 use Rattle.written_lines.proofs.Emitting.{put-length, put-then}

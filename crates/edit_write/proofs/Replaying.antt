@@ -13,8 +13,8 @@ use Rattle.diff.specs.declared.diff.Item.the-variants.{Retain, Delete, Insert, 
 use Rattle.diff.specs.Items.{itemsOf, itemsFrom}
 use Rattle.diff.specs.Replay.{editOf, editsOf, mentioned, left, kept as keptBy, added as addedBy}
 use Rattle.diff.specs.Checks.{fine, used, sizes, records, covers}
-use Rattle.diff.specs.Answers.{Diff, diff, edits, textOf, plain, covering}
-use Rattle.diff.proofs.Judging.{items-length}
+use Rattle.replay.specs.Answers.{Diff, diff, edits, textOf, plain, covering}
+use Rattle.diff.proofs.Decoding.{items-length}
 use Rattle.diff.proofs.Laws.{enough-numbers, replayed-length, added-used}
 use Rattle.edit_format.specs.Tests.{both}
 use Rattle.edit_format.specs.Items.{Item, kept, dropped, added, texts, allPoints, itemsGood, Good}

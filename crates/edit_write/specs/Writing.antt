@@ -13,7 +13,7 @@ use Rattle.diff.specs.declared.diff.Item.{Item as Lent}
 use Rattle.diff.specs.declared.diff.Item.the-variants.{Retain, Delete, Insert, Neither}
 use Rattle.diff.specs.Items.{itemsOf}
 use Rattle.diff.specs.Checks.{Verdict, fine, refused, andThen, refuseIf, originalMost, itemsMost, textMost, points, fits}
-use Rattle.diff.specs.Answers.{counted, leaves}
+use Rattle.replay.specs.Answers.{counted, leaves}
 use Rattle.edit_format.specs.Tests.{both}
 use Rattle.edit_format.specs.Items.{Item, Keep, Drop, Add, kept, dropped, added}
 use Rattle.edit_format.specs.Written.{written}

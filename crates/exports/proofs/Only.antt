@@ -30,9 +30,9 @@ use Rattle.apply.proofs.AllWays.{only-all}
 use Rattle.to_diff.specs.declared.Diffed.{Diffed}
 use Rattle.to_diff.specs.Answers.{Diffs}
 use Rattle.to_diff.proofs.Laws.{only-answer as only-diff}
-use Rattle.diff.specs.Answers.{Diff, Replayed}
+use Rattle.replay.specs.Answers.{Diff, Replayed}
 use Rattle.diff.specs.Checks.{Verdict as Checked}
-use Rattle.diff.proofs.Covering.{only-answer as only-replayed}
+use Rattle.replay.proofs.Covering.{only-answer as only-replayed}
 use Rattle.edit_format.specs.Items.{Item}
 use Rattle.edit_format.specs.Reading.{Found}
 use Rattle.edit_read.specs.declared.FileRead.{FileRead}

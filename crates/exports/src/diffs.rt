@@ -1,7 +1,7 @@
 // The diff of a list, and diffs replayed over an original.
 use answer::Answer;
 ghost use Rattle.answer.specs.Tellings.{ToldBy, tellCount, tellDiff};
-ghost use Rattle.diff.specs.Answers.{Replayed, covering, diff, lengthOf, plain};
+ghost use Rattle.replay.specs.Answers.{Replayed, covering, diff, lengthOf, plain};
 ghost use Rattle.records.specs.Operations.{operationsOf};
 ghost use Rattle.refusal.specs.declared.Counted.{Counted};
 ghost use Rattle.to_diff.specs.Answers.{Diffs, lengthsOf};

@@ -13,7 +13,7 @@ use Rattle.refusal.specs.declared.Counted.the-variants.{Count}
 use Rattle.room.specs.Placed.{answered}
 use Rattle.records.specs.declared.Operation.{Operation}
 use Rattle.diff.specs.Checks.{Verdict, fine, refused, fits}
-use Rattle.diff.specs.Answers.{counted}
+use Rattle.replay.specs.Answers.{counted}
 use Rattle.edit_format.specs.Items.{Item, texts, Good}
 use Rattle.edit_format.specs.Written.{written}
 use Rattle.edit_format.specs.Reading.{Accepted, readFile}

@@ -17,7 +17,7 @@ use Rattle.diff.specs.declared.diff.Item.the-variants as I
 use Rattle.diff.specs.Items as D
 use Rattle.diff.specs.Replay.{Edit, retain, delete, insert, editOf, editsOf, replayed}
 use Rattle.diff.specs.Checks.{fine, fits}
-use Rattle.diff.specs.Answers.{diff, edits, textOf, covering, roomed, Replayed}
+use Rattle.replay.specs.Answers.{diff, edits, textOf, covering, roomed, Replayed}
 use Rattle.verdict.specs.declared.Verdict.{Verdict}
 use Rattle.verdict.specs.declared.Verdict.the-variants.{Accepted, Refused}
 use Rattle.verdict.specs.Verdicts.{andThen as thenCheck}

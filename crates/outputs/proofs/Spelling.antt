@@ -16,7 +16,7 @@ use Rattle.records.specs.Cursors.{flatCursors}
 use Rattle.cursors.specs.Sorted.{sorted}
 use Rattle.refusal.specs.declared.Counted.{Counted}
 use Rattle.refusal.specs.declared.Counted.the-variants.{Count}
-use Rattle.diff.specs.Answers.{diff, covering, Replayed}
+use Rattle.replay.specs.Answers.{diff, covering, Replayed}
 use Rattle.verdict.specs.declared.Verdict.{Verdict}
 use Rattle.verdict.specs.declared.Verdict.the-variants.{Accepted, Refused}
 use Rattle.verdict.specs.Verdicts.{andThen, roomed}

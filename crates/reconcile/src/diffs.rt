@@ -1,5 +1,5 @@
 // The diff of a list, and diffs replayed over an original.
-ghost use Rattle.diff.specs.Answers.{Replayed, covering, diff, lengthOf, plain};
+ghost use Rattle.replay.specs.Answers.{Replayed, covering, diff, lengthOf, plain};
 ghost use Rattle.records.specs.Operations.{operationsOf};
 ghost use Rattle.to_diff.specs.Answers.{Diffs, lengthsOf};
 ghost use Rattle.merging.specs.Lent.{lentOf};
@@ -37,21 +37,21 @@ pub fn to_diff(
 pub fn from_diff_length(original: &[u32], items: &[i64], text: &[u32]) -> refusal::Counted
     ensures { λ r. ⌜ r ≡ lengthOf plain (diff (now (original .entry)) (now (items .entry)) (now (text .entry))) ⌝ }
 {
-    diff::replay::from_diff_length(original, items, text)
+    replay::from_diff_length(original, items, text)
 }
 
 // The replayed text, plain: what the diff leaves unmentioned is dropped.
 pub fn from_diff(original: &[u32], items: &[i64], text: &[u32], out: &mut [u32]) -> refusal::Counted
     ensures { λ r. ⌜ Replayed plain (diff (now (original .entry)) (now (items .entry)) (now (text .entry))) (now (out .entry)) r (now (out .exit)) ⌝ }
 {
-    diff::replay::from_diff(original, items, text, out)
+    replay::from_diff(original, items, text, out)
 }
 
 // The length of the replayed text, covering.
 pub fn from_covering_diff_length(original: &[u32], items: &[i64], text: &[u32]) -> refusal::Counted
     ensures { λ r. ⌜ r ≡ lengthOf covering (diff (now (original .entry)) (now (items .entry)) (now (text .entry))) ⌝ }
 {
-    diff::replay::from_covering_diff_length(original, items, text)
+    replay::from_covering_diff_length(original, items, text)
 }
 
 // The replayed text, covering: a diff that leaves some of the original unmentioned is refused.
@@ -63,5 +63,5 @@ pub fn from_covering_diff(
 ) -> refusal::Counted
     ensures { λ r. ⌜ Replayed covering (diff (now (original .entry)) (now (items .entry)) (now (text .entry))) (now (out .entry)) r (now (out .exit)) ⌝ }
 {
-    diff::replay::from_covering_diff(original, items, text, out)
+    replay::from_covering_diff(original, items, text, out)
 }

@@ -4,7 +4,7 @@ use mathlib.Core.Path.{refl}
 use Rattle.numbers.specs.Points.{isPoint}
 use Rattle.records.specs.Tokens.{tokensFrom}
 use Rattle.overlap.proofs.Sheets.{sheets-hold as overlaps-hold}
-use Rattle.diff.proofs.Sheets.{sheets as replays-hold}
+use Rattle.replay.proofs.Sheets.{sheets as replays-hold}
 use Rattle.verdict.specs.Verdicts.{andThen, sized}
 use Rattle.verdict.specs.Points.{pointsFrom}
 use Rattle.sizes.specs.Texts.{total, runText}

@@ -4,7 +4,7 @@ use mathlib.Core.List.{List, [], _∷_, map}
 use lib.ListN.{length}
 use Rattle.overlap.specs.Overlap.{answerOf}
 use Rattle.overlap.specs.Sheets as overlaps
-use Rattle.diff.specs.Sheets as replays
+use Rattle.replay.specs.Sheets as replays
 use Rattle.verdict.specs.declared.Verdict.the-variants.{Accepted}
 use Rattle.sizes.specs.Sizes.{merging}
 use Rattle.checks.specs.Lists.{listsVerdict}

@@ -7,7 +7,7 @@ use lib.IntN.{pos, negsuc}
 use Rattle.refusal.specs.declared.Refusal.the-variants.{Short, Unmentioned}
 use Rattle.refusal.specs.declared.Counted.{Counted}
 use Rattle.refusal.specs.declared.Counted.the-variants.{Count, Refused}
-use Rattle.diff.specs.Answers.{Diff, diff, textOf, plain, covering, lengthOf}
+use Rattle.replay.specs.Answers.{Diff, diff, textOf, plain, covering, lengthOf}
 
 -- a diff with the plain answer, the text where there is one, and the covering answer
 pub record Sheet : Type 0 where

@@ -1,11 +1,11 @@
 -- `from_covering_diff_length` gives the length of a covering replay. What `judge` found decides, and then what is left (Answering).
 -- Assumes nothing.
-use Rattle.diff.proofs.Answering.{covering-stops, covering-leaves, covering-goes, as-long, length-stops, length-goes}
-use Rattle.diff.specs.Answers.{covering}
+use Rattle.replay.proofs.Answering.{covering-stops, covering-leaves, covering-goes, as-long, length-stops, length-goes}
+use Rattle.replay.specs.Answers.{covering}
 use mathlib.Core.Path.{sym, _∙_}
 use borrow.Author.Needs.{needs}
-use Rattle.diff.proofs.replay.from_covering_diff_length.Statement.{statement}
-use Rattle.diff.proofs.replay.from_covering_diff_length.Tie as tie
+use Rattle.replay.proofs.from_covering_diff_length.Statement.{statement}
+use Rattle.replay.proofs.from_covering_diff_length.Tie as tie
 
 judge-requires : tie.Need-judge-requires
 judge-requires c κs = search needs

@@ -11,15 +11,11 @@ use Rattle.room.specs.Placed.{placed, Put}
 use Rattle.room.proofs.Placing.{placed-none, placed-length, placed-more}
 use Rattle.string_builder.specs.Builder.{stopAt, Retained}
 use Rattle.string_builder.proofs.Stops.{stop-within, stop-rest, retained-length, put-none}
 use Rattle.diff.specs.declared.diff.Item.{Item}
 use Rattle.diff.specs.declared.diff.Item.the-variants.{Retain, Delete, Insert, Neither}
 use Rattle.diff.specs.Items.{itemAt, itemsOf}
 use Rattle.diff.specs.Replay.{editOf, editsOf, replayed}
 use Rattle.diff.proofs.Turns.{rest-all, restEdits, edits-at, edits-none}
-
--- a range by its start and its end is the range by its start and length
-pub range-part : (t : List ℕ) (s n : ℕ) → take (s + n - s) (drop s t) ≡ take n (drop s t)
-range-part t s n = let m : s + n - s ≡ n = omega arith in rw (m)
 
 pub record Building (o : List ℕ) (xs : List ℤ) (text out₀ : List ℕ) (i position : ℕ) (out : List ℕ) (at : ℕ) : Type 0 where
   pub within : position ≤ length o

@@ -1,10 +1,10 @@
 -- `fill` refuses a short room, and builds in one that is long enough (Answering).
 -- Assumes nothing.
-use Rattle.diff.proofs.Answering.{no-room, has-room}
+use Rattle.replay.proofs.Answering.{no-room, has-room}
 use native.Mathlib.Omega.{arith}
 use borrow.Author.Needs.{needs}
-use Rattle.diff.proofs.replay.fill.Statement.{statement}
-use Rattle.diff.proofs.replay.fill.Tie as tie
+use Rattle.replay.proofs.fill.Statement.{statement}
+use Rattle.replay.proofs.fill.Tie as tie
 
 returns : tie.Need-returns
 returns c = no-room _ _ (omega (arith, c .before .before .before .before .pre))

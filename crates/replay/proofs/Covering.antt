@@ -5,14 +5,12 @@ use mathlib.Core.List.{List}
 use Prim.Native.Nat.{ℕ, _+_, _≤_}
 use native.Mathlib.Omega.{arith}
 use lib.ListN.{length}
-use lib.Dec.{ltb}
-use borrow.Author.Tests.{ltb-false}
 use Rattle.refusal.specs.declared.Counted.{Counted}
 use Rattle.diff.specs.Items.{itemsOf}
 use Rattle.diff.specs.Replay.{mentioned, kept, added, left}
 use Rattle.diff.specs.Checks.{Verdict, fine, refused, andThen, sizes, points, records, covers}
-use Rattle.diff.specs.Answers.{Diff, edits, textOf, plain, covering, roomed, Replayed}
-use Rattle.diff.proofs.Laws.{picked-fine, numbers-enough, replayed-length}
+use Rattle.replay.specs.Answers.{Diff, edits, textOf, plain, covering, roomed, Replayed}
+use Rattle.diff.proofs.Laws.{covers-none, numbers-enough, replayed-length}
 
 then-fine : (a b : Verdict) → andThen a b ≡ fine → (a ≡ fine) × (b ≡ fine)
 then-fine fine b e = (refl, e)
@@ -35,11 +33,10 @@ module _ (d : Diff) where
 
   -- covering replay accepts exactly when plain replay accepts and nothing is left
   pub covering-plain : covering d ≡ fine → (plain d ≡ fine) × (left (length (d .original)) (edits d) ≡ 0)
-  unfolding covering covers
+  unfolding covering
   covering-plain e =
       let w = then-fine (plain d) _ e in
-      let t = picked-fine (ltb 0 (left (length (d .original)) (edits d))) _ fine (w .1) in
-      (w .0, omega (arith, ltb-false 0 (left (length (d .original)) (edits d)) (t .0)))
+      (w .0, covers-none (length (d .original)) (edits d) (w .1))
 
   pub plain-covering : plain d ≡ fine → left (length (d .original)) (edits d) ≡ 0 → covering d ≡ fine
   unfolding covering covers

@@ -12,10 +12,10 @@ use Rattle.refusal.specs.declared.Refusal.{Refusal}
 use Rattle.refusal.specs.declared.Refusal.the-variants.{Room, Unmentioned}
 use Rattle.refusal.specs.declared.Counted.{Counted}
 use Rattle.refusal.specs.declared.Counted.the-variants.{Count, Refused}
-use Rattle.diff.specs.declared.replay.Judged.the-variants.{Fine, Stopped}
+use Rattle.replay.specs.declared.Judged.the-variants.{Fine, Stopped}
 use Rattle.diff.specs.Replay.{left}
 use Rattle.diff.specs.Checks.{Verdict, fine, refused, covers, fits}
-use Rattle.diff.specs.Answers.{Diff, edits, textOf, always, plain, covering, roomed, lengthOf, found, judged, Replayed}
+use Rattle.replay.specs.Answers.{Diff, edits, textOf, always, plain, covering, roomed, lengthOf, found, judged, Replayed}
 
 stopped : (v : Verdict) (l n : ℕ) (r : Refusal) → found v l n ≡ Stopped r → v ≡ refused r
 stopped fine l n r e = cc

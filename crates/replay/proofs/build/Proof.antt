@@ -1,14 +1,14 @@
 -- `build` puts the replayed text. What is put, and what the items left will put, is all of it (Building).
 -- Assumes nothing.
-use Rattle.diff.proofs.Building.{Building, build-begins, build-ends, fits-retain, build-retain, step-retain, build-delete, fits-insert, build-insert, build-neither, range-part}
-use Rattle.diff.proofs.Decoding.{insert-within}
-use Rattle.diff.specs.Answers.{edits, textOf}
+use Rattle.replay.proofs.Building.{Building, build-begins, build-ends, fits-retain, build-retain, step-retain, build-delete, fits-insert, build-insert, build-neither}
+use Rattle.diff.proofs.Decoding.{insert-within, range-part}
+use Rattle.replay.specs.Answers.{edits, textOf}
 use native.Mathlib.Omega.{arith}
 use mathlib.Core.Path.{sym, _∙_}
 use Prim.Native.Nat.{_-_}
 use borrow.Author.Needs.{needs}
-use Rattle.diff.proofs.replay.build.Statement.{statement}
-use Rattle.diff.proofs.replay.build.Tie as tie
+use Rattle.replay.proofs.build.Statement.{statement}
+use Rattle.replay.proofs.build.Tie as tie
 
 abbrev Inv-items : tie.InvT-items
 Inv-items original items text out₀ count i₀ position₀ at₀ out i position at = Building original items text out₀ i position out at

@@ -1,36 +1,27 @@
 -- What the passes over a diff found, put together: the first refusal in the paper's order, or what is left and the length.
 -- Each law is one way through `judge`, by the definitions' own choices. Assumes nothing.
-use mathlib.Core.Path.{_≡_, refl, ap, _∙_}
+use mathlib.Core.Path.{_≡_, refl, _∙_}
 use mathlib.Core.Bool.{Bool, true, false}
 use mathlib.Core.List.{List}
-use Prim.Native.Nat.{ℕ, zero, suc, _+_, _-_, _/_, _≤_, _<_}
+use Prim.Native.Nat.{ℕ, _+_, _-_, _/_, _≤_, _<_}
 use native.Mathlib.Omega.{arith}
 use lib.ListN.{length}
-use lib.IntN.{ℤ}
 use lib.Dec.{ltb}
 use borrow.Author.Tests.{lt-ltb, le-ltb, ltb-false}
 use Rattle.room.specs.Choice.{pick}
 use Rattle.refusal.specs.declared.Refusal.{Refusal}
 use Rattle.refusal.specs.declared.Refusal.the-variants.{Size}
 use Rattle.diff.specs.declared.diff.Item.{Item}
 use Rattle.diff.specs.declared.diff.Surveyed.the-variants.{TooLong, Used, Stopped as Broken}
 use Rattle.diff.specs.declared.diff.Walked.the-variants.{Reached, Stopped as Short}
-use Rattle.diff.specs.declared.replay.Judged.the-variants.{Fine, Stopped}
-use Rattle.diff.specs.Items.{itemsFrom, itemsOf}
+use Rattle.replay.specs.declared.Judged.the-variants.{Fine, Stopped}
+use Rattle.diff.specs.Items.{itemsOf}
 use Rattle.diff.specs.Replay.{Edit, replayed, mentioned, kept, added, left}
 use Rattle.diff.specs.Checks.{Verdict, fine, refused, andThen, refuseIf, originalMost, itemsMost, textMost, used, sizes, points, records, numbers}
 use Rattle.diff.specs.Passes.{recorded, surveyed, reached, walked}
-use Rattle.diff.specs.Answers.{Diff, edits, textOf, plain, judged}
+use Rattle.replay.specs.Answers.{Diff, edits, textOf, plain, judged}
+use Rattle.diff.proofs.Decoding.{items-length}
 use Rattle.diff.proofs.Laws.{numbers-enough, kept-mentioned, replayed-length, added-used}
-
-items-from-length : (xs : List ℤ) (lent i k : ℕ) → length (itemsFrom xs lent i k) ≡ k
-unfolding itemsFrom
-items-from-length xs lent i zero = refl
-items-from-length xs lent i (suc k) = ap suc (items-from-length xs lent (i + 1) k)
-
-pub items-length : (xs : List ℤ) (lent : ℕ) → length (itemsOf xs lent) ≡ length xs / 3
-unfolding itemsOf
-items-length xs lent = items-from-length xs lent 0 (length xs / 3)
 
 -- what an answer of the survey says of the sizes and the records
 broken : (t : Bool) (v : Verdict) (n : ℕ) (r : Refusal) → pick t TooLong (recorded v n) ≡ Broken r → (t ≡ false) × (v ≡ refused r)

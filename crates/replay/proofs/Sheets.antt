@@ -1,12 +1,12 @@
 -- Every bench sheet of a replay comes out as the table says.
 -- By computation of the definitions. Assumes nothing.
 use mathlib.Core.Path.{refl}
 use Rattle.diff.specs.Items.{numbered, ranged, itemOf, itemAt, itemsFrom, itemsOf}
 use Rattle.diff.specs.Replay.{editOf, editsOf, replayed, mentioned, left}
 use Rattle.numbers.specs.Points.{isPoint}
 use Rattle.diff.specs.Checks.{used, sizes, points, records, numbers, covers}
-use Rattle.diff.specs.Answers.{edits, textOf, plain, covering, lengthOf}
-use Rattle.diff.specs.Sheets.{table, AllRight}
+use Rattle.replay.specs.Answers.{edits, textOf, plain, covering, lengthOf}
+use Rattle.replay.specs.Sheets.{table, AllRight}
 
 pub sheets : AllRight table
 unfolding numbered ranged itemOf itemAt itemsFrom itemsOf editOf editsOf replayed mentioned left used sizes isPoint points records numbers covers edits textOf plain covering lengthOf table AllRight

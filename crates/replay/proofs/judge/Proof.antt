@@ -1,13 +1,13 @@
 -- `judge` gives the first refusal in the paper's order, or what is left and the length. Each way is a law of Judging.
 -- Assumes nothing.
-use Rattle.diff.proofs.Judging.{reached-within, used-within, long-original, many-items, long-text, long-use, point-first, record-broken, point-bad, number-short, all-fine}
-use Rattle.diff.specs.Answers.{edits}
+use Rattle.replay.proofs.Judging.{reached-within, used-within, long-original, many-items, long-text, long-use, point-first, record-broken, point-bad, number-short, all-fine}
+use Rattle.replay.specs.Answers.{edits}
 use Rattle.diff.specs.Passes.{pointed}
 use native.Mathlib.Omega.{arith}
 use mathlib.Core.Path.{sym, ap, _∙_}
 use borrow.Author.Needs.{needs}
-use Rattle.diff.proofs.replay.judge.Statement.{statement}
-use Rattle.diff.proofs.replay.judge.Tie as tie
+use Rattle.replay.proofs.judge.Statement.{statement}
+use Rattle.replay.proofs.judge.Tie as tie
 
 returns : tie.Need-returns
 returns c = long-original _ (c .if1 .taken)

@@ -8,11 +8,11 @@ use lib.IntN.{ℤ}
 use Rattle.room.specs.Placed.{answered}
 use Rattle.refusal.specs.declared.Counted.{Counted}
 use Rattle.refusal.specs.declared.Counted.the-variants.{Count, Refused}
 use Rattle.diff.specs.Items.{itemsOf}
-use Rattle.diff.specs.declared.replay.Judged.{Judged}
-use Rattle.diff.specs.declared.replay.Judged.the-variants.{Fine, Stopped}
+use Rattle.replay.specs.declared.Judged.{Judged}
+use Rattle.replay.specs.declared.Judged.the-variants.{Fine, Stopped}
 use Rattle.diff.specs.Replay.{Edit, editsOf, replayed, left}
 use Rattle.diff.specs.Checks.{Verdict, fine, refused, andThen, sizes, points, records, numbers, covers, fits}
 
 -- a diff as lent: the original, the numbers of the items, their text
 pub record Diff : Type 0 where

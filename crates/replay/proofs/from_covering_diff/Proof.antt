@@ -1,11 +1,11 @@
 -- `from_covering_diff` meets the statement of a covering replay. What `judge` found decides, then what is left, then the room (Answering).
 -- Assumes nothing.
-use Rattle.diff.proofs.Answering.{covering-stops, covering-leaves, covering-goes, as-long, replay-stops, replay-goes}
-use Rattle.diff.specs.Answers.{covering}
+use Rattle.replay.proofs.Answering.{covering-stops, covering-leaves, covering-goes, as-long, replay-stops, replay-goes}
+use Rattle.replay.specs.Answers.{covering}
 use mathlib.Core.Path.{sym, _∙_}
 use borrow.Author.Needs.{needs}
-use Rattle.diff.proofs.replay.from_covering_diff.Statement.{statement}
-use Rattle.diff.proofs.replay.from_covering_diff.Tie as tie
+use Rattle.replay.proofs.from_covering_diff.Statement.{statement}
+use Rattle.replay.proofs.from_covering_diff.Tie as tie
 
 judge-requires : tie.Need-judge-requires
 judge-requires c κs = search needs

@@ -1,0 +1,5 @@
+pub mod Building
+pub mod Judging
+pub mod Answering
+pub mod Covering
+pub mod Sheets
