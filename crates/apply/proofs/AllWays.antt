@@ -21,7 +21,7 @@ use Rattle.merging.specs.Lent.{Lent}
 use Rattle.merging.specs.Outputs.{historyText, flatSpans}
 use Rattle.apply.specs.declared.WithAll.{WithAll}
 use Rattle.apply.specs.declared.WithAll.the-variants as B
-use Rattle.apply.specs.Parts.{textBy, historyBy, AllLie, Wrote}
+use Rattle.written_lists.specs.Parts.{textBy, historyBy, AllLie, Wrote}
 use Rattle.apply.specs.Answers.{verdictOn, textOn, historyOn, fits, allVerdict, toldAll, AppliesAll}
 use Rattle.apply.proofs.Lists.{history-is}
 use Rattle.apply.proofs.Answering.{all-lies, same-text, text-rooms, history-rooms, text-fits, history-fits}

@@ -30,7 +30,7 @@ use Rattle.merging.specs.Outputs.{historyText, flatSpans}
 use Rattle.apply.specs.declared.Applied.the-variants as A
 use Rattle.apply.specs.declared.WithHistory.the-variants as H
 use Rattle.apply.specs.declared.WithAll.the-variants as B
-use Rattle.apply.specs.Parts.{textBy, historyBy, removedBy, AllLie}
+use Rattle.written_lists.specs.Parts.{textBy, historyBy, removedBy, AllLie}
 use Rattle.apply.specs.Answers.{verdictOn, textOn, historyOn, fits, applied, told, toldAll}
 use Rattle.apply.proofs.Lists.{history-is, length-history, length-spans, lists-lie, text-is, text-count, removed-most, told-count as told-length}
 

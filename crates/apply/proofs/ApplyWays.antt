@@ -19,7 +19,7 @@ use Rattle.verdict.proofs.Chains.{stops, has-room, lacks-room}
 use Rattle.merging.specs.Lent.{Lent}
 use Rattle.apply.specs.declared.Applied.{Applied}
 use Rattle.apply.specs.declared.Applied.the-variants as A
-use Rattle.apply.specs.Parts.{textBy, AllLie}
+use Rattle.written_lists.specs.Parts.{textBy, AllLie}
 use Rattle.apply.specs.Answers.{verdictOn, textOn, fits, applyVerdict, applied, Applies}
 use Rattle.apply.proofs.Answering.{all-lies, same-text, text-rooms, text-fits}
 

@@ -16,7 +16,7 @@ use Rattle.merging.specs.Lent.{Lent}
 use Rattle.merging.specs.Outputs.{historyText, flatSpans}
 use Rattle.apply.specs.declared.WithHistory.{WithHistory}
 use Rattle.apply.specs.declared.WithHistory.the-variants as H
-use Rattle.apply.specs.Parts.{historyBy, AllLie, Wrote}
+use Rattle.written_lists.specs.Parts.{historyBy, AllLie, Wrote}
 use Rattle.apply.specs.Answers.{verdictOn, historyOn, fits, historyVerdict, told, Tells}
 use Rattle.apply.proofs.Lists.{history-is}
 use Rattle.apply.proofs.Answering.{all-lies, history-rooms, history-fits}

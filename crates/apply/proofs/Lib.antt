@@ -1,7 +1,3 @@
-pub mod Parts
-pub mod Sorting
-pub mod Texts
-pub mod Histories
 pub mod Lists
 pub mod Answering
 pub mod ApplyWays

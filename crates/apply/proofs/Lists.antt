@@ -22,9 +22,9 @@ use Rattle.merging.specs.Operations.{opOf, spanOf, opsFrom, outsFrom}
 use Rattle.merging.specs.Outputs.{textOf, Span, spanned, historyOf, historyText, flatSpans}
 use Rattle.merging.proofs.Decoded.{op-insert, op-delete, op-retain}
 use Rattle.merging_laws.proofs.Decoding.{text-of, tiles-insert, tiles-part}
-use Rattle.apply.specs.Parts.{wordsBy, given, givenBy, textBy, spanBy, historyBy, removedBy, Lies, AllLie}
+use Rattle.written_lists.specs.Parts.{wordsBy, given, givenBy, textBy, spanBy, historyBy, removedBy, Lies, AllLie}
 use Rattle.apply.specs.Answers.{textOn, historyOn}
-use Rattle.apply.proofs.Parts.{length-part, given-none, given-words, span-is}
+use Rattle.written_lists.proofs.Parts.{length-part, given-none, given-words, span-is}
 
 -- where an operation stands changes nothing of what it gives
 

@@ -1,0 +1,4 @@
+pub mod Parts
+pub mod Sorting
+pub mod Texts
+pub mod Histories
