@@ -14,8 +14,8 @@ use Rattle.diff.proofs.Decoding.{range-part}
 use Rattle.edit_format.specs.Items.{Item, Add}
 use Rattle.edit_format.specs.Written.{numberLine, keepKey, dropKey, itemLine, itemLines}
 use Rattle.written_lines.proofs.Emitting.{put-length, put-then}
-use Rattle.edit_write.specs.Writing.{fileItem, fileOf}
-use Rattle.edit_write.proofs.Checking.{rest, rest-all, rest-at, rest-none}
+use Rattle.writable.specs.Writable.{fileItem, fileOf}
+use Rattle.writable.proofs.Checking.{rest, rest-all, rest-at, rest-none}
 
 pub record Emitting (xs : List ℤ) (text d : List ℕ) (at : ℕ) (o : List ℕ) (k i : ℕ) : Type 0 where
   pub done : List ℕ

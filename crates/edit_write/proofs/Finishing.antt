@@ -17,11 +17,13 @@ use Rattle.edit_format.specs.Items.{Item, kept, dropped, added}
 use Rattle.edit_format.specs.Written.{formKey, originalKey, resultKey, itemsKey, endKey, numberLine, itemLines, headLines, headOf, written}
 use Rattle.written_lines.specs.Lengths.{cap}
 use Rattle.written_lines.proofs.Emitting.{put-then, put-length}
-use Rattle.edit_write.specs.Writing.{fileOf, writable, lengthOf, roomed, Wrote}
-use Rattle.edit_write.specs.Passes.{sumsOf, checkedBy, fileBytes}
-use Rattle.edit_write.specs.declared.Sums.{Sums}
-use Rattle.edit_write.specs.declared.Checked.the-variants.{Fine, Refused}
-use Rattle.edit_write.proofs.Checking.{file-length}
+use Rattle.writable.specs.Writable.{fileOf, writable}
+use Rattle.edit_write.specs.Writing.{lengthOf, roomed, Wrote}
+use Rattle.writable.specs.Passes.{sumsOf, checkedBy}
+use Rattle.edit_write.specs.Bytes.{fileBytes}
+use Rattle.writable.specs.declared.Sums.{Sums}
+use Rattle.writable.specs.declared.Checked.the-variants.{Fine, Refused}
+use Rattle.writable.proofs.Checking.{file-length}
 use Rattle.edit_write.proofs.Goodness.{writable-good, written-short}
 
 -- what the checks found

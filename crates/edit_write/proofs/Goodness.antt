@@ -26,8 +26,9 @@ use Rattle.edit_format.proofs.Picks.{both-0, both-1}
 use Rattle.edit_format.proofs.Accepts.{both-in}
 use Rattle.written_lines.proofs.Numbers.{few-digits}
 use Rattle.written_lines.proofs.Counting.{line-length, add-length}
-use Rattle.edit_write.specs.Writing.{fileItem, fileItems, fileOf, sizes, shapes, writable}
-use Rattle.edit_write.proofs.Counting.{keep-length, drop-length, head-length}
+use Rattle.writable.specs.Writable.{fileItem, fileItems, fileOf, sizes, shapes, writable}
+use Rattle.writable.proofs.Counting.{keep-length, drop-length}
+use Rattle.edit_write.proofs.Counting.{head-length}
 
 never : {r : Refusal} → _≡_ {A = Verdict} (refused r) fine → ⊥
 never e = let z : _≡_ {A = ℕ} 0 1 = cc in omega arith

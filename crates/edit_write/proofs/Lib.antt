@@ -1,7 +1,5 @@
-pub mod Checking
 pub mod Counting
 pub mod Emitting
-pub mod Looking
 pub mod Goodness
 pub mod Finishing
 pub mod Rewriting

@@ -23,8 +23,8 @@ use Rattle.edit_format.specs.Records.{recordsOf}
 use Rattle.edit_format.proofs.Picks.{both-1, apart}
 use Rattle.edit_format.proofs.TextLaws.{texts-length}
 use Rattle.edit_format.proofs.Accepts.{accepted-good}
-use Rattle.edit_write.specs.Writing.{fileItem, fileItems, fileOf}
-use Rattle.edit_write.proofs.Checking.{file-length}
+use Rattle.writable.specs.Writable.{fileItem, fileItems, fileOf}
+use Rattle.writable.proofs.Checking.{file-length}
 use Rattle.edit_write.proofs.Rewriting.{same-items, points-fine, texts-points}
 
 -- the edits of what is lent are the file's items

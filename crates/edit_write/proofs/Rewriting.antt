@@ -24,7 +24,7 @@ use Rattle.edit_format.proofs.RecordLaws.{length-record, length-records, added-
 use Rattle.edit_format.proofs.ReadBack.{read-back}
 use Rattle.edit_format.proofs.Canonical.{canonical}
 use Rattle.edit_format.proofs.Accepts.{accepted-good}
-use Rattle.edit_write.specs.Writing.{fileItem, fileItems, fileOf, sizes, shapes, writable}
+use Rattle.writable.specs.Writable.{fileItem, fileItems, fileOf, sizes, shapes, writable}
 use Rattle.edit_write.proofs.Goodness.{writable-good}
 
 -- law 1: what is written reads back the same items, with their text

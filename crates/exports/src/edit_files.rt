@@ -3,7 +3,8 @@ use answer::Answer;
 ghost use Rattle.answer.specs.Tellings.{ToldBy, tellBelieved, tellCount, tellFile};
 ghost use Rattle.edit_format.specs.Reading.{believes, readFile};
 ghost use Rattle.edit_read.specs.Answer.{ReadInto, lengthsOf};
-ghost use Rattle.edit_write.specs.Writing.{Wrote, fileOf, lengthOf};
+ghost use Rattle.writable.specs.Writable.{fileOf};
+ghost use Rattle.edit_write.specs.Writing.{Wrote, lengthOf};
 ghost use mathlib.Core.Path.{_≡_};
 
 // How many items and code points a file has: what its reader must be lent.

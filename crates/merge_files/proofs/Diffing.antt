@@ -26,7 +26,8 @@ use Rattle.edit_format.specs.Records.{recordsOf}
 use Rattle.edit_format.specs.Written.{written}
 use Rattle.edit_format.proofs.TextLaws.{texts-length}
 use Rattle.edit_format.proofs.RecordLaws.{length-records}
-use Rattle.edit_write.specs.Writing.{fileOf, roomed, Wrote}
+use Rattle.writable.specs.Writable.{fileOf}
+use Rattle.edit_write.specs.Writing.{roomed, Wrote}
 use Rattle.diff.specs.Checks.{fits}
 use Rattle.merging.specs.Lent.{Lent, lentOf as given}
 use Rattle.merging.specs.Operations.{opsFrom}

@@ -18,7 +18,8 @@ use Rattle.edit_format.specs.Written.{Head, endKey, numberLine, points, itemLin
 use Rattle.edit_format.proofs.Picks.{both-0, both-1}
 use Rattle.written_lines.proofs.Numbers.{one-digit, one-less}
 use Rattle.written_lines.proofs.Counting.{line-length, add-length}
-use Rattle.edit_write.proofs.Counting.{keep-length, drop-length, head-length}
+use Rattle.writable.proofs.Counting.{keep-length, drop-length}
+use Rattle.edit_write.proofs.Counting.{head-length}
 
 one-more : (m n k : ℕ) → 1 < m → length (digits m (n / m)) ≤ k → length (digits m n) ≤ k + 1
 one-more m n k h e =

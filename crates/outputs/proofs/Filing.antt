@@ -21,7 +21,8 @@ use Rattle.edit_format.proofs.ReadBack.{read-back}
 use Rattle.edit_read.specs.declared.FileRead.{FileRead}
 use Rattle.edit_read.specs.declared.FileRead.the-variants.{Counts}
 use Rattle.edit_read.specs.Answer.{answerOf, itemsLeft, textLeft, ReadInto}
-use Rattle.edit_write.specs.Writing.{fileOf, writable, roomed, Wrote}
+use Rattle.writable.specs.Writable.{fileOf, writable}
+use Rattle.edit_write.specs.Writing.{roomed, Wrote}
 use Rattle.edit_write.proofs.Rewriting.{same-items, good-writable}
 use Rattle.merging.specs.Lent.{Lent}
 use Rattle.to_diff.specs.Items.{diffOf}

@@ -26,7 +26,7 @@ use Rattle.sizes.specs.Texts.{listText}
 use Rattle.edit_format.specs.Items.{Item, Keep, Drop, Add, texts, Good}
 use Rattle.edit_format.specs.Records.{recordsOf}
 use Rattle.edit_format.proofs.RecordLaws.{length-records}
-use Rattle.edit_write.specs.Writing.{fileItem, fileItems, fileOf}
+use Rattle.writable.specs.Writable.{fileItem, fileItems, fileOf}
 use Rattle.edit_write.proofs.Rewriting.{same-items}
 use Rattle.edit_write.proofs.Replaying.{covers-all}
 use Rattle.merging.specs.Lent.{Lent}

@@ -1,7 +1,8 @@
 // Edit files, read, written and believed.
 ghost use Rattle.edit_format.specs.Reading.{believes, readFile};
 ghost use Rattle.edit_read.specs.Answer.{ReadInto, lengthsOf};
-ghost use Rattle.edit_write.specs.Writing.{Wrote, fileOf, lengthOf};
+ghost use Rattle.writable.specs.Writable.{fileOf};
+ghost use Rattle.edit_write.specs.Writing.{Wrote, lengthOf};
 ghost use mathlib.Core.Path.{_≡_};
 
 // How many items and code points a file has: what its reader must be lent.

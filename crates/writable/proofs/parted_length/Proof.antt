@@ -1,9 +1,9 @@
 -- Shown: `parted_length` answers the length of all code points with a byte beside each, capped.
 -- How: each way through it is a law of proofs/Looking.antt.
-use Rattle.edit_write.proofs.Looking.{no-text, parted}
+use Rattle.writable.proofs.Looking.{no-text, parted}
 use borrow.Author.Needs.{needs}
-use Rattle.edit_write.proofs.parted_length.Statement.{statement}
-use Rattle.edit_write.proofs.parted_length.Tie as tie
+use Rattle.writable.proofs.parted_length.Statement.{statement}
+use Rattle.writable.proofs.parted_length.Tie as tie
 
 returns : tie.Need-returns
 returns c = no-text _ (c .if1 .taken)

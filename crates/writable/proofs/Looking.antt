@@ -18,12 +18,12 @@ use Rattle.edit_format.specs.Written.{points, itemLine, itemLines}
 use Rattle.written_lines.specs.Lengths.{cap, further}
 use Rattle.written_lines.proofs.Numbers.{few-digits}
 use Rattle.written_lines.proofs.Counting.{add-length, points-further, no-point}
-use Rattle.edit_write.specs.Writing.{fileItem, fileOf}
-use Rattle.edit_write.specs.Passes.{Sound}
-use Rattle.edit_write.specs.declared.Sums.{Sums}
-use Rattle.edit_write.specs.declared.Looked.the-variants.{Unsure, Sure}
-use Rattle.edit_write.proofs.Checking.{rest, rest-all, rest-at, rest-none, text-length, Tallying, tally-begins, tally-retain, tally-delete, tally-insert, tally-ends, Shaping, shape-begins, retain-on, delete-on, insert-on, shape-ends}
-use Rattle.edit_write.proofs.Counting.{keep-length, drop-length}
+use Rattle.writable.specs.Writable.{fileItem, fileOf}
+use Rattle.writable.specs.Passes.{Sound}
+use Rattle.writable.specs.declared.Sums.{Sums}
+use Rattle.writable.specs.declared.Looked.the-variants.{Unsure, Sure}
+use Rattle.writable.proofs.Checking.{rest, rest-all, rest-at, rest-none, text-length, Tallying, tally-begins, tally-retain, tally-delete, tally-insert, tally-ends, Shaping, shape-begins, retain-on, delete-on, insert-on, shape-ends}
+use Rattle.writable.proofs.Counting.{keep-length, drop-length}
 
 further-cut : (n : ℕ) (t : List ℕ) → length (further t) ≡ length (further (take n t)) + length (further (drop n t))
 unfolding further

@@ -2,10 +2,10 @@
 -- How: each way through it is a law of proofs/Checking.antt, by what the look shows or by a closer inspection.
 use mathlib.Core.Path.{sym, ap, _∙_}
 use Rattle.diff.specs.Passes.{pointed}
-use Rattle.edit_write.proofs.Checking.{many-items, long-text, bad-point, all-fine}
+use Rattle.writable.proofs.Checking.{many-items, long-text, bad-point, all-fine}
 use borrow.Author.Needs.{needs}
-use Rattle.edit_write.proofs.check.Statement.{statement}
-use Rattle.edit_write.proofs.check.Tie as tie
+use Rattle.writable.proofs.check.Statement.{statement}
+use Rattle.writable.proofs.check.Tie as tie
 
 returns : tie.Need-returns
 returns c = many-items _ _ (c .if1 .taken)

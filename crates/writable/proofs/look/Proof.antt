@@ -4,10 +4,10 @@ use Prim.Native.Nat.{_-_}
 use mathlib.Core.Path.{sym, _∙_}
 use native.Mathlib.Omega.{arith}
 use Rattle.diff.proofs.Decoding.{insert-within}
-use Rattle.edit_write.proofs.Looking.{Looking, look-begins, look-retain, look-delete, look-insert, look-small, look-ends, unsure, sure}
+use Rattle.writable.proofs.Looking.{Looking, look-begins, look-retain, look-delete, look-insert, look-small, look-ends, unsure, sure}
 use borrow.Author.Needs.{needs}
-use Rattle.edit_write.proofs.look.Statement.{statement}
-use Rattle.edit_write.proofs.look.Tie as tie
+use Rattle.writable.proofs.look.Statement.{statement}
+use Rattle.writable.proofs.look.Tie as tie
 
 abbrev Inv-look : tie.InvT-look
 Inv-look items text lent count kept₀ used₀ added₀ lines₀ keeps₀ i₀ kept used added lines keeps i =

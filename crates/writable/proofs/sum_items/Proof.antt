@@ -3,10 +3,10 @@
 use Prim.Native.Nat.{_-_}
 use mathlib.Core.Path.{sym, _∙_}
 use native.Mathlib.Omega.{arith}
-use Rattle.edit_write.proofs.Checking.{Tallying, tally-begins, tally-retain, tally-delete, tally-insert, tally-neither, retain-over, delete-over, insert-over, tally-ends}
+use Rattle.writable.proofs.Checking.{Tallying, tally-begins, tally-retain, tally-delete, tally-insert, tally-neither, retain-over, delete-over, insert-over, tally-ends}
 use borrow.Author.Needs.{needs}
-use Rattle.edit_write.proofs.sum_items.Statement.{statement}
-use Rattle.edit_write.proofs.sum_items.Tie as tie
+use Rattle.writable.proofs.sum_items.Statement.{statement}
+use Rattle.writable.proofs.sum_items.Tie as tie
 
 abbrev Inv-items : tie.InvT-items
 Inv-items items text lent count kept₀ used₀ added₀ i₀ kept used added i = Tallying items text i kept used added

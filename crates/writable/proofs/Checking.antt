@@ -22,11 +22,11 @@ use Rattle.diff.proofs.Decoding.{items-more, items-none, items-length, insert-w
 use Rattle.edit_format.specs.Items.{Item, kept, dropped, added}
 use Rattle.edit_format.specs.Written.{itemLines}
 use Rattle.written_lines.specs.Lengths.{cap}
-use Rattle.edit_write.specs.Writing.{fileItem, fileItems, fileOf, sizes, shapes, writable}
-use Rattle.edit_write.specs.Passes.{sumsOf, tallyOf, shaped, checkedBy}
-use Rattle.edit_write.specs.declared.Sums.{Sums}
-use Rattle.edit_write.specs.declared.Tally.the-variants.{TooBig, Fits}
-use Rattle.edit_write.specs.declared.Checked.the-variants.{Fine, Refused}
+use Rattle.writable.specs.Writable.{fileItem, fileItems, fileOf, sizes, shapes, writable}
+use Rattle.writable.specs.Passes.{sumsOf, tallyOf, shaped, checkedBy}
+use Rattle.writable.specs.declared.Sums.{Sums}
+use Rattle.writable.specs.declared.Tally.the-variants.{TooBig, Fits}
+use Rattle.writable.specs.declared.Checked.the-variants.{Fine, Refused}
 
 -- the file's items from the lent item i on
 abbrev pub rest : List ℤ → List ℕ → ℕ → List Item

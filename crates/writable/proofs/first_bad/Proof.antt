@@ -3,10 +3,10 @@
 use Prim.Native.Nat.{_-_}
 use mathlib.Core.Path.{sym, _∙_}
 use native.Mathlib.Omega.{arith}
-use Rattle.edit_write.proofs.Checking.{Shaping, shape-begins, retain-none, retain-joined, retain-on, delete-none, delete-on, insert-none, insert-on, neither-bad, shape-ends}
+use Rattle.writable.proofs.Checking.{Shaping, shape-begins, retain-none, retain-joined, retain-on, delete-none, delete-on, insert-none, insert-on, neither-bad, shape-ends}
 use borrow.Author.Needs.{needs}
-use Rattle.edit_write.proofs.first_bad.Statement.{statement}
-use Rattle.edit_write.proofs.first_bad.Tie as tie
+use Rattle.writable.proofs.first_bad.Statement.{statement}
+use Rattle.writable.proofs.first_bad.Tie as tie
 
 abbrev Inv-items : tie.InvT-items
 Inv-items items text lent count joined₀ i₀ joined i = Shaping items text joined i

@@ -1,10 +1,9 @@
--- What the writer's passes find: sums, the first item that cannot be written, the file under a header. Assumes nothing.
+-- What the writer's passes find: sums, and the first item that cannot be written. Assumes nothing.
 use mathlib.Core.Path.{_≡_}
 use mathlib.Core.Bool.{false}
-use Prim.Native.Nat.{ℕ, _+_, _/_}
-use mathlib.Core.List.{List, _++_}
+use Prim.Native.Nat.{ℕ, _+_}
+use mathlib.Core.List.{List}
 use lib.ListN.{length}
-use lib.IntN.{ℤ}
 use lib.Dec.{ltb}
 use Rattle.room.specs.Choice.{pick}
 use Rattle.refusal.specs.declared.Refusal.the-variants.{Record}
@@ -12,14 +11,14 @@ use Rattle.diff.specs.declared.diff.Bad.{Bad}
 use Rattle.diff.specs.declared.diff.Bad.the-variants.{At, Nowhere}
 use Rattle.diff.specs.Checks.{Verdict, fine, refused}
 use Rattle.edit_format.specs.Items.{Item, kept, dropped, added}
-use Rattle.edit_format.specs.Written.{headLines, itemLines, numberLine, endKey}
+use Rattle.edit_format.specs.Written.{itemLines}
 use Rattle.written_lines.specs.Lengths.{cap}
-use Rattle.edit_write.specs.Writing.{fileOf, shapes}
-use Rattle.edit_write.specs.declared.Sums.{Sums}
-use Rattle.edit_write.specs.declared.Tally.{Tally}
-use Rattle.edit_write.specs.declared.Tally.the-variants.{TooBig, Fits}
-use Rattle.edit_write.specs.declared.Checked.{Checked}
-use Rattle.edit_write.specs.declared.Checked.the-variants.{Fine, Refused}
+use Rattle.writable.specs.Writable.{shapes}
+use Rattle.writable.specs.declared.Sums.{Sums}
+use Rattle.writable.specs.declared.Tally.{Tally}
+use Rattle.writable.specs.declared.Tally.the-variants.{TooBig, Fits}
+use Rattle.writable.specs.declared.Checked.{Checked}
+use Rattle.writable.specs.declared.Checked.the-variants.{Fine, Refused}
 
 abbrev pub sumsOf : List Item → Sums
 sumsOf is = record { kept = kept is; used = kept is + dropped is; added = added is }
@@ -40,8 +39,3 @@ pub record Sound (is : List Item) (s : Sums) (n : ℕ) : Type 0 where
   pub fits : Fits s ≡ tallyOf is
   pub good : shaped Nowhere ≡ shapes false 0 is
   pub lines : n ≡ cap (length (itemLines is))
-
--- the file of the lent items under a header with these sums
-unfoldable pub fileBytes : List ℤ → List ℕ → ℕ → ℕ → List ℕ
-fileBytes items text o r =
-    headLines (record { original = o; result = r; count = length items / 3 }) ++ itemLines (fileOf items text) ++ numberLine endKey (length items / 3)

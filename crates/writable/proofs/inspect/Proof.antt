@@ -1,12 +1,12 @@
 -- Shown: `inspect` answers `checkedBy`.
 -- How: each way through it is a law of proofs/Checking.antt.
 use mathlib.Core.Path.{sym, ap, _∙_}
-use Rattle.edit_write.specs.Passes.{shaped}
+use Rattle.writable.specs.Passes.{shaped}
 use Rattle.diff.specs.Passes.{pointed}
-use Rattle.edit_write.proofs.Checking.{too-big, bad-point, bad-shape, all-fine}
+use Rattle.writable.proofs.Checking.{too-big, bad-point, bad-shape, all-fine}
 use borrow.Author.Needs.{needs}
-use Rattle.edit_write.proofs.inspect.Statement.{statement}
-use Rattle.edit_write.proofs.inspect.Tie as tie
+use Rattle.writable.proofs.inspect.Statement.{statement}
+use Rattle.writable.proofs.inspect.Tie as tie
 
 sum-items-requires : tie.Need-sum-items-requires
 sum-items-requires c κs = search needs

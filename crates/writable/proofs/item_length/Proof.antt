@@ -3,10 +3,10 @@
 use mathlib.Core.Path.{sym, _∙_}
 use native.Mathlib.Omega.{arith}
 use Rattle.diff.proofs.Decoding.{insert-within}
-use Rattle.edit_write.proofs.Counting.{retain-length, delete-length, insert-length, neither-length}
+use Rattle.writable.proofs.Counting.{retain-length, delete-length, insert-length, neither-length}
 use borrow.Author.Needs.{needs}
-use Rattle.edit_write.proofs.item_length.Statement.{statement}
-use Rattle.edit_write.proofs.item_length.Tie as tie
+use Rattle.writable.proofs.item_length.Statement.{statement}
+use Rattle.writable.proofs.item_length.Tie as tie
 
 item-at-requires : tie.Need-item-at-requires
 item-at-requires c κs = c .before .pre

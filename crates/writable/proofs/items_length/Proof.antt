@@ -2,9 +2,9 @@
 -- How: loop `items` keeps `ItemsCount`, and each way through it is a law of proofs/Counting.antt.
 use Prim.Native.Nat.{_-_}
 use native.Mathlib.Omega.{arith}
-use Rattle.edit_write.proofs.Counting.{ItemsCount, items-begin, items-more, items-end}
-use Rattle.edit_write.proofs.items_length.Statement.{statement}
-use Rattle.edit_write.proofs.items_length.Tie as tie
+use Rattle.writable.proofs.Counting.{ItemsCount, items-begin, items-more, items-end}
+use Rattle.writable.proofs.items_length.Statement.{statement}
+use Rattle.writable.proofs.items_length.Tie as tie
 
 abbrev Inv-items : tie.InvT-items
 Inv-items items text count sum₀ i₀ sum i = ItemsCount items text sum i
