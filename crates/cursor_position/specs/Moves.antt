@@ -33,7 +33,7 @@ abbrev pub Spacious : List ℕ → Progress → List ℕ → Type 0
 Spacious xs p d = (p .count + (length xs / 2 - p .next)) * 2 ≤ length d
 
 -- Of the cursors that had not moved the first went into the room, as ms, behind those that it held; bs are left. A room that was
--- "answer, and what was there" is so again, the answer being longer by ms.
+-- an answer and what was there behind it is so again, the answer being longer by ms.
 pub record Went (xs : List ℕ) (ms bs : List Cursor) (d d′ : List ℕ) (p r : Progress) : Type 0 where
   pub next : r .next ≡ p .next + length ms
   pub count : r .count ≡ p .count + length ms

@@ -10,11 +10,11 @@ use Rattle.edit_format.specs.Tests.{both}
 unfoldable pub digit : ℕ → ℕ
 digit d = pick (ltb d 10) (d + 48) (d + 87)
 
--- the digit that a byte writes, if it writes one
+-- "Numbers are decimal, `add=` .. in lower-case hex": the digit that a byte writes, if it writes one
 unfoldable pub digitOf : ℕ → ℕ
 digitOf b = pick (ltb b 58) (b - 48) (b - 87)
 
--- the byte writes a digit of base m
+-- "decimal", "lower-case hex": the byte writes a digit of base m
 unfoldable pub isDigit : ℕ → ℕ → Bool
 isDigit m b = both (eqb (digit (digitOf b)) b) (ltb (digitOf b) m)
 
@@ -27,6 +27,6 @@ unfoldable pub digitsIn : ℕ → ℕ → ℕ → List ℕ
 digitsIn zero m n = digit n ∷ []
 digitsIn (suc f) m n = pick (ltb n m) (digit n ∷ []) (digitsIn f m (n / m) ++ digit (n % m) ∷ [])
 
--- "Numbers are decimal, `add=` .. in lower-case hex; no leading zeros": n in base m
+-- "Numbers are decimal, `add=` .. in lower-case hex, ..; no leading zeros": n in base m
 unfoldable pub digits : ℕ → ℕ → List ℕ
 digits m n = digitsIn n m n

@@ -35,7 +35,7 @@ added (Keep n ∷ is) = added is
 added (Drop n ∷ is) = added is
 added (Add cs ∷ is) = length cs + added is
 
--- all added code points, one after the other
+-- "keep plus added is result": all added code points, one after the other
 unfoldable pub texts : List Item → List ℕ
 texts [] = []
 texts (Keep n ∷ is) = texts is

@@ -87,7 +87,7 @@ fits (items o r) cs n = leb n 8192
 fits (item h is k) cs n = both (ltb (length is) 8192) (fitsItem is k cs n)
 fits (ending h is) cs n = eqb n (h .count)
 
--- where the reader stands between two bytes
+-- "Lines end in LF, in this order": where the reader stands between two bytes
 pub data State : Type 0 where
   -- this line is bad
   bad : ℕ → State
@@ -102,7 +102,7 @@ pub data State : Type 0 where
   -- the end line was read
   after : Head → List Item → State
 
--- an item's kind, by the first byte of its line; a byte that begins no key is found to be bad by the key
+-- "`keep=`, `drop=` or `add=`": an item's kind, by the first byte of its line; a byte that begins no key is found to be bad by the key
 unfoldable pub kindOf : ℕ → Kind
 kindOf b = pick (eqb b 107) keeping (pick (eqb b 100) dropping adding)
 
@@ -116,7 +116,7 @@ itemOf adding cs n = Add (cs ++ n ∷ [])
 unfoldable pub opened : Head → List Item → State
 opened h is = pick (eqb (length is) (h .count)) (key (ending h is) 0) (open′ h is)
 
--- past the LF of a good line
+-- "Lines end in LF, in this order": past the LF of a good line
 unfoldable pub next : Line → List ℕ → ℕ → State
 unfolding opened itemOf
 next form cs n = key original 0
@@ -126,11 +126,11 @@ next (items o r) cs n = opened (record { original = o; result = r; count = n }) 
 next (item h is k) cs n = opened h (is ++ itemOf k cs n ∷ [])
 next (ending h is) cs n = after h is
 
--- a number's first digit
+-- "Numbers are decimal", "in lower-case hex": a number's first digit
 unfoldable pub begun : Line → List ℕ → ℕ → State
 begun l cs b = pick (isDigit (base l) b) (num l cs (digitOf b)) (bad (lineNo l))
 
--- a byte of the key, or past it
+-- "`form=1`, `original=`, `result=`, `items=`, that many of `keep=`, `drop=` or `add=`": a byte of the key, or past it
 unfoldable pub keyed : Line → ℕ → ℕ → State
 keyed l i b =
     pick (ltb i (length (keyOf l)))
@@ -156,7 +156,7 @@ step (num l cs n) b = numbered l cs n b
 step (open′ h is) b = keyed (item h is (kindOf b)) 0 b
 step (after h is) b = bad (length is + 6)
 
--- one step for each byte, in order
+-- "Lines end in LF, in this order": one step for each byte
 unfoldable pub run : State → List ℕ → State
 run s [] = s
 run s (b ∷ bs) = run (step s b) bs

@@ -58,7 +58,7 @@ unfoldable pub itemLines : List Item → List ℕ
 itemLines [] = []
 itemLines (i ∷ is) = itemLine i ++ itemLines is
 
--- what the header says
+-- "`original=`, `result=`, `items=`": what the header says
 pub record Head : Type 0 where
   pub original : ℕ
   pub result : ℕ

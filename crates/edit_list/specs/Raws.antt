@@ -22,7 +22,7 @@ runOf at (Keep n) = record { kind = 2; tokens = partToken n ∷ [] }
 runOf at (Drop n) = record { kind = 0; tokens = partToken n ∷ [] }
 runOf at (Add cs) = record { kind = 1; tokens = pointTokens at cs }
 
--- the raw list of a file's items, their texts one after the other from place `at` on
+-- "makes each added code point a joinable token keyed by itself, each keep or drop one joinable token": the raw list of a file's items, their texts one after the other from place `at` on
 unfoldable pub runsOf : ℕ → List Item → List Run
 runsOf at [] = []
 runsOf at (i ∷ is) = runOf at i ∷ runsOf (at + size i) is

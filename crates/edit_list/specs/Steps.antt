@@ -29,6 +29,7 @@ runIn text at (Delete n) = record { kind = 0; tokens = partToken n ∷ [] }
 runIn text at (Insert s n) = record { kind = 1; tokens = pointTokens (at + s) (take n (drop (at + s) text)) }
 runIn text at Neither = record { kind = 3; tokens = [] }
 
+-- the same of all items
 unfoldable pub runsIn : List ℕ → ℕ → List Edit → List Run
 runsIn text at [] = []
 runsIn text at (x ∷ xs) = runIn text at x ∷ runsIn text at xs
@@ -61,6 +62,7 @@ pub record SmallRun (r : Run) : Type 0 where
   pub known : r .kind ≤ 2
   pub small : piecesLength (r .tokens) ≤ 131070
 
+-- the same of each run of a list
 unfoldable pub AllSmall : List Run → Type 0
 AllSmall [] = Unit
 AllSmall (r ∷ rs) = SmallRun r × AllSmall rs
@@ -85,6 +87,7 @@ pub record Filled (rs : List Run) (raw s k raw′ s′ k′ : List ℕ) (tokens 
   pub in-keys : k′ ≡ answered (flatKeys (allTokens rs)) k
   pub many : tokens ≡ length (allTokens rs)
 
+-- the rooms reach as far as a raw list would
 pub record Fits (rs : List Run) (raw s k : List ℕ) : Type 0 where
   pub small : AllSmall rs
   pub in-raw : length rs * 3 ≤ length raw
@@ -98,6 +101,7 @@ pub record Readable (file : List ℕ) (at : ℕ) (text : List ℕ) (items : List
   pub text-fits : at + 1024 ≤ length text
   pub items-fit : 1023 ≤ length items
 
+-- the items in their room, and their text at its place of the lent text
 pub record ItemsRead (is : List Item) (at : ℕ) (text text′ : List ℕ) (items items′ : List ℤ) (r : Sizes) : Type 0 where
   pub text-is : text′ ≡ placed text at (texts is)
   pub items-are : items′ ≡ answered (recordsOf is) items
@@ -114,6 +118,7 @@ pub record Makeable (file : List ℕ) (at : ℕ) (text raw s k : List ℕ) : Typ
   pub in-spans : 2048 ≤ length s
   pub in-keys : 1024 ≤ length k
 
+-- the raw list of the items in its rooms, and their text at its place
 pub record RawsMade (is : List Item) (at : ℕ) (text text′ raw s k raw′ s′ k′ : List ℕ) (r : Made) : Type 0 where
   pub text-is : text′ ≡ placed text at (texts is)
   pub raws : Filled (runsOf at is) raw s k raw′ s′ k′ (r .tokens)
@@ -125,6 +130,7 @@ unfoldable pub shiftedFrom : List ℕ → ℕ → ℕ → ℕ → List ℕ
 shiftedFrom o by i zero = o
 shiftedFrom o by i (suc n) = shiftedFrom (set o (i * 6 + 4) (getD o (i * 6 + 4) 0 + by)) by (i + 1) n
 
+-- so many operations stand there, and their sums do not wrap
 pub record Shiftable (o : List ℕ) (count by : ℕ) : Type 0 where
   pub fits : count * 6 ≤ length o
   pub small : (j : ℕ) → j < count → getD o (j * 6 + 4) 0 + by < 9223372036854775808
@@ -146,6 +152,7 @@ pub record Stands (rs : List Run) (first : ℕ) (o s k o′ s′ k′ : List ℕ
   pub spans-are : s′ ≡ placed s (first * 2) (flatSpans (allTokens (elongated rs)))
   pub keys-are : k′ ≡ placed k first (flatKeys (allTokens (elongated rs)))
 
+-- a raw list elongated, with its counts
 pub record Raised (raw s k : List ℕ) (first : ℕ) (o s₀ k₀ o′ s′ k′ : List ℕ) (r : Written) : Type 0 where
   pub stands : Stands (runsLent s k joinable (rawsOf raw)) first o s₀ k₀ o′ s′ k′
   pub many-operations : r .operations ≡ length (elongated (runsLent s k joinable (rawsOf raw)))

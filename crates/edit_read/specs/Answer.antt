@@ -31,7 +31,7 @@ itemsLeft (Counts n m) (Accepted is) d = answered (recordsOf is) d
 itemsLeft (Counts n m) (Refused l) d = d
 itemsLeft (No e) f d = d
 
--- the same of the text's room
+-- "A refusal writes nothing. On success a room past its answer is unchanged": the text's room
 unfoldable pub textLeft : FileRead → Found → List ℕ → List ℕ
 textLeft (Counts n m) (Accepted is) d = answered (texts is) d
 textLeft (Counts n m) (Refused l) d = d

@@ -40,22 +40,22 @@ abbrev pub mergeOn : List ℕ → List ℕ → List ℕ → List ℕ → List �
 mergeOn original text spans keys left right lcs rcs =
     mergeOf (rulesOf (lentOf original text spans keys)) (operationsOf left) (operationsOf right) (cursorsOf lcs) (cursorsOf rcs)
 
--- the answer by the verdict: how many operations and cursors, or the refusal
+-- "its result, numbers of a refusal included": how many operations and cursors, or the refusal
 abbrev pub answerOf : Verdict → Merged → Answer
 answerOf Accepted m = A.Counts (record { operations = length (m .operations); cursors = length (m .cursors) })
 answerOf (Refused r) m = A.Refused r
 
--- "A refusal writes nothing.", "only the work room is unspecified": past its length
+-- "A refusal writes nothing.", "only the work room is unspecified": all but its length
 abbrev pub WorkLeft : Verdict → List ℕ → List ℕ → Type 0
 WorkLeft Accepted w w′ = length w′ ≡ length w
 WorkLeft (Refused r) w w′ = w′ ≡ w
 
--- the verdict on all that was lent
+-- "Order for lists: 3, 4, 1, 2, 5, 7": of all that was lent
 abbrev pub verdictOn : List ℕ → List ℕ → List ℕ → List ℕ → List ℕ → List ℕ → List ℕ → List ℕ → List ℕ → List ℕ → List ℕ → Verdict
 verdictOn original text spans keys left right lcs rcs o c w =
     mergeVerdict original text spans keys (operationsOf left) (operationsOf right) (cursorsOf lcs) (cursorsOf rcs) (length o) (length c) (length w)
 
--- what `merge` answers and leaves in its rooms
+-- "A public call's statement covers its result, numbers of a refusal included, and the lent buffers": what `merge` answers and leaves in its rooms
 pub record MergedBy (original text spans keys left right lcs rcs o o′ c c′ w w′ : List ℕ) (r : Answer) : Type 0 where
   pub answer : r ≡ answerOf (verdictOn original text spans keys left right lcs rcs o c w) (mergeOn original text spans keys left right lcs rcs)
   pub operations : o′ ≡ leaves (verdictOn original text spans keys left right lcs rcs o c w) (flatOperations (mergeOn original text spans keys left right lcs rcs .operations)) o

@@ -13,6 +13,7 @@ use Rattle.elongate.specs.declared.Step.{Step}
 use Rattle.elongate.specs.declared.Step.the-variants.{Take, Skip, End}
 use Rattle.elongate.specs.Elongated.{parts, arranged}
 
+-- "A raw operation is a kind and its tokens": its kind
 abbrev pub kindOf : Raw → ℕ
 kindOf r = r .kind
 
@@ -52,5 +53,6 @@ Gives xs p (Take i q) = (i < length xs / 3) × ((left xs p ≡ rawAt xs i ∷ le
 Gives xs p (Skip q) = (left xs p ≡ left xs q) × ((work (length xs / 3) q < work (length xs / 3) p) × Lies (length xs / 3) q)
 Gives xs p End = left xs p ≡ []
 
+-- the statement of a step
 pub record Stepped (xs : List ℕ) (p : Place) (s : Step) : Type 0 where
   pub gives : Gives xs p s

@@ -28,12 +28,12 @@ rawVerdict text spans keys joins rs o s k j =
     andThen (sized (rawFits (length text) spans keys joins rs))
     (andThen (pointsFrom text 0) (andThen (shapesFrom (length text) spans keys joins rs 0) (roomed (roomsFit rs o s k j))))
 
--- the answer by the verdict: how many operations and tokens, or the refusal
+-- "its result, numbers of a refusal included": how many operations and tokens, or the refusal
 abbrev pub answerOf : Verdict → ℕ → ℕ → Answer
 answerOf Accepted o t = A.Counts (record { operations = o; tokens = t })
 answerOf (Refused r) o t = A.Refused r
 
--- what `elongate` answers and leaves in its rooms
+-- "A public call's statement covers its result, numbers of a refusal included, and the lent buffers": what `elongate` answers and leaves in its rooms, by a verdict
 pub record Elongates (xs spans keys joins text o s k j o′ s′ k′ j′ : List ℕ) (v : Verdict) (r : Answer) : Type 0 where
   pub answer : r ≡ answerOf v (length (elongated (runsOf spans keys joins (rawsOf xs)))) (counts (rawsOf xs))
   pub operations : o′ ≡ leaves v (flatOperations (cooked (elongated (runsOf spans keys joins (rawsOf xs))))) o
@@ -41,6 +41,6 @@ pub record Elongates (xs spans keys joins text o s k j o′ s′ k′ j′ : Lis
   pub in-keys : k′ ≡ leaves v (flatKeys (allTokens (elongated (runsOf spans keys joins (rawsOf xs))))) k
   pub in-joins : j′ ≡ leaves v (flatJoins (allTokens (elongated (runsOf spans keys joins (rawsOf xs))))) j
 
--- the same, by the verdict on what was lent
+-- "Raw lists: 3, 4, 1, 7.": of all that was lent
 abbrev pub verdictOn : List ℕ → List ℕ → List ℕ → List ℕ → List ℕ → List ℕ → List ℕ → List ℕ → List ℕ → Verdict
 verdictOn xs spans keys joins text o s k j = rawVerdict text spans keys joins (rawsOf xs) (length o) (length s) (length k) (length j)

@@ -31,6 +31,7 @@ pub record Closed (c : Current) (at : ℕ) (o o′ : List ℕ) (r : ℕ) : Type 
   pub next : r ≡ at + length (closed c)
   pub stands : o′ ≡ placed o (at * 6) (flatOperations (closed c))
 
+-- what the walk asks: good operations, sums that do not wrap, rooms that reach as far as the answer
 pub record Ready (spans keys joins : List ℕ) (n : ℕ) (rs : List Raw) (o s k j : List ℕ) : Type 0 where
   pub good : AllGood n spans keys joins rs
   pub small : piecesLength (allTokens (runsOf spans keys joins rs)) ≤ 900000
@@ -40,6 +41,7 @@ pub record Ready (spans keys joins : List ℕ) (n : ℕ) (rs : List Raw) (o s k 
   pub in-keys : counts rs ≤ length k
   pub in-joins : counts rs ≤ length j
 
+-- what it leaves in its four rooms, and counts
 pub record Wrote (spans keys joins : List ℕ) (rs : List Raw) (o s k j o′ s′ k′ j′ : List ℕ) (r : Written) : Type 0 where
   pub operations : r .operations ≡ length (cookedOn none (runsOf spans keys joins rs))
   pub tokens : r .tokens ≡ counts rs

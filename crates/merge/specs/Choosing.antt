@@ -13,6 +13,7 @@ use Rattle.order.specs.Readable.{Readable}
 use Rattle.merge.specs.declared.Choice.{Choice}
 use Rattle.merge.specs.declared.Choice.the-variants.{Nothing, Left, Right}
 
+-- the tokens of what is next are lent
 abbrev pub NextReadable : List ℕ → List ℕ → List ℕ → Next → Type 0
 NextReadable text spans keys (Here a) = Readable text spans keys a
 NextReadable text spans keys Done = Unit {0}
@@ -24,12 +25,13 @@ choiceOf lent priority Done (Here b) = Right b
 choiceOf lent priority (Here a) Done = Left a
 choiceOf lent priority (Here a) (Here b) = elim (goesLeft lent priority a b) [ true ↦ Left a | false ↦ Right b ]
 
--- whether a choice takes nothing, and what it takes
+-- whether a choice takes nothing
 unfoldable pub isNone : Choice → Bool
 isNone Nothing = true
 isNone (Left a) = false
 isNone (Right b) = false
 
+-- the operation that a choice takes; of none, any
 unfoldable pub takenBy : Choice → Op
 takenBy Nothing = Delete 0 0
 takenBy (Left a) = a

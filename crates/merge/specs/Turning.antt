@@ -43,9 +43,11 @@ cursorsLeft xs i = cursorsFrom xs i (length xs / 2 - i)
 abbrev pub taken : Op → Side → Op
 taken a other = frontOf a (heads (other .ahead .next) [])
 
+-- "Meet rule": what is left of what is taken
 abbrev pub result : Lent → List ℕ → ℕ → Op → Side → Op
 result lent w half a other = metOf (rulesOf lent) (taken a other) (memoryOf w half (other .memory))
 
+-- how the cursors of the side move
 abbrev pub shiftBy : Lent → List ℕ → ℕ → Op → Side → Side → ℕ → Shift
 shiftBy lent w half a own other merged = shiftOf (rulesOf lent) (taken a other) (memoryOf w half (other .memory)) (own .seen) merged
 
@@ -83,6 +85,7 @@ pub record Made (lent : Lent) (cs w w′ : List ℕ) (half : ℕ) (a : Op) (own 
   pub moved-grows : (ms : List Cursor) (d : List ℕ) → totals .cursors ≡ length ms → moved ≡ answered (flatCursors ms) d
       → moved′ ≡ answered (flatCursors (ms ++ movedBy (taken a other) (shiftBy lent w half a own other (totals .merged)) (cursorsLeft cs (own .cursor)))) d
 
+-- the statement of a turn: what is made, what is next, and the bounds that the next turn needs
 pub record Turns (spans keys ops cs w w′ : List ℕ) (half : ℕ) (a : Op) (own other : Side) (totals : Totals) (number : ℕ) (out out′ moved moved′ : List ℕ) (r : Turned) : Type 0 where
   pub looks : Looks ops (tailBy a (heads (other .ahead .next) [])) (own .ahead .behind) (own .ahead .at) (r .own .ahead)
   pub made : (lent : Lent) → lent .spans ≡ spans → lent .keys ≡ keys → Made lent cs w w′ half a own other totals number out out′ moved moved′ r

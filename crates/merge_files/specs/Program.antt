@@ -40,7 +40,7 @@ unfoldable pub bytesOf : Result → List ℕ
 bytesOf (merged bytes) = bytes
 bytesOf (refused n) = numberLine refusedKey n
 
--- a keep's token is a range of the lent text, so that text is long enough for the longest: zeros, where no code point was added
+-- "each keep or drop one joinable token": it is a range of the lent text, so that text is long enough for the longest: zeros, where no code point was added
 unfoldable pub padding : List ℕ
 padding = replicate 67583 0
 
@@ -104,7 +104,7 @@ resultOf original left right =
     (pick (utf8 original && (utf8 left && utf8 right)) (ofFiles padding (points original) (readFile left) (readFile right)) (refused 10))
     (refused 3)
 
--- how many bytes were written, and of what kind; or that the room is shorter than they are
+-- "writes the edit file or a line `refused=` with the number": how many bytes, and of which kind
 unfoldable pub kindOf : Result → Outcome
 kindOf (merged bytes) = O.Merged (length bytes)
 kindOf (refused n) = O.Refused (length (numberLine refusedKey n))
@@ -117,7 +117,7 @@ outcomeOf r room = pick (leb (length (bytesOf r)) room) (kindOf r) O.Room
 unfoldable pub roomAfter : Result → List ℕ → List ℕ
 roomAfter r d = pick (leb (length (bytesOf r)) (length d)) (answered (bytesOf r) d) d
 
--- what stands in the room after the call, and what it answers
+-- "A public call's statement covers its result, numbers of a refusal included, and the lent buffers": what the call answers, and what stands in the room after it
 pub record Written (result : Result) (out out′ : List ℕ) (r : Outcome) : Type 0 where
   pub answer : r ≡ outcomeOf result (length out)
   pub room : out′ ≡ roomAfter result out

@@ -38,9 +38,11 @@ lostBy (Retain o l) (Deleted o′ l′) = min l (o′ + l′ - o)
 lostBy (Retain o l) (Retained o′ l′) = min l (o′ + l′ - o)
 lostBy (Retain o l) (Inserted o′ from) = 0
 
+-- what was lost, and the overlap's range
 abbrev pub met : ℕ → ℕ → ℕ → Met
 met z s e = record { lost = z; start = s; end = e }
 
+-- "Insert after remembered insert loses the overlap": by its range
 abbrev pub metIn : Range → Met
 metIn r = met (r .end - r .start) (r .start) (r .end)
 
@@ -62,6 +64,7 @@ usedBy (Insert o f n) (Retained o′ l′) m fill = Retained o′ l′
 usedBy (Insert o f n) (Inserted o′ from) m fill = elim (eqb (m .lost) n) [ true ↦ Inserted o′ (from + m .end) | false ↦ Inserted o′ fill ]
 usedBy (Retain o l) v m fill = v
 
+-- "one point": the end of the merged text
 abbrev pub point : ℕ → Place
 point merged = record { start = merged; shared = 0 }
 

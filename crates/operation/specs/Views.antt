@@ -34,10 +34,12 @@ reach (Delete o l) = o + l
 reach (Insert o f n) = f + n
 reach (Retain o l) = o + l
 
+-- "Sums are exact": the numbers of what is next do not wrap
 abbrev pub NextFits : Next → Type 0
 NextFits (Here a) = reach a ≤ most
 NextFits Done = Unit {0}
 
+-- "Sums are exact": nor do those of what is remembered
 abbrev pub LastFits : Last → Type 0
 LastFits Nothing = Unit {0}
 LastFits (Deleted o l) = o + l ≤ most

@@ -19,6 +19,7 @@ noOperation = record { kind = 0; order = 0; length = 0; side = 0; first = 0; cou
 abbrev pub movedTo : Tile → ℕ → Tile
 movedTo t a = record { n = t .n; index = min 18446744073709551615 (t .index + 1); at = a; good = true }
 
+-- an operation that stops a walk: its index stands
 abbrev pub stoppedAt : Tile → Tile
 stoppedAt t = record { n = t .n; index = t .index; at = t .at; good = false }
 
@@ -30,6 +31,7 @@ tileStep t o =
     (pick (eqb (o .order) (t .at) && leb (t .at + o .length) (t .n)) (movedTo t (t .at + o .length)) (stoppedAt t)))
     t
 
+-- the steps of a whole list
 unfoldable pub tileAll : List Operation → Tile → Tile
 tileAll [] t = t
 tileAll (o ∷ os) t = tileAll os (tileStep t o)

@@ -12,7 +12,7 @@ use Rattle.overlap.specs.declared.Range.{Range}
 use Rattle.overlap.specs.declared.Found.{Found}
 use Rattle.overlap.specs.declared.Found.the-variants as found
 
--- a part of old: start..end
+-- "0..0 if none": a part of old, start..end
 abbrev pub range : ℕ → ℕ → Range
 range s e = record { start = s; end = e }
 
@@ -54,7 +54,7 @@ abbrev pub touched : Found → ℕ → ℕ
 touched (found.Range s e) n = n
 touched (found.Refused c) n = 0
 
--- the statement of the call: its answer, and what it leaves of the work room
+-- "A public call's statement covers its result, numbers of a refusal included, and the lent buffers": the answer, and what is left of the work room
 pub record Answered (old new before after : List ℕ) (r : Found) : Type 0 where
   pub answer : r ≡ answerOf old new (length before)
   pub kept : drop (touched r (length new)) after ≡ drop (touched r (length new)) before

@@ -13,6 +13,7 @@ pub record Sheet : Type 0 where
 abbrev pub old : List ℕ
 old = 0 ∷ 1 ∷ 9 ∷ 0 ∷ 2 ∷ 5 ∷ []
 
+-- a row of the table, by its parts
 abbrev sheet : List ℕ → ℕ → ℕ → Sheet
 sheet new s e = record { new = new; gives = found.Range s e }
 

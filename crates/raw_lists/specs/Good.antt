@@ -13,6 +13,7 @@ pub record GoodRaw (n : ℕ) (spans keys joins : List ℕ) (r : Raw) : Type 0 wh
   pub lent : r .first + r .count ≤ piecesLent spans keys joins
   pub tokens : AllIn n (tokensFrom spans keys (r .first) (r .count))
 
+-- the same of each operation of a list
 unfoldable pub AllGood : ℕ → List ℕ → List ℕ → List ℕ → List Raw → Type 0
 AllGood n spans keys joins [] = Unit
 AllGood n spans keys joins (r ∷ rs) = GoodRaw n spans keys joins r × AllGood n spans keys joins rs

@@ -48,17 +48,17 @@ unfoldable pub piecesFrom : List ℕ → List ℕ → List ℕ → ℕ → ℕ �
 piecesFrom spans keys joins i zero = []
 piecesFrom spans keys joins i (suc k) = pieceAt spans keys joins i ∷ piecesFrom spans keys joins (i + 1) k
 
--- the numbers of tokens, as their three rooms hold them
+-- "A token is a range of lent code points, a key, and two flags": the ranges of tokens, as their room holds them
 unfoldable pub flatSpans : List Piece → List ℕ
 flatSpans [] = []
 flatSpans (p ∷ ps) = p .start ∷ p .length ∷ flatSpans ps
 
--- their keys
+-- "a key": their keys
 unfoldable pub flatKeys : List Piece → List ℕ
 flatKeys [] = []
 flatKeys (p ∷ ps) = p .key ∷ flatKeys ps
 
--- their flags
+-- "two flags, left joinable and right joinable": their flags
 unfoldable pub flatJoins : List Piece → List ℕ
 flatJoins [] = []
 flatJoins (p ∷ ps) = p .joins ∷ flatJoins ps

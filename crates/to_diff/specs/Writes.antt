@@ -60,6 +60,7 @@ pub record Fits (is : List Item) (d : List ℤ) (e : List ℕ) : Type 0 where
   pub items : length is * 3 ≤ length d
   pub text : added is ≤ length e
 
+-- what the writing leaves in both rooms, and counts
 pub record Wrote (is : List Item) (d : List ℤ) (e : List ℕ) (d′ : List ℤ) (e′ : List ℕ) (r : Sizes) : Type 0 where
   pub sizes : Measures is r
   pub items : d′ ≡ answered (recordsOf is) d

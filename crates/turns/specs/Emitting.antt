@@ -18,7 +18,7 @@ recordBy side at text (Delete o l) = record { kind = 0; order = o; length = l; s
 recordBy side at text (Insert o f n) = record { kind = 1; order = at; length = text; side = side; first = f; count = n }
 recordBy side at text (Retain o l) = record { kind = 2; order = o; length = l; side = side; first = 0; count = 0 }
 
--- "Empty results aren't emitted.": a room that was "answer, and what was there" is so again, the answer being longer by what is
+-- "Empty results aren't emitted.": a room that was an answer and what was there behind it is so again, the answer being longer by what is
 -- emitted
 pub record Emits (d d′ : List ℕ) (place side at : ℕ) (a : Op) (text r : ℕ) : Type 0 where
   pub count : r ≡ place + length (emitted side at a)

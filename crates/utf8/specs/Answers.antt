@@ -38,7 +38,7 @@ unfoldable pub leaves : Counted → List ℕ → List ℕ → List ℕ
 leaves (Count n) a d = answered a d
 leaves (Refused w) a d = d
 
--- an answer with its room: r is the answer that is due, and the room d is left as that answer leaves it for the content a
+-- "A public call's statement covers its result, numbers of a refusal included, and the lent buffers": r is the answer that is due, and the room d is left as that answer leaves it for the content a
 pub record Answered (due r : Counted) (a d d′ : List ℕ) : Type 0 where
   pub answer : r ≡ due
   pub room : d′ ≡ leaves due a d
