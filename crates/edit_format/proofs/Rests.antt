@@ -26,14 +26,6 @@ inLine (item h is dropping) cs = added is
 inLine (item h is adding) cs = added is + length cs + 1
 inLine (ending h is) cs = added is
 
-abbrev least : State → ℕ
-least (bad l) = 0
-least (key l i) = inLine l []
-least (gap l cs) = inLine l cs
-least (num l cs n) = inLine l cs
-least (open′ h is) = added is
-least (after h is) = added is
-
 -- a bound that a step keeps: what is bad has none
 abbrev Above : ℕ → State → Type 0
 Above n (bad l) = Unit {0}

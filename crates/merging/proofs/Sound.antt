@@ -1,6 +1,4 @@
--- Shown: one invariant of the states between turns that holds at the start, is kept by every turn of either side, and gives what a
--- turn's arithmetic asks: nothing passes the original, the lent tokens, the lists' texts or the room for remembered tokens, and every
--- shift of cursors is fine.
+-- Shown: one invariant of the states between turns that is kept by every turn of either side and gives what a turn's arithmetic asks: nothing passes the original, the lent tokens, the lists' texts or the room for remembered tokens.
 -- How: the laws of one turn, put together; a turn of the right is one of the left with the sides exchanged.
 use Prim.Native.Nat.{ℕ, _+_, _≤_}
 use mathlib.Core.Path.{_≡_, refl, ap}
@@ -8,21 +6,18 @@ use mathlib.Core.List.{List, _∷_}
 use native.Mathlib.Omega.{arith}
 use native.Mathlib.Decide.{decLt}
 use borrow.Author.Tests.{lt-ltb, le-ltb}
-use Rattle.records.specs.declared.Cursor.{Cursor}
 use Rattle.merging.specs.declared.Op.{Op}
 use Rattle.merging.specs.declared.Op.the-variants.{Delete, Insert, Retain}
 use Rattle.merging.specs.declared.Order.{Order}
 use Rattle.merging.specs.Lent.{Lent, Rules, Lawful}
 use Rattle.merging.specs.Operations.{lengthOf, orderOf, spanOf}
-use Rattle.merging.specs.Meeting.{frontOf, tailOf, behindCut, keptLength, lostOf, Remembered, nothing, deleted, retained, inserted}
-use Rattle.merging.specs.Cursors.{Fine, shiftOf}
+use Rattle.merging.specs.Meeting.{frontOf, tailOf, behindCut, keptLength}
 use Rattle.merging.specs.Turn.{State, turned, turnWith, turnLeft, turnRight, fromLeft, fromRight, takenOf}
-use Rattle.merging.specs.Merge.{startOf}
 use Rattle.merging.specs.Tiling.{Tiled, totalOf, tokensOf, Inserts}
 use Rattle.merging.specs.Reached.{remembered}
-use Rattle.merging.proofs.OneTurn.{Ends, tiled-le, keep-less}
+use Rattle.merging.proofs.OneTurn.{tiled-le, keep-less}
 use Rattle.merging.proofs.Places.{back, Roomed, roomed}
-use Rattle.merging.proofs.Turns.{Stands, stands-start, stands-turned, stands-next, Turning, turning, takes-left, takes-right}
+use Rattle.merging.proofs.Turns.{Stands, stands-turned, stands-next, Turning, turning, takes-left, takes-right}
 use Rattle.merging.proofs.Count.{asked-tail}
 use Rattle.merging.proofs.WorkRoom.{own-less, other-less}
 
@@ -44,24 +39,6 @@ pub record Sound (R : Rules) (Q : ℕ → ℕ → Type 0) (ls rs : List Op) (n :
   pub inserts-right : Inserts Q (s .right .next)
   pub tokens-left : remembered (s .left .last) + tokensOf (s .left .next) ≤ tokensOf ls
   pub tokens-right : remembered (s .right .last) + tokensOf (s .right .next) ≤ tokensOf rs
-
-pub sound-start : (R : Rules) (Q : ℕ → ℕ → Type 0) (ls rs : List Op) (cs ds : List Cursor) (n : ℕ) → Tiled ls 0 n → Tiled rs 0 n → Inserts Q ls → Inserts Q rs
-    → Sound R Q ls rs n (startOf ls rs cs ds)
-sound-start R Q ls rs cs ds n tx ty ix iy =
-    record {
-      p = 0;
-      q = 0;
-      stands = stands-start ls rs cs ds n tx ty;
-      place-left = omega arith;
-      place-right = omega arith;
-      seen-left = omega arith;
-      seen-right = omega arith;
-      merged-most = omega arith;
-      inserts-left = ix;
-      inserts-right = iy;
-      tokens-left = omega arith;
-      tokens-right = omega arith;
-    }
 
 pub sound-turned : {R : Rules} {Q : ℕ → ℕ → Type 0} {ls rs : List Op} {n : ℕ} {s : State} → Sound R Q ls rs n s → Sound R Q rs ls n (turned s)
 sound-turned {n = n} {s = s} g =
@@ -113,10 +90,6 @@ module _ (R : Rules) (law : Lawful R) (Q : ℕ → ℕ → Type 0) (ls rs : List
       roomed R law a (s .left .last) xs (s .right .last) (s .right .next) (g .p) (g .q) n (t .good) (t .le) (s .merged) 0 0
       (omega (arith, g .place-left)) (omega (arith, g .place-right))
 
-  -- every shift is fine
-  pub turn-fine : (a : Op) (xs : List Op) → Turning s a xs (g .p) (g .q) n → Fine (shiftOf R (frontOf a (s .right .next)) (s .right .last) (s .left .seen) (s .merged))
-  turn-fine a xs t = turn-room a xs t .fine (s .left .seen)
-
   -- what is asked of each insert holds of the one taken
   pub turn-inserts : (a : Op) (xs : List Op) → Turning s a xs (g .p) (g .q) n → Inserts Q (a ∷ xs)
   turn-inserts a xs t = rw (t .next) at (g .inserts-left)
@@ -149,36 +122,8 @@ pub sound-right : (R : Rules) → Lawful R → (Q : ℕ → ℕ → Type 0) (ls 
 unfolding turnRight sound-turned
 sound-right R law Q ls rs n s g side b xs t = sound-turned (sound-left R law Q rs ls n (turned s) (sound-turned g) side b xs t)
 
--- where a remembered operation ends, no further than the original
-abbrev pub LastWithin : Remembered → ℕ → Type 0
-LastWithin nothing n = Unit {0}
-LastWithin (deleted o l) n = o + l ≤ n
-LastWithin (retained o l) n = o + l ≤ n
-LastWithin (inserted o ks ms) n = Unit {0}
-
-pub last-within : (v : Remembered) (q n : ℕ) → Ends v q → q ≤ n → LastWithin v n
-last-within nothing q n e h = tt
-last-within (deleted o l) q n e h = omega arith
-last-within (retained o l) q n e h = omega arith
-last-within (inserted o ks ms) q n e h = tt
-
 -- where the operations of a list that tiles the original end
 pub next-within : (a : Op) (xs : List Op) (p n : ℕ) → Tiled (a ∷ xs) p n → orderOf a + spanOf a ≤ n
 next-within (Delete o l) xs p n t = tiled-le xs (o + l) n (t .2)
 next-within (Insert o f k) xs p n t = omega (arith, t .0, tiled-le xs p n (t .2))
 next-within (Retain o l) xs p n t = tiled-le xs (o + l) n (t .2)
-
--- an operation loses no more than it has: code points, or an insert tokens
-pub lost-delete : (R : Rules) (o l : ℕ) (v : Remembered) → lostOf R (Delete o l) v ≤ l
-unfolding lostOf
-lost-delete R o l nothing = omega arith
-lost-delete R o l (deleted o′ l′) = omega arith
-lost-delete R o l (retained o′ l′) = omega arith
-lost-delete R o l (inserted o′ ks ms) = omega arith
-
-pub lost-retain : (R : Rules) (o l : ℕ) (v : Remembered) → lostOf R (Retain o l) v ≤ l
-unfolding lostOf
-lost-retain R o l nothing = omega arith
-lost-retain R o l (deleted o′ l′) = omega arith
-lost-retain R o l (retained o′ l′) = omega arith
-lost-retain R o l (inserted o′ ks ms) = omega arith

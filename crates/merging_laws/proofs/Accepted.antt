@@ -156,11 +156,7 @@ module _ (lent : Lent) (left right : List Operation) (cs ds : List Cursor) (al :
   unfolding mergeOf
   merged-operations-most = many
 
-  -- the tokens and the text inserted are bounded by both lists together
-  pub merged-tokens-most : total claimedBy (mergeOf (rulesOf lent) left right cs ds .operations) ≤ total claimedBy left + total claimedBy right
-  unfolding mergeOf
-  merged-tokens-most = tokens
-
+  -- the text inserted is bounded by both lists together
   pub merged-text-most : total (insertedBy (length (lent .inserted)) (lent .spans) (lent .keys)) (mergeOf (rulesOf lent) left right cs ds .operations)
       ≤ total (insertedBy (length (lent .inserted)) (lent .spans) (lent .keys)) left + total (insertedBy (length (lent .inserted)) (lent .spans) (lent .keys)) right
   unfolding mergeOf

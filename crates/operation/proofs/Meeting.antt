@@ -22,11 +22,6 @@ use Rattle.operation.specs.declared.Last.the-variants.{Nothing, Deleted,
 use Rattle.operation.specs.Views.{heads, lastOf, ofSpans}
 use Rattle.operation.specs.Meets.{tailBy, lostBy, metBy, usedBy, placeBy}
 
--- the cut looks at the next operation alone
-pub kept-next : (o l : ℕ) (x : Op) (rs : List Op) → keptLength o l (x ∷ []) ≡ keptLength o l (x ∷ rs)
-unfolding keptLength
-kept-next o l x rs = refl
-
 -- a tail in front of what stands behind it
 pub tail-next : (a : Op) (rs ls : List Op) → heads (tailBy a rs) ls ≡ tailOf a rs ls
 unfolding tailBy behindCut
