@@ -46,7 +46,7 @@ pub enum Refusal {
     },
 }
 
-// How many records a call put into its room, or why it put none.
+// How many code points or bytes an answer has, or why there is none.
 pub enum Counted {
     Count(usize),
     Refused(Refusal),
