@@ -9,3 +9,4 @@ pub mod Padding
 pub mod Files
 pub mod Short
 pub mod Enough
+pub mod Believed
