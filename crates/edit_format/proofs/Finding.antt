@@ -1,5 +1,5 @@
--- What a state finds in the bytes that are left, key by key and number by number: the facts by which code that reads line by line is tied
--- to the reader's steps. Each is a case of `step` followed by the run of what is left. Assumes nothing.
+-- What a state finds in the bytes that are left, key by key and number by number: the facts by which code that reads line by line is tied to the reader's steps.
+-- Each is a case of `step` followed by the run of what is left. Assumes nothing.
 use mathlib.Core.Path.{_≡_, refl, sym, ap, _∙_}
 use mathlib.Core.Bool.{Bool, true, false}
 use mathlib.Core.List.{List, [], _∷_, _++_}

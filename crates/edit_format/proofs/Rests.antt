@@ -1,5 +1,5 @@
--- What an accepted file's bytes still hold, from any place of it on: at least the text that the line being read needs, and, once the end line
--- is due, no further item. Each is kept by every step that does not find a bad line. Assumes nothing.
+-- What an accepted file's bytes still hold, from any place of it on: at least the text that the line being read needs, and, once the end line is due, no further item.
+-- Each is kept by every step that does not find a bad line. Assumes nothing.
 use mathlib.Core.Path.{_≡_, refl}
 use mathlib.Core.List.{List, [], _∷_, _++_}
 use Prim.Native.Nat.{ℕ, _+_, _≤_}

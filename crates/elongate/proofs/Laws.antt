@@ -1,5 +1,5 @@
--- What elongating keeps and gives: each kind's tokens in their order, the text, no insert directly before a delete, at most as many operations;
--- and elongating again changes nothing. By the first operation's kind, and by the test of joining. Assumes nothing.
+-- What elongating keeps and gives: each kind's tokens in their order, the text, no insert directly before a delete, at most as many operations; and elongating again changes nothing.
+-- By the first operation's kind, and by the test of joining. Assumes nothing.
 use Prim.Native.Nat.{ℕ, suc, _≤_, _<_}
 use mathlib.Core.Path.{_≡_, refl, sym, _∙_, ap}
 use mathlib.Core.Bool.{Bool, true, false, _&&_, not}

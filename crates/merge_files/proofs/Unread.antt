@@ -1,5 +1,4 @@
--- Shown: of the lent text the checks of two lists, their merge and its diff read no more than the lists' inserts reach: what stands behind that
--- changes nothing.
+-- Shown: of the lent text the checks of two lists, their merge and its diff read no more than the lists' inserts reach: what stands behind that changes nothing.
 -- How: the text is read where inserts are spelled and nowhere else; the merge by induction over its turns.
 use Prim.Native.Nat.{ℕ, zero, suc, _+_, _*_, _≤_}
 use mathlib.Core.Path.{_≡_, refl, sym, _∙_, ap}

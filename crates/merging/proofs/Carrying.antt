@@ -1,5 +1,4 @@
--- Shown: what a turn does to the cursors of its side: those that move keep their order and stay between the bounds that are known of
--- the turn, and all keep their identity numbers; two sides' cursors that are woven together stay so when sorted.
+-- Shown: what a turn does to the cursors of its side: those that move keep their order and stay between the bounds that are known of the turn, and all keep their identity numbers; two sides' cursors that are woven together stay so when sorted.
 -- How: by induction on the cursors.
 use Prim.Native.Nat.{ℕ, _+_, _≤_, _<_}
 use mathlib.Core.Path.{_≡_, refl, ap}

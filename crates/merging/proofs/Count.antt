@@ -1,7 +1,5 @@
--- Shown: the merge has no more operations than both lists together; what its inserts hold, counted in tokens, in text or otherwise,
--- is no more than both lists hold; each insert has what both lists' inserts have; each side is left or right.
--- How: by induction over the turns. A turn emits an operation for one that it takes, except that a retain may be cut at the end of
--- one that will be lost; an insert only loses tokens.
+-- Shown: the merge has no more operations than both lists together; what its inserts hold, counted in tokens, in text or otherwise, is no more than both lists hold; each insert has what both lists' inserts have; each side is left or right.
+-- How: by induction over the turns. A turn emits an operation for one that it takes, except that a retain may be cut at the end of one that will be lost; an insert only loses tokens.
 use Prim.Native.Nat.{ℕ, _+_, _-_, _≤_, _<_}
 use mathlib.Core.Path.{_≡_, refl}
 use mathlib.Core.Bool.{Bool, true, false}

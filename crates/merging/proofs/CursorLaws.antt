@@ -1,5 +1,4 @@
--- Shown: every cursor comes out of a merge exactly once with its identity number, within the merged text, and the cursors of one
--- side keep their order.
+-- Shown: every cursor comes out of a merge exactly once with its identity number, within the merged text, and the cursors of one side keep their order.
 -- How: by induction over the turns: the cursors of a side that were put stand at most where its next shared text may start.
 use Prim.Native.Nat.{ℕ, _+_, _≤_, _<_}
 use mathlib.Core.Path.{_≡_, refl, _∙_, ap}

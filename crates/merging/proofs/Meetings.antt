@@ -1,5 +1,4 @@
--- Shown: what meeting an insert leaves, by whether all of the later insert was lost; what is remembered of inserts that follow each
--- other, by whether their orders are the same; and the overlap's place, by whether there is one.
+-- Shown: what meeting an insert leaves, by whether all of the later insert was lost; what is remembered of inserts that follow each other, by whether their orders are the same; and the overlap's place, by whether there is one.
 -- How: each is a case of the definition's test.
 use Prim.Native.Nat.{ℕ, _-_, _<_}
 use mathlib.Core.Path.{_≡_}

@@ -1,5 +1,4 @@
--- Shown: where a cursor that moves with an operation goes: not before the shared text, not past what the operation adds, and no
--- later than a cursor behind it; and which cursors move.
+-- Shown: where a cursor that moves with an operation goes: not before the shared text, not past what the operation adds, and no later than a cursor behind it; and which cursors move.
 -- How: each is a case of the definition's test.
 use Prim.Native.Nat.{ℕ, _+_, _-_, min, _≤_, _<_}
 use mathlib.Core.Path.{_≡_}

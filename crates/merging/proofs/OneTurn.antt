@@ -1,5 +1,4 @@
--- Shown: a turn keeps what a state of the merge has to be: each side tiles what is left of the original, and a side that is ahead
--- remembers why.
+-- Shown: a turn keeps what a state of the merge has to be: each side tiles what is left of the original, and a side that is ahead remembers why.
 -- How: by the kind of the operation taken; a retain by whether its side is behind. No overlap and no spelling is looked at.
 use Prim.Native.Nat.{ℕ, suc, _+_, _-_, min, _≤_, _<_}
 use mathlib.Core.Path.{_≡_, refl, _∙_}

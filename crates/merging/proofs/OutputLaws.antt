@@ -1,6 +1,4 @@
--- Shown: demand 3, second half, for any list that tiles the original: unchanged and added spans of its history spell its text,
--- unchanged and removed ones the original; replaying its diff over the original, plain and covering, spells that same text and
--- leaves nothing.
+-- Shown: demand 3, second half, for any list that tiles the original: unchanged and added spans of its history spell its text, unchanged and removed ones the original; replaying its diff over the original, plain and covering, spells that same text and leaves nothing.
 -- How: by induction on the list, from where it stands in the original.
 use Prim.Native.Nat.{ℕ, suc, _+_, _-_, _≤_}
 use mathlib.Core.Path.{_≡_, refl, sym, _∙_, ap}

@@ -1,7 +1,5 @@
--- Shown: where the lost front of an operation stands. It ends within the merged text and starts no earlier than any cursor of its
--- side was put before, so that cursors keep their order and none leaves the text.
--- How: `back` says how far before the end of the merged text the next shared text of a side may start; each turn keeps
--- "the cursors put so far are that far from the end", by the kind of the operation and what the other side remembers.
+-- Shown: where the lost front of an operation stands. It ends within the merged text and starts no earlier than any cursor of its side was put before, so that cursors keep their order and none leaves the text.
+-- How: `back` says how far before the end of the merged text the next shared text of a side may start; each turn keeps "the cursors put so far are that far from the end", by the kind of the operation and what the other side remembers.
 use Prim.Native.Nat.{ℕ, _+_, _-_, min, _≤_, _<_}
 use mathlib.Core.Path.{_≡_, refl}
 use mathlib.Core.Bool.{true, false}

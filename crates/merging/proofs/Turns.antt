@@ -1,6 +1,5 @@
 -- Shown: what holds of each turn of a good state holds of the whole run (`shows`); and any fuel that is enough gives the same run.
--- How: a turn of the right is a turn of the left with the sides exchanged, so that a law is shown for the left alone. The fuel falls
--- with every turn: a cut leaves less of a retain.
+-- How: a turn of the right is a turn of the left with the sides exchanged, so that a law is shown for the left alone. The fuel falls with every turn: a cut leaves less of a retain.
 use Prim.Native.Nat.{ℕ, zero, suc, _+_, max, _≤_, _<_}
 use mathlib.Core.Path.{_≡_, refl, sym, _∙_, ap}
 use mathlib.Core.Bool.{Bool, true, false}

@@ -1,5 +1,4 @@
--- Shown: demand 3, first half. The merge's retains and deletes tile the original in order, and a code point is retained exactly if
--- both lists retain it. For any overlap and any spelling.
+-- Shown: demand 3, first half. The merge's retains and deletes tile the original in order, and a code point is retained exactly if both lists retain it. For any overlap and any spelling.
 -- How: by induction over the turns; what a turn emits goes in front of what the turns after it emit.
 use Prim.Native.Nat.{ℕ, _+_, _≤_, _<_}
 use mathlib.Core.Path.{_≡_, refl, sym, _∙_, ap}

@@ -1,5 +1,4 @@
--- Shown: what the merge of two accepted lists gives, over records: an accepted list, within the sizes for text, history and diff, whose
--- retains and deletes tile the original and retain exactly what both lists retain, with every cursor once and within its text.
+-- Shown: what the merge of two accepted lists gives, over records: an accepted list, within the sizes for text, history and diff, whose retains and deletes tile the original and retain exactly what both lists retain, with every cursor once and within its text.
 -- How: the laws of the merge over operations, between reading the records and writing them.
 use Prim.Native.Nat.{ℕ, zero, suc, _+_, _-_, _≤_, _<_}
 use mathlib.Core.Path.{_≡_, refl, _∙_, ap}

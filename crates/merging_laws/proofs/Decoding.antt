@@ -1,5 +1,4 @@
--- Shown: the operations that an accepted list's records are: they tile the original, their inserts lie in what was lent, and their
--- tokens, text and lengths are those that the checks count.
+-- Shown: the operations that an accepted list's records are: they tile the original, their inserts lie in what was lent, and their tokens, text and lengths are those that the checks count.
 -- How: by induction on the list, each record by its kind.
 use Prim.Native.Nat.{ℕ, zero, suc, _+_, _*_, _≤_, _<_}
 use mathlib.Core.Path.{_≡_, refl, _∙_, ap}

@@ -1,5 +1,5 @@
--- The loop of two readers: what is left at both compares as the whole. One law for each way through a turn, from what both places are
--- after they are settled. Each says what is left there, and cites the comparison's own law. Assumes nothing.
+-- The loop of two readers: what is left at both compares as the whole.
+-- One law for each way through a turn, from what both places are after they are settled. Each says what is left there, and cites the comparison's own law. Assumes nothing.
 use Prim.Native.Nat.{ℕ, _≤_, _<_}
 use mathlib.Core.Path.{_≡_, sym, _∙_}
 use mathlib.Core.List.{List, [], _∷_}

@@ -1,5 +1,4 @@
--- Shown: what `to_diff` wrote, the writer of edit files accepts; what is read back out of the file are the same items and the same text,
--- from rooms to rooms.
+-- Shown: what `to_diff` wrote, the writer of edit files accepts; what is read back out of the file are the same items and the same text, from rooms to rooms.
 -- How: its items are good, and good items are written and read back.
 use Prim.Native.Nat.{ℕ, _*_, _≤_}
 use mathlib.Core.Path.{_≡_, refl, _∙_, ap}

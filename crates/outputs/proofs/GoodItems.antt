@@ -1,5 +1,4 @@
--- Shown: the diff of an accepted list has no zero, no empty text and no two retains in a row, and keeps the sizes of edit files; and it
--- mentions all of the original.
+-- Shown: the diff of an accepted list has no zero, no empty text and no two retains in a row, and keeps the sizes of edit files; and it mentions all of the original.
 -- How: by induction on the operations, which tile the original, none being empty.
 use Prim.Native.Nat.{ℕ, _+_, _<_}
 use mathlib.Core.Path.{_≡_, refl}

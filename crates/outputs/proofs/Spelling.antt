@@ -1,5 +1,4 @@
--- Shown: whenever `apply` and `apply_with_history` accept the same list, the unchanged and added spans spell the text, the unchanged and
--- removed ones the original; and what `to_diff` wrote replays to that text: from rooms to rooms.
+-- Shown: whenever `apply` and `apply_with_history` accept the same list, the unchanged and added spans spell the text, the unchanged and removed ones the original; and what `to_diff` wrote replays to that text: from rooms to rooms.
 -- How: the spans that stand in the rooms are the history's, and history, diff and text agree.
 use Prim.Native.Nat.{ℕ, _+_, _*_, _≤_}
 use mathlib.Core.Path.{_≡_, refl, sym, _∙_, ap}

@@ -1,5 +1,5 @@
--- The laws of Knuth, Morris and Pratt's search, over p, what is looked for, and t, where it is looked for: how what ends one place of t
--- follows from what ends the place before it. Each is arithmetic over free indexes. Assumes nothing.
+-- The laws of Knuth, Morris and Pratt's search, over p, what is looked for, and t, where it is looked for: how what ends one place of t follows from what ends the place before it.
+-- Each is arithmetic over free indexes. Assumes nothing.
 use Prim.Native.Nat.{ℕ, _+_, _-_, _≤_, _<_}
 use mathlib.Core.Path.{_≡_, sym, subst, ap, _∙_}
 use mathlib.Core.List.{List}

@@ -1,5 +1,5 @@
--- `compare_spelling` compares two spellings. The loop's invariant is Reading of Readers, each way through a turn one law there; what
--- is left of the first spelling falls. Assumes nothing.
+-- `compare_spelling` compares two spellings.
+-- The loop's invariant is Reading of Readers, each way through a turn one law there; what is left of the first spelling falls. Assumes nothing.
 use lib.ListN.{length}
 use native.Mathlib.Omega.{arith}
 use Rattle.records.specs.Tokens.{spelling}

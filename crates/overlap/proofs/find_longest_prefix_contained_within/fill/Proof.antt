@@ -1,5 +1,5 @@
--- `fill` makes the table of new and leaves the room past it. Each loop's invariant is a record, and each way through a turn one
--- law of Turns and Endings. Assumes nothing.
+-- `fill` makes the table of new and leaves the room past it.
+-- Each loop's invariant is a record, and each way through a turn one law of Turns and Endings. Assumes nothing.
 use Prim.Native.Nat.{_-_}
 use mathlib.Core.Logic.{⊎-elim}
 use native.Mathlib.Omega.{arith}
