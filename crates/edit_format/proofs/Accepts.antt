@@ -1,5 +1,5 @@
 -- What is accepted is good: with canonical and read-back, a file is accepted exactly when it is the written form of good items.
--- Assumes nothing.
+-- Every step of the reader keeps that the items read are good. Assumes nothing.
 use mathlib.Core.Path.{_≡_, refl, sym}
 use mathlib.Core.Bool.{Bool, true, false, not}
 use mathlib.Core.List.{List, [], _∷_, _++_}

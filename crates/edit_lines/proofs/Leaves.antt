@@ -1,5 +1,5 @@
--- The leaves' definitions, one law for each way that the code takes through them. Each opens the definition at the byte that is tested.
--- Assumes nothing.
+-- The leaves' definitions, one law for each way that the code takes through them.
+-- Each opens the definition at the byte that is tested. Assumes nothing.
 use mathlib.Core.Path.{_≡_, sym, _∙_}
 use mathlib.Core.Bool.{true, false}
 use mathlib.Core.List.{List, _∷_}

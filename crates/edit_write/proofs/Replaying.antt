@@ -1,4 +1,4 @@
--- Law 4: an accepted file's covering replay over a good original of its length is accepted, and has `result=` code points.
+-- An accepted file's covering replay over a good original of its length is accepted, and has `result=` code points.
 -- The edits of the records are the file's items, so the counts of the replay are the sums of the file. Assumes nothing.
 use mathlib.Core.Path.{_≡_, refl, sym, ap, _∙_}
 use mathlib.Core.Bool.{Bool, true, false, not}

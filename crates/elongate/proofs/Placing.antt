@@ -1,5 +1,5 @@
--- A run put into a room behind another. List arithmetic over `take` and `drop`, for values of any type.
--- Assumes nothing.
+-- A run put into a room behind another.
+-- List arithmetic over `take` and `drop`, for values of any type. Assumes nothing.
 use Prim.Native.Nat.{ℕ, _+_, _≤_}
 use mathlib.Core.Path.{_≡_, _∙_}
 use mathlib.Core.List.{List, _++_}
