@@ -58,34 +58,34 @@ allVerdict lent os cs out moved history texts =
     ((fits (flatCursors (sorted cs)) moved && fits (textOn lent os) out)
     && (fits (flatSpans 0 (historyOn lent os)) history && fits (historyText (historyOn lent os)) texts)))
 
--- the answers by the verdict: how many code points, cursors and spans, or the refusal
+-- "its result, numbers of a refusal included": how many code points and cursors, or the refusal
 abbrev pub applied : Verdict → ℕ → ℕ → Applied
 applied Accepted text cursors = A.Counts text cursors
 applied (Refused r) text cursors = A.Refused r
 
--- the same of a history: how many spans, and code points of their text, or the refusal
+-- "its result, numbers of a refusal included": of a history, how many spans, and code points of their text, or the refusal
 abbrev pub told : Verdict → ℕ → ℕ → WithHistory
 told Accepted spans text = H.Counts spans text
 told (Refused r) spans text = H.Refused r
 
--- the same of both
+-- "its result, numbers of a refusal included": of both
 abbrev pub toldAll : Verdict → ℕ → ℕ → ℕ → ℕ → WithAll
 toldAll Accepted text cursors spans texts = B.Counts text cursors spans texts
 toldAll (Refused r) text cursors spans texts = B.Refused r
 
--- apply: "the list's text", "Cursors are sorted stably by index, going in and coming out"
+-- apply: "A list's text", "Cursors are sorted stably by index, going in and coming out"
 pub record Applies (lent : Lent) (os : List Operation) (cs : List Cursor) (out moved out′ moved′ : List ℕ) (r : Applied) : Type 0 where
   pub answer : r ≡ applied (applyVerdict lent os cs out moved) (length (textOn lent os)) (length (sorted cs))
   pub text : out′ ≡ leaves (applyVerdict lent os cs out moved) (textOn lent os) out
   pub cursors : moved′ ≡ leaves (applyVerdict lent os cs out moved) (flatCursors (sorted cs)) moved
 
--- apply_with_history
+-- apply_with_history: "History has one span for each operation, in order."
 pub record Tells (lent : Lent) (os : List Operation) (history out history′ out′ : List ℕ) (r : WithHistory) : Type 0 where
   pub answer : r ≡ told (historyVerdict lent os history out) (length (historyOn lent os)) (length (historyText (historyOn lent os)))
   pub spans : history′ ≡ leaves (historyVerdict lent os history out) (flatSpans 0 (historyOn lent os)) history
   pub text : out′ ≡ leaves (historyVerdict lent os history out) (historyText (historyOn lent os)) out
 
--- apply_with_all
+-- apply_with_all: "A list's text", "Cursors are sorted stably by index, going in and coming out", "History has one span for each operation, in order."
 pub record AppliesAll (lent : Lent) (os : List Operation) (cs : List Cursor) (out moved history texts out′ moved′ history′ texts′ : List ℕ) (r : WithAll) : Type 0 where
   pub answer :
       r

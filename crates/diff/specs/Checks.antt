@@ -23,7 +23,7 @@ abbrev pub andThen : Verdict → Verdict → Verdict
 andThen fine v = v
 andThen (refused r) v = refused r
 
--- refused by a test
+-- "Given exactly when": refused by a test
 abbrev pub refuseIf : Bool → Refusal → Verdict
 refuseIf t r = pick t (refused r) fine
 

@@ -28,15 +28,15 @@ itemOf (pos (suc zero)) a b lent = ranged a b lent
 itemOf (pos (suc (suc k))) a b lent = Neither
 itemOf (negsuc k) a b lent = Neither
 
--- the item at a place: three numbers, its kind, its number or start, and its length
+-- "diff items": the one at a place: three numbers, its kind, its number or start, and its length
 unfoldable pub itemAt : List ℤ → ℕ → ℕ → Item
 itemAt xs lent i = itemOf (getD xs (i * 3) (pos 0)) (getD xs (i * 3 + 1) (pos 0)) (getD xs (i * 3 + 2) (pos 0)) lent
 
--- so many items from a place on
+-- "diff items": so many from a place on
 unfoldable pub itemsFrom : List ℤ → ℕ → ℕ → ℕ → List Item
 itemsFrom xs lent i zero = []
 itemsFrom xs lent i (suc k) = itemAt xs lent i ∷ itemsFrom xs lent (i + 1) k
 
--- all whole items of the slice
+-- "diff items": all whole ones of the slice
 unfoldable pub itemsOf : List ℤ → ℕ → List Item
 itemsOf xs lent = itemsFrom xs lent 0 (length xs / 3)

@@ -25,6 +25,7 @@ abbrev pub recorded : Verdict → ℕ → Surveyed
 recorded fine n = Used n
 recorded (refused r) n = Broken r
 
+-- the same, of the items
 unfoldable pub surveyed : List Item → Surveyed
 surveyed is = pick (ltb textMost (used is)) TooLong (recorded (records 0 is) (used is))
 
@@ -33,5 +34,6 @@ abbrev pub reached : Verdict → ℕ → ℕ → Walked
 reached fine p k = Reached p k
 reached (refused r) p k = Stopped r
 
+-- the same, of the edits
 unfoldable pub walked : ℕ → List Edit → Walked
 walked len es = reached (numbers 0 len es) (mentioned es) (kept es)

@@ -12,14 +12,14 @@ pub data Edit : Type 0 where
   delete : ℕ → Edit
   insert : List ℕ → Edit
 
--- an item's edit: a text is its range of the lent code points; what is neither is refused before any replay
+-- "inserts as text": an item's edit; a text is its range of the lent code points; what is neither is refused before any replay
 unfoldable pub editOf : List ℕ → Item → Edit
 editOf lent (Retain n) = retain n
 editOf lent (Delete n) = delete n
 editOf lent (Insert s n) = insert (take n (drop s lent))
 editOf lent Neither = insert []
 
--- the edits of all items, in order
+-- "diff items": the edits of all, in order
 unfoldable pub editsOf : List ℕ → List Item → List Edit
 editsOf lent [] = []
 editsOf lent (i ∷ is) = editOf lent i ∷ editsOf lent is
@@ -31,7 +31,7 @@ replayed o (retain n ∷ es) = take n o ++ replayed (drop n o) es
 replayed o (delete n ∷ es) = replayed (drop n o) es
 replayed o (insert s ∷ es) = s ++ replayed o es
 
--- how much of the original the edits speak of
+-- "original text unmentioned": how much of it the edits mention
 unfoldable pub mentioned : List Edit → ℕ
 mentioned [] = 0
 mentioned (retain n ∷ es) = n + mentioned es

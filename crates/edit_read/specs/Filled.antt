@@ -29,10 +29,12 @@ PointsIn h is js p start d d′ (GoodSpot e j) =
     (cs : List ℕ) × (e ≡ start + length cs) × (d′ ≡ placed d start cs) × (found (opened h (is ++ Add cs ∷ [])) (drop j p) ≡ Accepted js)
 PointsIn h is js p start d d′ BadSpot = ⊥
 
+-- a place in the bytes and one in the text room lie within them
 abbrev pub SpotIn : List ℕ → ℕ → ℕ → Spot → Type 0
 SpotIn p start n (GoodSpot e j) = (start ≤ e) × (e ≤ n) × (j ≤ length p)
 SpotIn p start n BadSpot = Unit {0}
 
+-- the statement of `put_points`: of whatever header and items stand before
 pub record PointsPut (p : List ℕ) (at start : ℕ) (d d′ : List ℕ) (r : Spot) : Type 0 where
   pub inside : SpotIn p start (length d) r
   pub says :
@@ -46,6 +48,7 @@ NumberIn h is js p start place d d′ (GoodSpot e j) =
     × (found (opened h (is ++ x ∷ [])) (drop j p) ≡ Accepted js)
 NumberIn h is js p start place d d′ BadSpot = ⊥
 
+-- the statement of a keep or a drop
 pub record NumberPut (p : List ℕ) (k : Kind) (at start place : ℕ) (d d′ : List ℤ) (r : Spot) : Type 0 where
   pub says :
       (h : Head) (is js : List Item) → length is < 8192 → found (key (item h is k) 0) (drop at p) ≡ Accepted js
@@ -58,6 +61,7 @@ ItemIn h is js p start place d d′ e e′ (GoodSpot s j) =
     × (found (opened h (is ++ x ∷ [])) (drop j p) ≡ Accepted js)
 ItemIn h is js p start place d d′ e e′ BadSpot = ⊥
 
+-- the statement of an item
 pub record ItemPut (st : Head → List Item → State) (p : List ℕ) (at start place : ℕ) (d d′ : List ℤ) (e e′ : List ℕ) (r : Spot) : Type 0 where
   pub says :
       (h : Head) (is js : List Item) → length is < 8192 → added is ≡ start → added js ≤ length e → found (st h is) (drop at p) ≡ Accepted js
@@ -68,6 +72,7 @@ unfoldable pub recordsFound : Found → List ℤ
 recordsFound (Accepted is) = recordsOf is
 recordsFound (Refused l) = []
 
+-- the same of the text's room
 unfoldable pub textFound : Found → List ℕ
 textFound (Accepted is) = texts is
 textFound (Refused l) = []

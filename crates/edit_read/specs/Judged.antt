@@ -26,6 +26,7 @@ HeadFound p (GoodHead t) =
     × (readFile p ≡ found (opened h []) (drop (t .next) p))
 HeadFound p (BadHead l) = readFile p ≡ Refused l
 
+-- the statement of the header's reader
 pub record HeadRead (p : List ℕ) (r : Heading) : Type 0 where
   pub says : HeadFound p r
 
@@ -35,10 +36,12 @@ PointsFound h is p at a (GoodPoints n j) =
     (cs : List ℕ) × (length cs ≡ n) × (found (gap (item h is adding) []) (drop at p) ≡ found (opened h (is ++ Add cs ∷ [])) (drop j p))
 PointsFound h is p at a BadPoints = found (gap (item h is adding) []) (drop at p) ≡ Refused (length is + 5)
 
+-- their number fits, and the place behind them lies in the bytes
 abbrev pub PointsFit : List ℕ → ℕ → Points → Type 0
 PointsFit p a (GoodPoints n j) = (a + n ≤ 131070) × (j ≤ length p)
 PointsFit p a BadPoints = Unit {0}
 
+-- the statement of the reader of code points: of whatever header and items stand before
 pub record PointsRead (p : List ℕ) (at a : ℕ) (r : Points) : Type 0 where
   pub fit : PointsFit p a r
   pub says : (h : Head) (is : List Item) → added is ≡ a → length is < 8192 → PointsFound h is p at a r
@@ -50,6 +53,7 @@ pub record Holds (s : Sums) (is : List Item) : Type 0 where
   pub text : s .added ≡ added is
   pub joined : s .joined ≡ endsKeep is
 
+-- the sums are within their sizes, and the place lies in the bytes
 pub record Within (p : List ℕ) (s : Sums) : Type 0 where
   pub next : s .next ≤ length p
   pub used : s .used ≤ 65535
@@ -62,6 +66,7 @@ ItemFound st h is p s (GoodItem t) =
     (x : Item) × Holds t (is ++ x ∷ []) × Within p t × (found st (drop (s .next) p) ≡ found (opened h (is ++ x ∷ [])) (drop (t .next) p))
 ItemFound st h is p s BadItem = found st (drop (s .next) p) ≡ Refused (length is + 5)
 
+-- the statement of the reader of an item
 pub record ItemRead (st : Head → List Item → State) (p : List ℕ) (s : Sums) (r : Turn) : Type 0 where
   pub says : (h : Head) (is : List Item) → Holds s is → length is < 8192 → ItemFound (st h is) h is p s r
 
@@ -88,5 +93,6 @@ Verdicts p (Yes n m o f) =
     × (h .count ≡ length is) × (found (opened h []) (drop f p) ≡ Accepted is)
 Verdicts p (No l) = readFile p ≡ Refused l
 
+-- the statement of the judge
 pub record Judged (p : List ℕ) (r : Verdict) : Type 0 where
   pub says : Verdicts p r

@@ -5,6 +5,7 @@ use lib.ListN.{length}
 use lib.IntN.{ℤ}
 use Rattle.edit_vectors.specs.declared.Case.{Case}
 
+-- what a case took of the three rooms
 pub record Fits (f t : List ℕ) (i : List ℤ) (r : Case) : Type 0 where
   pub file : r .file ≤ length f
   pub text : r .text ≤ length t

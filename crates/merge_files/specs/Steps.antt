@@ -43,11 +43,12 @@ pub record Mergeable (text spans keys left right : List ℕ) : Type 0 where
   pub left-little : total (insertedBy (length text) spans keys) (operationsOf left) ≤ 1024
   pub right-little : total (insertedBy (length text) spans keys) (operationsOf right) ≤ 1024
 
--- the first refusal before the merge's own; 0 is none
+-- "a bad edit file is 8": whether it is none
 unfoldable pub isEdit : Found → Bool
 isEdit (Accepted is) = true
 isEdit (Refused l) = false
 
+-- "It checks in this order, original, left, right each time": the first refusal before the merge's own; 0 is none
 unfoldable pub firstOf : List ℕ → List ℕ → List ℕ → ℕ
 firstOf original left right =
     pick (sized original && (sized left && sized right))

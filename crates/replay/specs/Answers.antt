@@ -14,7 +14,7 @@ use Rattle.replay.specs.declared.Judged.the-variants.{Fine, Stopped}
 use Rattle.diff.specs.Replay.{Edit, editsOf, replayed, left}
 use Rattle.diff.specs.Checks.{Verdict, fine, refused, andThen, sizes, points, records, numbers, covers, fits}
 
--- a diff as lent: the original, the numbers of the items, their text
+-- "diff items .. with .. code points of text": a diff as lent: the original, the numbers of the items, their text
 pub record Diff : Type 0 where
   pub original : List ℕ
   pub items : List ℤ
@@ -24,7 +24,7 @@ pub record Diff : Type 0 where
 abbrev pub diff : List ℕ → List ℤ → List ℕ → Diff
 diff o is t = record { original = o; items = is; text = t }
 
--- the edits that a lent diff stands for
+-- "from_diff up to the replayed text": the edits that a lent diff stands for
 unfoldable pub edits : Diff → List Edit
 edits d = editsOf (d .text) (itemsOf (d .items) (length (d .text)))
 
@@ -52,7 +52,7 @@ always d = fine
 unfoldable pub roomed : (Diff → Verdict) → Diff → List ℕ → Verdict
 roomed check d room = andThen (check d) (fits (length (textOf d)) room)
 
--- the length where nothing is refused
+-- "its result, numbers of a refusal included": the length, or the refusal
 abbrev pub counted : Verdict → ℕ → Counted
 counted fine n = Count n
 counted (refused r) n = Refused r
@@ -62,11 +62,11 @@ abbrev pub leaves : Verdict → List ℕ → List ℕ → List ℕ
 leaves fine text room = answered text room
 leaves (refused r) text room = room
 
--- the length of the replayed text alone
+-- "the exact length of the answer": that of the replayed text alone
 unfoldable pub lengthOf : (Diff → Verdict) → Diff → Counted
 lengthOf check d = counted (check d) (length (textOf d))
 
--- a replay with its checks, into a room: the answer, and the room afterwards
+-- "A public call's statement covers its result, numbers of a refusal included, and the lent buffers": a replay with its checks, into a room
 pub record Replayed (check : Diff → Verdict) (d : Diff) (room : List ℕ) (r : Counted) (room′ : List ℕ) : Type 0 where
   pub answer : r ≡ counted (roomed check d room) (length (textOf d))
   pub leaving : room′ ≡ leaves (roomed check d room) (textOf d) room
@@ -76,5 +76,6 @@ abbrev pub found : Verdict → ℕ → ℕ → Judged
 found fine l n = Fine l n
 found (refused r) l n = Stopped r
 
+-- the same, of a lent diff
 unfoldable pub judged : Diff → Judged
 judged d = found (plain d) (left (length (d .original)) (edits d)) (length (textOf d))

@@ -16,6 +16,7 @@ pub record Sheet : Type 0 where
   pub text : List ℕ
   pub coveringly : Counted
 
+-- the original of all rows
 abbrev pub abcde : List ℕ
 abcde = 97 ∷ 98 ∷ 99 ∷ 100 ∷ 101 ∷ []
 
@@ -43,11 +44,13 @@ table =
     }
     ∷ []
 
+-- "★ proved, one statement over the table": a row holds of both replays
 pub record Right (s : Sheet) : Type 0 where
   pub plainly : lengthOf plain (s .lent) ≡ s .plainly
   pub text : textOf (s .lent) ≡ s .text
   pub coveringly : lengthOf covering (s .lent) ≡ s .coveringly
 
+-- "★ proved, one statement over the table": each row does
 unfoldable pub AllRight : List Sheet → Type 0
 AllRight [] = Unit
 AllRight (s ∷ ss) = Right s × AllRight ss

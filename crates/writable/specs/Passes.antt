@@ -20,16 +20,20 @@ use Rattle.writable.specs.declared.Tally.the-variants.{TooBig, Fits}
 use Rattle.writable.specs.declared.Checked.{Checked}
 use Rattle.writable.specs.declared.Checked.the-variants.{Fine, Refused}
 
+-- "Keep plus drop is original, keep plus added is result": the sums of some items
 abbrev pub sumsOf : List Item → Sums
 sumsOf is = record { kept = kept is; used = kept is + dropped is; added = added is }
 
+-- 3: the sums, unless one passes its size
 unfoldable pub tallyOf : List Item → Tally
 tallyOf is = pick (ltb 131070 (added is)) TooBig (pick (ltb 65535 (kept is + dropped is)) TooBig (Fits (sumsOf is)))
 
+-- 1, by the place of the first bad item
 abbrev pub shaped : Bad → Verdict
 shaped (At i) = refused (Record i)
 shaped Nowhere = fine
 
+-- the sums and the length of the lines, where nothing is refused
 abbrev pub checkedBy : Verdict → List Item → Checked
 checkedBy fine is = Fine (sumsOf is) (cap (length (itemLines is)))
 checkedBy (refused r) is = Refused r

@@ -26,6 +26,7 @@ given lent (Delete o l) = []
 given lent (Insert o f n) = wordsOf lent (Insert o f n)
 given lent (Retain o l) = wordsOf lent (Retain o l)
 
+-- the same, of its record
 unfoldable pub givenBy : Lent → Operation → List ℕ
 givenBy lent o = given lent (opOf 0 o)
 
@@ -58,6 +59,7 @@ pub record Lies (lent : Lent) (o : Operation) : Type 0 where
   pub tokens : o .kind ≡ 1 → AllIn (length (lent .inserted)) (tokensFrom (lent .spans) (lent .keys) (o .first) (o .count))
   pub inside : (o .kind ≡ 1 → ⊥) → o .order + o .length ≤ length (lent .original)
 
+-- the same of each operation of a list
 unfoldable pub AllLie : Lent → List Operation → Type 0
 AllLie lent [] = Unit
 AllLie lent (o ∷ os) = Lies lent o × AllLie lent os
