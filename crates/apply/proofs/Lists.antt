@@ -1,5 +1,4 @@
--- Shown: of an accepted list, that its operations lie in what was lent, that its text and history are what its records give one by
--- one, and how long they are.
+-- Shown: of an accepted list, that its operations lie in what was lent, that its text and history are what its records give one by one, and how long they are.
 -- How: by induction on the list, each operation by its kind; its order is the original text consumed before it.
 use Prim.Native.Nat.{ℕ, suc, _+_, _*_, _≤_}
 use mathlib.Core.Path.{_≡_, refl, sym, _∙_, ap}

@@ -1,5 +1,5 @@
 -- A 64-bit number by its sign: what a test against 0 tells, and what -(n + 1) is of a negative one.
--- Assumes nothing.
+-- By cases on the sign. Assumes nothing.
 use mathlib.Core.Path.{_≡_, refl, sym, ap, _∙_, subst}
 use mathlib.Core.Bool.{true, false}
 use Prim.Native.Nat.{ℕ, zero, suc, _<_, _^_}

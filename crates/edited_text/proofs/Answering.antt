@@ -1,5 +1,5 @@
--- Shown: the call: lists that the checks accept and rooms as asked are ready to be merged, and what was merged is the answer; a refusal
--- leaves every room. How: the verdict, check by check.
+-- Shown: the call: lists that the checks accept and rooms as asked are ready to be merged, and what was merged is the answer; a refusal leaves every room.
+-- How: the verdict, check by check.
 use Prim.Native.Nat.{ℕ, _+_, _*_, _/_, min}
 use mathlib.Core.Path.{_≡_, refl, sym, _∙_}
 use mathlib.Core.Bool.{Bool, true, false, _&&_}

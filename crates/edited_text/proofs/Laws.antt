@@ -1,5 +1,4 @@
--- Shown: the call's statement allows one answer and one content of each room but the work room; and demand 3, first half, of what stands in
--- the rooms: the merged list is accepted, tiles the original, and retains exactly what both lists retain.
+-- Shown: the call's statement allows one answer and one content of each room but the work room; and demand 3, first half, of what stands in the rooms: the merged list is accepted, tiles the original, and retains exactly what both lists retain.
 -- How: the statement is by equations; a room that holds records is read back to them.
 use Prim.Native.Nat.{ℕ, _*_}
 use mathlib.Core.Path.{_≡_, refl, sym, _∙_}

@@ -1,5 +1,5 @@
--- What a taken operation meets is the definition's: the overlap's table is written off what is remembered, so all that is read
--- afterwards is as before. By cases on the operation and the remembered one. Assumes nothing.
+-- What a taken operation meets is the definition's: the overlap's table is written off what is remembered, so all that is read afterwards is as before.
+-- By cases on the operation and the remembered one. Assumes nothing.
 use Prim.Native.Nat.{ℕ, _+_, _≤_}
 use mathlib.Core.Path.{_≡_, refl, sym, ap, ap₂, _∙_, subst}
 use mathlib.Core.Bool.{Bool, true, false}

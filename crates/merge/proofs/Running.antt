@@ -1,6 +1,5 @@
 -- The run of all turns: an invariant of the code's loop that each turn of either side keeps.
--- A turn of the right is one of the left with the sides exchanged; the definition's invariant, Sound, gives what a turn asks.
--- Assumes nothing.
+-- A turn of the right is one of the left with the sides exchanged; the definition's invariant, Sound, gives what a turn asks. Assumes nothing.
 use Prim.Native.Nat.{ℕ, suc, _+_, _-_, _/_, _≤_, _<_}
 use mathlib.Core.Path.{_≡_, refl, sym, ap, _∙_, subst}
 use mathlib.Core.List.{List, [], _∷_, _++_, append-assoc}

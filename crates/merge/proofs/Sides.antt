@@ -1,5 +1,5 @@
--- What the code keeps of a side between turns, and what it gives a turn: every number fits, and each side stays in its part of the
--- work room. By the definition's invariant, Sound, and by cases on the operation taken. Assumes nothing.
+-- What the code keeps of a side between turns, and what it gives a turn: every number fits, and each side stays in its part of the work room.
+-- By the definition's invariant, Sound, and by cases on the operation taken. Assumes nothing.
 use Prim.Native.Nat.{ℕ, _+_, _-_, _*_, _/_, _≤_}
 use mathlib.Core.Path.{_≡_, refl, sym, ap, _∙_, subst}
 use mathlib.Core.Bool.{Bool, true, false}

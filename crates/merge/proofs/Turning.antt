@@ -1,5 +1,5 @@
--- A turn from its parts: the front of an operation asks no more than the operation, what is written in the work room is off what is
--- remembered, and the values that the functions called give are the definition's. Assumes nothing.
+-- A turn from its parts: the front of an operation asks no more than the operation, what is written in the work room is off what is remembered, and the values that the functions called give are the definition's.
+-- By cases on the operation taken, and by what the functions called ensure, field by field. Assumes nothing.
 use Prim.Native.Nat.{ℕ, _+_, _-_, _*_, _≤_}
 use mathlib.Core.Path.{_≡_, refl, sym, ap, ap₂, _∙_, subst}
 use mathlib.Core.Bool.{Bool, true, false}

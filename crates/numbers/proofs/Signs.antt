@@ -1,5 +1,5 @@
--- A natural below 2^63 and its negative fit 64 signed bits. By cases on zero.
--- Assumes nothing.
+-- A natural below 2^63 and its negative fit 64 signed bits.
+-- By cases on zero. Assumes nothing.
 use Prim.Native.Nat.{ℕ, zero, suc, _<_, _^_}
 use native.Mathlib.Nat.{lt-of-le-of-lt, le-suc}
 use lib.IntN.{pos, negℤ}

@@ -1,5 +1,5 @@
--- `run` makes all turns of the merge: the rooms hold what the definition gives. The loop's invariant is Going, kept by each turn;
--- its measure is the work that is left of both lists. Assumes nothing.
+-- `run` makes all turns of the merge: the rooms hold what the definition gives.
+-- The loop's invariant is Going, kept by each turn; its measure is the work that is left of both lists. Assumes nothing.
 use Prim.Native.Nat.{_+_}
 use mathlib.Core.Path.{sym, _∙_}
 use native.Mathlib.Omega.{arith}

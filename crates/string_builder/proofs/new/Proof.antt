@@ -1,6 +1,5 @@
--- `new` meets its contract: a walk of its MIR, by hand. A `StringBuilder` is made of the slice passed and 0, in the result's local.
--- A `&[u32]` is Copy, so what it owns is had twice: once for src at exit, and once inside the result, beside the facts of at.
--- Assumes nothing.
+-- `new` meets its contract: a walk of its MIR, by hand.
+-- A `StringBuilder` is made of the slice passed and 0, in the result's local. A `&[u32]` is Copy, so what it owns is had twice: once for src at exit, and once inside the result, beside the facts of at. Assumes nothing.
 use Rattle.string_builder.proofs.new.Key.{name as #new}
 use mathlib.Core.Path.{refl}
 use Prim.Native.Nat.{ℕ}

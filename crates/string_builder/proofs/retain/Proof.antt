@@ -1,6 +1,5 @@
--- `retain` meets its contract: a walk of its MIR, by hand. The builder is taken apart, `retain_to` is called on the slice and the number, with the room,
--- which isn't needed after the call, and the builder is handed back at the position that it says.
--- Assumes nothing.
+-- `retain` meets its contract: a walk of its MIR, by hand.
+-- The builder is taken apart, `retain_to` is called on the slice and the number, with the room, which isn't needed after the call, and the builder is handed back at the position that it says. Assumes nothing.
 use Rattle.string_builder.proofs.retain.Key.{name as #retain}
 use Rattle.string_builder.proofs.retain_to.Symbol.{name as #retain-to}
 use lib.Dec.{T as Holds}

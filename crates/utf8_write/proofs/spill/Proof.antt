@@ -1,6 +1,5 @@
 -- `spill` puts the bytes of code points at the start of the room.
--- A text as wide as it is long is its own bytes; else both loops keep how far the room is filled, by runs of ASCII and by
--- one code point at a time. Assumes nothing.
+-- A text as wide as it is long is its own bytes; else both loops keep how far the room is filled, by runs of ASCII and by one code point at a time. Assumes nothing.
 use Prim.Native.Nat.{_-_, _<_}
 use mathlib.Core.Path.{sym, _∙_}
 use lib.ListN.{length}
