@@ -1,4 +1,4 @@
-//! Writes the accepted cases of overlap, elongate, merge and outputs under `vectors/`.
+//! Writes the vector files of overlap, elongate, merge and outputs, and the answer at the merge's limits, under `vectors/`.
 
 use oracle::vectors::{accepted, folder};
 
