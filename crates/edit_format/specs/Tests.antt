@@ -1,4 +1,4 @@
--- Tests that the rules below are made of. Assumes nothing.
+-- Tests that the rules of the format are made of. Assumes nothing.
 use Prim.Native.Nat.{ℕ}
 use mathlib.Core.Bool.{Bool, true, false}
 use mathlib.Core.List.{List, [], _∷_}
