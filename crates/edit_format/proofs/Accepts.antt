@@ -17,7 +17,7 @@ use Rattle.edit_format.specs.Reading.{Line, form, original, result, item
 use Rattle.room.proofs.Choices.{pick-elim}
 use Rattle.edit_format.proofs.Picks.{both-0, both-1, apart}
 use Rattle.edit_format.proofs.NoBeginning.{never}
-use Rattle.edit_format.proofs.ReadBack.{kept-append, dropped-append, added-append, read-back}
+use Rattle.edit_format.proofs.ReadBack.{kept-append, dropped-append, added-append, good-rest, read-back}
 use Rattle.edit_format.proofs.Canonical.{canonical}
 
 pub both-in : {a b : Bool} → a ≡ true → b ≡ true → both a b ≡ true
@@ -41,11 +41,10 @@ ended-ends (i ∷ is) = ended-keep false i is
 good-snoc : (k : Bool) (is : List Item) (x : Item) → itemsGood k is ≡ true → itemsGood (ended k is) (x ∷ []) ≡ true → itemsGood k (is ++ x ∷ []) ≡ true
 unfolding itemsGood ended isKeep
 good-snoc k [] x g h = h
-good-snoc k (Keep n ∷ is) x g h = both-in (both-0 (both (leb 1 n) (not k)) (itemsGood true is) g) (good-snoc true is x (both-1 (both (leb 1 n) (not k)) (itemsGood true is) g) h)
-good-snoc k (Drop n ∷ is) x g h = both-in (both-0 (leb 1 n) (itemsGood false is) g) (good-snoc false is x (both-1 (leb 1 n) (itemsGood false is) g) h)
+good-snoc k (Keep n ∷ is) x g h = both-in (both-0 (both (leb 1 n) (not k)) (itemsGood true is) g) (good-snoc true is x (good-rest k (Keep n) is g) h)
+good-snoc k (Drop n ∷ is) x g h = both-in (both-0 (leb 1 n) (itemsGood false is) g) (good-snoc false is x (good-rest k (Drop n) is g) h)
 good-snoc k (Add cs ∷ is) x g h =
-    both-in (both-0 (both (leb 1 (length cs)) (allPoints cs)) (itemsGood false is) g)
-    (good-snoc false is x (both-1 (both (leb 1 (length cs)) (allPoints cs)) (itemsGood false is) g) h)
+    both-in (both-0 (both (leb 1 (length cs)) (allPoints cs)) (itemsGood false is) g) (good-snoc false is x (good-rest k (Add cs) is g) h)
 
 points-snoc : (cs : List ℕ) (n : ℕ) → allPoints cs ≡ true → isPoint n ≡ true → allPoints (cs ++ n ∷ []) ≡ true
 unfolding allPoints

@@ -170,7 +170,8 @@ fits-of p q (Add cs) u a g =
       omega (arith, added-append p (Add cs ∷ q)),
     )
 
-good-rest : (k : Bool) (x : Item) (q : List Item) → itemsGood k (x ∷ q) ≡ true → itemsGood (isKeep x) q ≡ true
+-- what stands behind a good item is good
+pub good-rest : (k : Bool) (x : Item) (q : List Item) → itemsGood k (x ∷ q) ≡ true → itemsGood (isKeep x) q ≡ true
 unfolding itemsGood isKeep
 good-rest k (Keep n) q g = both-1 (both (leb 1 n) (not k)) (itemsGood true q) g
 good-rest k (Drop n) q g = both-1 (leb 1 n) (itemsGood false q) g

@@ -1,7 +1,7 @@
 -- Shown: how many items and code points a file of so many bytes can have.
 -- How: by the shortest line of each kind, over the file's written form. Assumes nothing.
 use mathlib.Core.Path.{_≡_, ap}
-use mathlib.Core.Bool.{Bool, true, false, not}
+use mathlib.Core.Bool.{Bool, true, false}
 use mathlib.Core.List.{List, [], _∷_, _++_}
 use Prim.Native.Nat.{ℕ, zero, suc, _+_, _*_, _/_, _%_, _≤_}
 use native.Mathlib.Omega.{arith}
@@ -10,12 +10,13 @@ use lib.Dec.{leb, ltb}
 use borrow.Author.Tests.{leb-true}
 use Rattle.edit_format.specs.Tests.{both}
 use Rattle.edit_format.specs.Digits.{digit, digits, digitsIn}
-use Rattle.edit_format.specs.Items.{Item, Keep, Drop, Add, texts, allPoints, itemsGood}
+use Rattle.edit_format.specs.Items.{Item, Keep, Drop, Add, texts, isKeep, allPoints, itemsGood}
 use Rattle.edit_format.specs.Written.{keepKey, dropKey, addKey, endKey, numberLine, points, itemLine, itemLines, headLines, headOf, written}
 use Rattle.edit_format.specs.Reading.{readFile, Accepted}
 use Rattle.edit_format.specs.Records.{size}
 use Rattle.edit_format.proofs.Accepts.{accepted-good}
-use Rattle.edit_format.proofs.Picks.{both-0, both-1}
+use Rattle.edit_format.proofs.Picks.{both-0}
+use Rattle.edit_format.proofs.ReadBack.{good-rest}
 use Rattle.room.proofs.Choices.{pick-elim}
 use Rattle.edit_format.proofs.Canonical.{canonical}
 
@@ -62,21 +63,21 @@ items-long (x ∷ is) =
 
 -- an item that a file can hold is a line of six bytes or more
 good-long : (k : Bool) (is : List Item) → itemsGood k is ≡ true → 6 * length is ≤ length (itemLines is)
-unfolding itemLines itemLine itemsGood size
+unfolding itemLines itemLine isKeep itemsGood size
 good-long k [] g = omega arith
 good-long k (Keep n ∷ is) g =
     omega (
       arith,
       number-long keepKey n,
       length-append (itemLine (Keep n)) (itemLines is),
-      good-long true is (both-1 (both (leb 1 n) (not k)) (itemsGood true is) g),
+      good-long true is (good-rest k (Keep n) is g),
     )
 good-long k (Drop n ∷ is) g =
     omega (
       arith,
       number-long dropKey n,
       length-append (itemLine (Drop n)) (itemLines is),
-      good-long false is (both-1 (leb 1 n) (itemsGood false is) g),
+      good-long false is (good-rest k (Drop n) is g),
     )
 good-long k (Add cs ∷ is) g =
     let a = both-0 (both (leb 1 (length cs)) (allPoints cs)) (itemsGood false is) g in
@@ -85,7 +86,7 @@ good-long k (Add cs ∷ is) g =
       leb-true 1 (length cs) (both-0 (leb 1 (length cs)) (allPoints cs) a),
       item-long (Add cs),
       length-append (itemLine (Add cs)) (itemLines is),
-      good-long false is (both-1 (both (leb 1 (length cs)) (allPoints cs)) (itemsGood false is) g),
+      good-long false is (good-rest k (Add cs) is g),
     )
 
 lines-most : (is : List Item) → length (itemLines is) ≤ length (written is)

@@ -12,10 +12,11 @@ use lib.IntN.{ℤ, pos, negsuc}
 use lib.Dec.{leb}
 use borrow.Author.Tests.{le-leb, leb-true}
 use Rattle.diff.specs.Items.{numbered, ranged, itemOf, itemAt, itemsFrom}
-use Rattle.edit_format.specs.Items.{Item, Keep, Drop, Add, added, texts, itemsGood, allPoints}
+use Rattle.edit_format.specs.Items.{Item, Keep, Drop, Add, added, texts, isKeep, itemsGood, allPoints}
 use Rattle.edit_format.specs.Records.{recordOf, recordsFrom, size}
 use Rattle.edit_format.specs.Tests.{both}
-use Rattle.edit_format.proofs.Picks.{both-0, both-1}
+use Rattle.edit_format.proofs.Picks.{both-0}
+use Rattle.edit_format.proofs.ReadBack.{good-rest}
 use Rattle.edit_format.proofs.RecordLaws.{added-cons, length-record}
 use Rattle.edit_list.specs.Raws.{runOf, runsOf}
 use Rattle.edit_list.specs.Steps.{runIn, runsIn}
@@ -42,12 +43,6 @@ unfolding itemsGood some
 first-some k (Keep n) is h = both-0 (leb 1 n) (not k) (both-0 (both (leb 1 n) (not k)) (itemsGood true is) h)
 first-some k (Drop n) is h = both-0 (leb 1 n) (itemsGood false is) h
 first-some k (Add cs) is h = both-0 (leb 1 (length cs)) (allPoints cs) (both-0 (both (leb 1 (length cs)) (allPoints cs)) (itemsGood false is) h)
-
-pub rest-good : (k : Bool) (x : Item) (is : List Item) → itemsGood k (x ∷ is) ≡ true → (b : Bool) × (itemsGood b is ≡ true)
-unfolding itemsGood
-rest-good k (Keep n) is h = (true, both-1 (both (leb 1 n) (not k)) (itemsGood true is) h)
-rest-good k (Drop n) is h = (false, both-1 (leb 1 n) (itemsGood false is) h)
-rest-good k (Add cs) is h = (false, both-1 (both (leb 1 (length cs)) (allPoints cs)) (itemsGood false is) h)
 
 one : (xs t : List ℤ) (u text : List ℕ) (at s i lent : ℕ) (x : Item) → some x ≡ true → drop (i * 3) xs ≡ recordOf s x ++ t
     → drop (at + s) text ≡ texts (x ∷ []) ++ u → s + size x ≤ lent → runIn text at (itemAt xs lent i) ≡ runOf (at + s) x
@@ -78,9 +73,8 @@ edits [] k xs t u text at s i lent g h w l = refl
 edits (x ∷ is) k xs t u text at s i lent g h w l =
     let h′ : drop (i * 3) xs ≡ recordOf s x ++ (recordsFrom (s + size x) is ++ t) = h ∙ append-assoc (recordOf s x) (recordsFrom (s + size x) is) t in
     let w′ : drop (at + s) text ≡ texts (x ∷ []) ++ (texts is ++ u) = w ∙ rw (texts-more x is) (append-assoc (texts (x ∷ [])) (texts is) u) in
-    let n = rest-good k x is g in
     let e = one xs (recordsFrom (s + size x) is ++ t) (texts is ++ u) text at s i lent x (first-some k x is g) h′ w′ (omega (arith, added-cons x is)) in
     let a = drop-past (i * 3) ((i + 1) * 3) 3 xs (recordOf s x) (recordsFrom (s + size x) is ++ t) h′ (sym (length-record s x)) (omega arith) in
     let b = drop-past (at + s) (at + (s + size x)) (size x) text (texts (x ∷ [])) (texts is ++ u) w′ (sym (size-texts x)) (add-assoc at s (size x)) in
-    let f = edits is (n .0) xs t u text at (s + size x) (i + 1) lent (n .1) a b (omega (arith, added-cons x is)) in
+    let f = edits is (isKeep x) xs t u text at (s + size x) (i + 1) lent (good-rest k x is g) a b (omega (arith, added-cons x is)) in
     rw (e, f, add-assoc at s (size x))

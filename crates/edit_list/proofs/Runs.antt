@@ -11,10 +11,11 @@ use borrow.Author.Tests.{leb-true}
 use Rattle.raw_lists.specs.Raws.{Piece, Run}
 use Rattle.elongate.specs.Elongated.{piecesLength, allTokens}
 use Rattle.elongate.proofs.Lengths.{pieces-append}
-use Rattle.edit_format.specs.Items.{Item, Keep, Drop, Add, kept, dropped, added, itemsGood, allPoints}
+use Rattle.edit_format.specs.Items.{Item, Keep, Drop, Add, kept, dropped, added, isKeep, itemsGood, allPoints}
 use Rattle.edit_format.specs.Records.{size}
 use Rattle.edit_format.specs.Tests.{both}
-use Rattle.edit_format.proofs.Picks.{both-0, both-1}
+use Rattle.edit_format.proofs.Picks.{both-0}
+use Rattle.edit_format.proofs.ReadBack.{good-rest}
 use Rattle.edit_list.specs.Raws.{pointTokens, runOf, runsOf}
 use Rattle.edit_list.specs.Steps.{AllSmall}
 use Rattle.edit_list.proofs.Back.{Joins, AllJoin}
@@ -86,23 +87,23 @@ runs-tokens at (Add cs ∷ is) =
     omega (arith, runs-tokens (at + size (Add cs)) is, length-append (pointTokens at cs) (allTokens (runsOf (at + size (Add cs)) is)), points-length at cs)
 
 pub runs-good : (n : ℕ) (k : Bool) (at : ℕ) (is : List Item) → itemsGood k is ≡ true → kept is + dropped is ≤ n → at + added is ≤ n → AllRuns n (runsOf at is)
-unfolding runsOf runOf AllRuns PiecesIn itemsGood kept dropped added size
+unfolding runsOf runOf AllRuns PiecesIn isKeep itemsGood kept dropped added size
 runs-good n k at [] g h l = tt
 runs-good n k at (Keep m ∷ is) g h l =
     let p : 1 ≤ m = leb-true 1 m (both-0 (leb 1 m) (not k) (both-0 (both (leb 1 m) (not k)) (itemsGood true is) g)) in (
       record { known = omega arith; some = omega arith; inside = (omega arith, (omega arith, tt)) },
-      runs-good n true (at + 0) is (both-1 (both (leb 1 m) (not k)) (itemsGood true is) g) (omega arith) (omega arith),
+      runs-good n true (at + 0) is (good-rest k (Keep m) is g) (omega arith) (omega arith),
     )
 runs-good n k at (Drop m ∷ is) g h l =
     let p : 1 ≤ m = leb-true 1 m (both-0 (leb 1 m) (itemsGood false is) g) in (
       record { known = omega arith; some = omega arith; inside = (omega arith, (omega arith, tt)) },
-      runs-good n false (at + 0) is (both-1 (leb 1 m) (itemsGood false is) g) (omega arith) (omega arith),
+      runs-good n false (at + 0) is (good-rest k (Drop m) is g) (omega arith) (omega arith),
     )
 runs-good n k at (Add cs ∷ is) g h l =
     let p : 1 ≤ length cs = leb-true 1 (length cs)
     (both-0 (leb 1 (length cs)) (allPoints cs) (both-0 (both (leb 1 (length cs)) (allPoints cs)) (itemsGood false is) g)) in (
       record { known = omega arith; some = omega (arith, points-length at cs); inside = points-in at n cs (omega arith) },
-      runs-good n false (at + length cs) is (both-1 (both (leb 1 (length cs)) (allPoints cs)) (itemsGood false is) g) (omega arith) (omega arith),
+      runs-good n false (at + length cs) is (good-rest k (Add cs) is g) (omega arith) (omega arith),
     )
 
 pub runs-small : (n : ℕ) (rs : List Run) → AllRuns n rs → piecesLength (allTokens rs) ≤ 131070 → AllSmall rs

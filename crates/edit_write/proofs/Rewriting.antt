@@ -14,14 +14,14 @@ use Rattle.diff.specs.Items.{numbered, ranged, itemOf, itemAt, itemsFrom, items
 use Rattle.numbers.specs.Points.{isPoint}
 use Rattle.diff.specs.Checks.{fine, points as pointsCheck}
 use Rattle.edit_format.specs.Tests.{both}
-use Rattle.edit_format.specs.Items.{Item, Keep, Drop, Add, kept, dropped, added, texts, allPoints, itemsGood, Good}
+use Rattle.edit_format.specs.Items.{Item, Keep, Drop, Add, kept, dropped, added, texts, isKeep, allPoints, itemsGood, Good}
 use Rattle.edit_format.specs.Written.{written}
 use Rattle.edit_format.specs.Reading.{Accepted, readFile}
 use Rattle.edit_format.specs.Records.{recordOf, size, recordsFrom, recordsOf}
 use Rattle.edit_format.proofs.Picks.{both-0, both-1, apart}
 use Rattle.edit_format.proofs.TextLaws.{texts-length}
 use Rattle.edit_format.proofs.RecordLaws.{length-record, length-records, added-cons}
-use Rattle.edit_format.proofs.ReadBack.{read-back}
+use Rattle.edit_format.proofs.ReadBack.{good-rest, read-back}
 use Rattle.edit_format.proofs.Canonical.{canonical}
 use Rattle.edit_format.proofs.Accepts.{accepted-good}
 use Rattle.writable.specs.Writable.{fileItem, fileItems, fileOf, sizes, shapes, writable}
@@ -39,12 +39,6 @@ at-part a b c pre post k lent h =
     let f : k * 3 + 1 ≡ length pre + 1 = omega arith in
     let g : k * 3 + 2 ≡ length pre + 2 = omega arith in
     rw (f, g, e, append-assoc pre (a ∷ b ∷ c ∷ []) post, getD-append-add pre (a ∷ b ∷ c ∷ post) 1 (pos 0), getD-append-add pre (a ∷ b ∷ c ∷ post) 2 (pos 0), getD-append-add pre (a ∷ b ∷ c ∷ post) 0 (pos 0))
-
-good-rest : (k : Bool) (x : Item) (is : List Item) → itemsGood k (x ∷ is) ≡ true → (j : Bool) × (itemsGood j is ≡ true)
-unfolding itemsGood
-good-rest k (Keep n) is g = (true, both-1 (both (leb 1 n) (not k)) (itemsGood true is) g)
-good-rest k (Drop n) is g = (false, both-1 (leb 1 n) (itemsGood false is) g)
-good-rest k (Add cs) is g = (false, both-1 (both (leb 1 (length cs)) (allPoints cs)) (itemsGood false is) g)
 
 -- one record decodes to its item
 record-item : (k : Bool) (x : Item) (is : List Item) (at : ℕ) (text : List ℕ) (pre post : List ℤ) (i : ℕ) → itemsGood k (x ∷ is) ≡ true → length pre ≡ 3 * i → drop at text ≡ texts (x ∷ is) → at + added (x ∷ is) ≤ length text → fileItem text (itemAt (pre ++ recordOf at x ++ post) (length text) i) ≡ x
@@ -65,10 +59,9 @@ decodes : (k : Bool) (is : List Item) (at : ℕ) (text : List ℕ) (pre : List �
 unfolding fileItems itemsFrom recordsFrom
 decodes k [] at text pre i g h d l = refl
 decodes k (x ∷ is) at text pre i g h d l =
-    let r = good-rest k x is g in
     let e : pre ++ (recordOf at x ++ recordsFrom (at + size x) is) ≡ (pre ++ recordOf at x) ++ recordsFrom (at + size x) is = sym (append-assoc pre (recordOf at x) (recordsFrom (at + size x) is)) in
     let t : fileItems text (itemsFrom ((pre ++ recordOf at x) ++ recordsFrom (at + size x) is) (length text) (i + 1) (length is)) ≡ is =
-    decodes (r .0) is (at + size x) text (pre ++ recordOf at x) (i + 1) (r .1) (length-append pre (recordOf at x) ∙ omega (arith, length-record at x)) (texts-drop x is at text d) (omega (arith, added-cons x is)) in
+    decodes (isKeep x) is (at + size x) text (pre ++ recordOf at x) (i + 1) (good-rest k x is g) (length-append pre (recordOf at x) ∙ omega (arith, length-record at x)) (texts-drop x is at text d) (omega (arith, added-cons x is)) in
     rw e (ap (λ (y : Item). y ∷ fileItems text (itemsFrom ((pre ++ recordOf at x) ++ recordsFrom (at + size x) is) (length text) (i + 1) (length is))) (record-item k x is at text pre (recordsFrom (at + size x) is) i g h d l) ∙ ap (λ (l : List Item). x ∷ l) t)
 
 pub same-items : (is : List Item) → Good is → fileOf (recordsOf is) (texts is) ≡ is
@@ -89,22 +82,22 @@ points-append [] t e f = f
 points-append (c ∷ s) t e f = rw (both-0 (isPoint c) (allPoints s) e) (points-append s t (both-1 (isPoint c) (allPoints s) e) f)
 
 pub texts-points : (k : Bool) (is : List Item) → itemsGood k is ≡ true → allPoints (texts is) ≡ true
-unfolding itemsGood texts allPoints
+unfolding itemsGood isKeep texts allPoints
 texts-points k [] g = refl
-texts-points k (Keep n ∷ is) g = texts-points true is (both-1 (both (leb 1 n) (not k)) (itemsGood true is) g)
-texts-points k (Drop n ∷ is) g = texts-points false is (both-1 (leb 1 n) (itemsGood false is) g)
+texts-points k (Keep n ∷ is) g = texts-points true is (good-rest k (Keep n) is g)
+texts-points k (Drop n ∷ is) g = texts-points false is (good-rest k (Drop n) is g)
 texts-points k (Add cs ∷ is) g =
     let a = both-0 (both (leb 1 (length cs)) (allPoints cs)) (itemsGood false is) g in
-    points-append cs (texts is) (both-1 (leb 1 (length cs)) (allPoints cs) a) (texts-points false is (both-1 (both (leb 1 (length cs)) (allPoints cs)) (itemsGood false is) g))
+    points-append cs (texts is) (both-1 (leb 1 (length cs)) (allPoints cs) a) (texts-points false is (good-rest k (Add cs) is g))
 
 shapes-fine : (k : Bool) (i : ℕ) (is : List Item) → itemsGood k is ≡ true → shapes k i is ≡ fine
-unfolding itemsGood shapes
+unfolding itemsGood isKeep shapes
 shapes-fine k i [] g = refl
-shapes-fine k i (Keep n ∷ is) g = rw (both-0 (both (leb 1 n) (not k)) (itemsGood true is) g) (shapes-fine true (i + 1) is (both-1 (both (leb 1 n) (not k)) (itemsGood true is) g))
-shapes-fine k i (Drop n ∷ is) g = rw (both-0 (leb 1 n) (itemsGood false is) g) (shapes-fine false (i + 1) is (both-1 (leb 1 n) (itemsGood false is) g))
+shapes-fine k i (Keep n ∷ is) g = rw (both-0 (both (leb 1 n) (not k)) (itemsGood true is) g) (shapes-fine true (i + 1) is (good-rest k (Keep n) is g))
+shapes-fine k i (Drop n ∷ is) g = rw (both-0 (leb 1 n) (itemsGood false is) g) (shapes-fine false (i + 1) is (good-rest k (Drop n) is g))
 shapes-fine k i (Add cs ∷ is) g =
     let a = both-0 (both (leb 1 (length cs)) (allPoints cs)) (itemsGood false is) g in
-    rw (both-0 (leb 1 (length cs)) (allPoints cs) a) (shapes-fine false (i + 1) is (both-1 (both (leb 1 (length cs)) (allPoints cs)) (itemsGood false is) g))
+    rw (both-0 (leb 1 (length cs)) (allPoints cs) a) (shapes-fine false (i + 1) is (good-rest k (Add cs) is g))
 
 pub good-writable : (is : List Item) → Good is → writable is (texts is) ≡ fine
 unfolding writable sizes
