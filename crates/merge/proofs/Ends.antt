@@ -20,8 +20,8 @@ use Rattle.merging.specs.Cursors.{ended}
 use Rattle.merging.specs.Turn.{State, Taken, none, fromLeft, fromRight, takenOf}
 use Rattle.merging.specs.Merge.{Outcome, leftovers, work}
 use Rattle.merging.specs.Tiling.{Tiled, Inserts, tokensOf}
-use Rattle.merging.proofs.Turns.{stands-start, run-none, fuel}
-use Rattle.merging.proofs.Sound.{Sound, next-within}
+use Rattle.merging.proofs.Turns.{run-none, fuel}
+use Rattle.merging.proofs.Sound.{Sound, next-within, sound-start}
 use Rattle.operation.specs.declared.Next.{Next}
 use Rattle.operation.specs.declared.Next.the-variants.{Here, Done}
 use Rattle.operation.specs.declared.Last.the-variants.{Nothing}
@@ -41,7 +41,7 @@ use Rattle.cursor_position.specs.Moves.{Went}
 use Rattle.merge.specs.Turning.{cursorsLeft}
 use Rattle.merge.proofs.OneTurn.{stateOf}
 use Rattle.merge.proofs.Sides.{SideFits}
-use Rattle.merge.proofs.Running.{at-state, rest, Going}
+use Rattle.merge.proofs.Running.{rest, frame, ready, Going}
 
 -- all of a list, from its first record on
 pub list-all : (ops : List ℕ) → listFrom ops 0 0 ≡ listOf ops
@@ -89,28 +89,10 @@ chosen lent priority (Here a) (Here b) xs ys hx hy =
     go true = (refl, refl)
     go false = (refl, refl)
 
-module _ (original text spans keys lops rops lcs rcs : List ℕ) (priority : Order) (mid half : ℕ) (w out moved : List ℕ)
+module _ {original text spans keys lops rops lcs rcs : List ℕ} {priority : Order} {mid half : ℕ} {w out moved : List ℕ}
     (K : Runnable original text spans keys lops rops lcs rcs priority w mid half out moved) where
   abbrev L : Lent
   L = lentOf original text spans keys
-
-  -- the definition's invariant before the first turn
-  starting : Sound (rulesOf L) (Run text spans keys) (listOf lops) (listOf rops) (length original) (begin lops rops lcs rcs)
-  starting =
-      record {
-        p = 0;
-        q = 0;
-        stands = record { good = stands-start (listOf lops) (listOf rops) [] [] (length original) (K .left .tiled) (K .right .tiled) .good; at = refl };
-        place-left = omega arith;
-        place-right = omega arith;
-        seen-left = omega arith;
-        seen-right = omega arith;
-        merged-most = omega arith;
-        inserts-left = K .left .inserts;
-        inserts-right = K .right .inserts;
-        tokens-left = omega arith;
-        tokens-right = omega arith;
-      }
 
   abbrev sideAt : Ahead → ℕ → Side
   sideAt h fill = record { ahead = h; memory = record { last = Nothing; fill = fill }; seen = 0; cursor = 0 }
@@ -130,8 +112,8 @@ module _ (original text spans keys lops rops lcs rcs : List ℕ) (priority : Ord
       }
 
   pub started : (h k : Ahead) → Looks lops Done 0 0 h → Looks rops Done 0 0 k
-      → Going original text spans keys lops rops lcs rcs priority mid half w out moved w out moved (sideAt h 0) (sideAt k mid) zero-totals
-  unfolding at-state starting recordsOf flatOperations flatCursors
+      → Going (frame original text spans keys lops rops lcs rcs priority mid half w out moved) w out moved (sideAt h 0) (sideAt k mid) zero-totals
+  unfolding recordsOf flatOperations flatCursors
   started h k lh lk =
       let es : stateOf lops rops lcs rcs w half (sideAt h 0) (sideAt k mid) zero-totals ≡ begin lops rops lcs rcs =
       (λ i. record {
@@ -141,9 +123,14 @@ module _ (original text spans keys lops rops lcs rcs : List ℕ) (priority : Ord
         consumed = 0;
       }) in
       record {
-        sound = at-state (sym es) starting;
-        lefts = side-starts lops h 0 mid 0 lh (omega arith) (omega (arith, K .mid-is));
-        rights = side-starts rops k mid half mid lk (omega arith) (omega (arith, K .half-is));
+        ready = ready K;
+        p = 0;
+        q = 0;
+        sound = subst (λ (s : State). Sound (rulesOf L) (Run text spans keys) (listOf lops) (listOf rops) (length original) s 0 0) (sym es)
+            (sound-start (rulesOf L) (Run text spans keys) (listOf lops) (listOf rops) (cursorsOf lcs) (cursorsOf rcs) (length original) (K .left .tiled) (K .right .tiled)
+            (K .left .inserts) (K .right .inserts));
+        owns = side-starts lops h 0 mid 0 lh (omega arith) (omega (arith, K .mid-is));
+        others = side-starts rops k mid half mid lk (omega arith) (omega (arith, K .half-is));
         outs = [];
         ms = [];
         operations = refl;
@@ -167,15 +154,15 @@ rest-none lent priority s e =
 
 -- what the rooms hold when both sides are done: "Leftovers go to the end, left before right."
 pub finished :
-    (original text spans keys lops rops lcs rcs : List ℕ) (priority : Order) (mid half : ℕ) (w₀ out₀ moved₀ w out moved moved₁ moved₂ : List ℕ) (left right : Side) (totals : Totals)
-    (p₁ p₂ : Progress)
-    → Going original text spans keys lops rops lcs rcs priority mid half w₀ out₀ moved₀ w out moved left right totals
+    {original text spans keys lops rops lcs rcs : List ℕ} {priority : Order} {mid half : ℕ} {w₀ out₀ moved₀ w out moved moved₁ moved₂ : List ℕ} {left right : Side} {totals : Totals}
+    {p₁ p₂ : Progress}
+    → Going (frame original text spans keys lops rops lcs rcs priority mid half w₀ out₀ moved₀) w out moved left right totals
     → takenOf (lentOf original text spans keys) priority (aheadOf lops (left .ahead)) (aheadOf rops (right .ahead)) ≡ none
     → Went lcs (ended (totals .merged) (cursorsLeft lcs (left .cursor))) [] moved moved₁ (record { next = left .cursor; count = totals .cursors }) p₁
     → Went rcs (ended (totals .merged) (cursorsLeft rcs (right .cursor))) [] moved₁ moved₂ (record { next = right .cursor; count = p₁ .count }) p₂
     → Ran original text spans keys lops rops lcs rcs priority out₀ out moved₀ moved₂
     (record { merged = totals .merged; consumed = totals .consumed; operations = totals .operations; cursors = p₂ .count })
-finished original text spans keys lops rops lcs rcs priority mid half w₀ out₀ moved₀ w out moved moved₁ moved₂ left right totals p₁ p₂ G e a b =
+finished {original} {text} {spans} {keys} {lops} {rops} {lcs} {rcs} {priority} {mid} {half} {w₀} {out₀} {moved₀} {w} {left = left} {right} {totals} {p₁} G e a b =
     let L = lentOf original text spans keys in
     let O = outcome L priority lops rops lcs rcs in
     let l = ended (totals .merged) (cursorsLeft lcs (left .cursor)) in

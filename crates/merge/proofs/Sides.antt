@@ -1,6 +1,6 @@
 -- What the code keeps of a side between turns, and what it gives a turn: every number fits, and each side stays in its part of the work room.
--- By the definition's invariant, Sound, and by cases on the operation taken. Assumes nothing.
-use Prim.Native.Nat.{ℕ, _+_, _-_, _*_, _/_, _≤_}
+-- By cases on the operation taken. Assumes nothing.
+use Prim.Native.Nat.{ℕ, _+_, _-_, _/_, _≤_}
 use mathlib.Core.Path.{_≡_, refl, sym, ap, _∙_, subst}
 use mathlib.Core.Bool.{Bool, true, false}
 use mathlib.Core.List.{List, [], _∷_}
@@ -15,21 +15,18 @@ use Rattle.merging.specs.declared.Op.{Op}
 use Rattle.merging.specs.declared.Op.the-variants.{Delete, Insert, Retain}
 use Rattle.merging.specs.Lent.{Lent, rulesOf, keysOf}
 use Rattle.merging.specs.Operations.{orderOf, lengthOf, spanOf}
-use Rattle.merging.specs.Meeting.{Remembered, nothing, deleted, retained, inserted, keptLength, frontOf, shortened, lostOf, metOf, widthOf}
-use Rattle.merging.specs.Turn.{emitted}
+use Rattle.merging.specs.Meeting.{Remembered, nothing, deleted, retained, inserted, keptLength, frontOf, lostOf, widthOf}
 use Rattle.merging.specs.Tiling.{Tiled, totalOf, tokensOf, Inserts}
-use Rattle.merging.proofs.OneTurn.{tiled-le, starts}
-use Rattle.merging.proofs.Turns.{Turning}
-use Rattle.merging.proofs.Sound.{Sound, textOfAll, next-within}
+use Rattle.merging.proofs.OneTurn.{starts}
+use Rattle.merging.proofs.Sound.{textOfAll, next-within}
 use Rattle.operation.specs.declared.Next.{Next}
 use Rattle.operation.specs.declared.Next.the-variants.{Here, Done}
 use Rattle.operation.specs.declared.Last.{Last}
 use Rattle.operation.specs.declared.Last.the-variants.{Nothing, Deleted, Retained, Inserted}
 use Rattle.numbers.specs.Sizes.{most}
-use Rattle.operation.specs.Views.{heads, reach, tokens, ofSpans, NextFits, LastFits, Away}
+use Rattle.operation.specs.Views.{heads, reach, tokens, NextFits, LastFits, Away}
 use Rattle.operation.specs.Meets.{tailBy}
 use Rattle.operation.proofs.Cuts.{tail-cut, tail-whole}
-use Rattle.operation.proofs.Meeting.{length-is}
 use Rattle.turns.specs.declared.Ahead.{Ahead}
 use Rattle.turns.specs.Looking.{listFrom, aheadOf, spanNext, FirstFits}
 use Rattle.turns.specs.Remembering.{Began, Since}
@@ -37,10 +34,9 @@ use Rattle.order.specs.Readable.{Run}
 use Rattle.merge.specs.declared.Side.{Side}
 use Rattle.merge.specs.declared.Totals.{Totals}
 use Rattle.merge.specs.declared.Turned.{Turned as Result}
-use Rattle.merge.specs.Turning.{memoryOf, taken, result, Turnable, Turns}
+use Rattle.merge.specs.Turning.{taken, Turns}
 use Rattle.merge.specs.Turning.{Sound as Fine}
 use Rattle.merging.proofs.OneTurn.{keep-less}
-use Rattle.merge.proofs.OneTurn.{stateOf, turnOf, turned-out}
 
 -- base and top bound the side's part of the work room; its list stands at p of the original
 pub record SideFits (ops : List ℕ) (base top p : ℕ) (s : Side) : Type 0 where
@@ -51,7 +47,7 @@ pub record SideFits (ops : List ℕ) (base top p : ℕ) (s : Side) : Type 0 wher
   pub place : s .memory .fill + tokensOf (aheadOf ops (s .ahead)) ≤ top
   pub at : p + spanNext (s .ahead .next) ≡ s .ahead .at
 
-tokens-first : (a : Op) (xs : List Op) → tokensOf (a ∷ xs) ≡ tokens a + tokensOf xs
+pub tokens-first : (a : Op) (xs : List Op) → tokensOf (a ∷ xs) ≡ tokens a + tokensOf xs
 unfolding totalOf
 tokens-first (Delete o l) xs = refl
 tokens-first (Insert o f n) xs = refl
@@ -132,28 +128,28 @@ module _ (text spans keys : List ℕ) (fit : length spans / 2 ≤ most) where
   next-fits (Here y) ys q n small t i = reach-within y ys q n small t i
   next-fits Done ys q n small t i = tt
 
-began-of : (v : Last) (base fill : ℕ) → Since v base fill → Began v fill
+pub began-of : (v : Last) (base fill : ℕ) → Since v base fill → Began v fill
 began-of Nothing base fill s = tt
 began-of (Deleted o l) base fill s = tt
 began-of (Retained o l) base fill s = tt
 began-of (Inserted o from) base fill s = s .1
 
 -- the other side's part of the work room is not touched
-away-from : (v : Last) (base fill at n : ℕ) → Since v base fill → (fill ≤ at) ⊎ (at + n ≤ base) → Away v fill at n
+pub away-from : (v : Last) (base fill at n : ℕ) → Since v base fill → (fill ≤ at) ⊎ (at + n ≤ base) → Away v fill at n
 away-from Nothing base fill at n s h = tt
 away-from (Deleted o l) base fill at n s h = tt
 away-from (Retained o l) base fill at n s h = tt
 away-from (Inserted o from) base fill at n s h = (s .1, ⊎-elim (λ (q : fill ≤ at). inl q) (λ (q : at + n ≤ base). inr (omega (arith, s .0))) h)
 
 -- the record behind what is taken ends within the original
-first-fits : (a : Op) (xs : List Op) (p n at : ℕ) → n ≤ 65535 → Tiled (a ∷ xs) p n → p + spanOf a ≡ at → FirstFits at xs
+pub first-fits : (a : Op) (xs : List Op) (p n at : ℕ) → n ≤ 65535 → Tiled (a ∷ xs) p n → p + spanOf a ≡ at → FirstFits at xs
 first-fits a [] p n at small t e = tt
 first-fits (Delete o l) (x ∷ xs) p n at small t e = omega (arith, next-within x xs (o + l) n (t .2), starts x xs (o + l) n (t .2), t .0)
 first-fits (Insert o f k) (x ∷ xs) p n at small t e = omega (arith, next-within x xs p n (t .2), starts x xs p n (t .2))
 first-fits (Retain o l) (x ∷ xs) p n at small t e = omega (arith, next-within x xs (o + l) n (t .2), starts x xs (o + l) n (t .2), t .0)
 
 -- what an operation loses goes by the keys alone
-lost-keys : (L M : Lent) → L .keys ≡ M .keys → (a : Op) (v : Remembered) → lostOf (rulesOf L) a v ≡ lostOf (rulesOf M) a v
+pub lost-keys : (L M : Lent) → L .keys ≡ M .keys → (a : Op) (v : Remembered) → lostOf (rulesOf L) a v ≡ lostOf (rulesOf M) a v
 unfolding lostOf keysOf
 lost-keys L M e (Delete o l) nothing = refl
 lost-keys L M e (Delete o l) (deleted o′ l′) = refl
@@ -168,52 +164,6 @@ lost-keys L M e (Retain o l) (deleted o′ l′) = refl
 lost-keys L M e (Retain o l) (retained o′ l′) = refl
 lost-keys L M e (Retain o l) (inserted o′ ks ls) = refl
 
-text-first : (lent : Lent) (a : Op) (xs : List Op) → lengthOf lent a ≤ textOfAll lent (a ∷ xs)
+pub text-first : (lent : Lent) (a : Op) (xs : List Op) → lengthOf lent a ≤ textOfAll lent (a ∷ xs)
 unfolding totalOf
 text-first lent a xs = omega arith
-
--- a turn of the side `own` may be made
-pub turnable :
-    (lent : Lent) (ls rs : List Op) (n : ℕ) (ops ops′ cs cs′ w : List ℕ) (half base top base′ top′ : ℕ) (a : Op) (own other : Side) (totals : Totals) (number : ℕ) (out moved : List ℕ)
-    → length (lent .spans) / 2 ≤ most → n ≤ 65535 → tokensOf ls ≤ 8192 → textOfAll lent ls ≤ 131070 → textOfAll lent rs ≤ 131070
-    → (top ≤ base′) ⊎ (top′ ≤ base) → top ≤ half → top′ ≤ half → half ≤ 65536 → half + half ≤ length w
-    → (g : Sound (rulesOf lent) (Run (lent .inserted) (lent .spans) (lent .keys)) ls rs n (stateOf ops ops′ cs cs′ w half own other totals))
-    → SideFits ops base top (g .p) own → SideFits ops′ base′ top′ (g .q) other → own .ahead .next ≡ Here a
-    → Turning (stateOf ops ops′ cs cs′ w half own other totals) a (listFrom ops (own .ahead .behind) (own .ahead .at)) (g .p) (g .q) n
-    → (totals .cursors + (length cs / 2 - own .cursor)) * 2 ≤ length moved
-    → (totals .operations + length (turnOf lent ops ops′ cs cs′ w half a own other totals number .out)) * 6 ≤ length out
-    → Turnable (lent .spans) (lent .keys) ops cs w half a own other totals number out moved
-unfolding metOf
-turnable lent ls rs n ops ops′ cs cs′ w half base top base′ top′ a own other totals number out moved fit small few tl tr apart th th′ hs hw g so st e tn space room =
-    let xs = listFrom ops (own .ahead .behind) (own .ahead .at) in
-    let ys = listFrom ops′ (other .ahead .behind) (other .ahead .at) in
-    let h : aheadOf ops (own .ahead) ≡ a ∷ xs = tn .next in
-    let i : Inserts (Run (lent .inserted) (lent .spans) (lent .keys)) (a ∷ xs) = subst (Inserts (Run (lent .inserted) (lent .spans) (lent .keys))) h (g .inserts-left) in
-    let t : Tiled (a ∷ xs) (g .p) n = tn .good .tiledL in
-    let tk : tokensOf (a ∷ xs) ≤ 8192 = omega (arith, few, g .tokens-left, ap tokensOf h) in
-    let len : lengthOf (ofSpans (lent .spans)) a ≤ textOfAll lent (aheadOf ops (own .ahead)) = omega (arith, length-is lent a, text-first lent a xs, ap (textOfAll lent) h) in
-    let p1 = tokens-first a xs in
-    let p2 = ap tokensOf h in
-    record {
-      sound = fine (lent .inserted) (lent .spans) (lent .keys) fit a xs (g .p) n small t i tk;
-      next = next-fits (lent .inserted) (lent .spans) (lent .keys) fit (other .ahead .next) ys (g .q) n small (tn .good .tiledR) (g .inserts-right);
-      last = st .fits;
-      away = away-from (other .memory .last) base′ (other .memory .fill) (own .memory .fill) (tokens a) (st .since)
-          (⊎-elim (λ (q : top ≤ base′). inr (omega (arith, so .place, p1, p2))) (λ (q : top′ ≤ base). inl (omega (arith, st .place, so .low))) apart);
-      began = began-of (own .memory .last) base (own .memory .fill) (so .since);
-      place = omega (arith, so .place, p1, p2);
-      filled = omega (arith, st .place);
-      small = hs;
-      halves = hw;
-      seen = omega (arith, len, g .seen-left);
-      merged = omega (arith, len, g .seen-left, g .seen-right, g .merged-most);
-      consumed = omega (arith, tn .at, next-within a xs (g .p) n t, starts a xs (g .p) n t, tiled-le (aheadOf ops′ (other .ahead)) (g .q) n (tn .good .tiledR));
-      first = first-fits a xs (g .p) n (own .ahead .at) small t (subst (λ (x : Next). g .p + spanNext x ≡ own .ahead .at) e (so .at));
-      space = space;
-      room = λ lent′ es ek.
-          let s : result lent′ w half a other ≡ result lent w half a other =
-          ap (shortened (taken a other)) (lost-keys lent′ lent ek (taken a other) (memoryOf w half (other .memory))) in
-          subst (λ (x : ℕ). (totals .operations + x) * 6 ≤ length out)
-          (sym (ap (λ (x : Op). length (emitted number (totals .consumed) x)) s ∙ ap length (turned-out lent ops ops′ cs cs′ w half a own other totals number (st .ends))))
-          room;
-    }

@@ -1,4 +1,4 @@
--- Shown: one invariant of the states between turns that is kept by every turn of either side and gives what a turn's arithmetic asks: nothing passes the original, the lent tokens, the lists' texts or the room for remembered tokens.
+-- Shown: one invariant of the states between turns that holds at the start, is kept by every turn of either side, and gives what a turn's arithmetic asks: nothing passes the original, the lent tokens, the lists' texts or the room for remembered tokens.
 -- How: the laws of one turn, put together; a turn of the right is one of the left with the sides exchanged.
 use Prim.Native.Nat.{ℕ, _+_, _≤_}
 use mathlib.Core.Path.{_≡_, refl, ap}
@@ -6,18 +6,18 @@ use mathlib.Core.List.{List, _∷_}
 use native.Mathlib.Omega.{arith}
 use native.Mathlib.Decide.{decLt}
 use borrow.Author.Tests.{lt-ltb, le-ltb}
+use Rattle.records.specs.declared.Cursor.{Cursor}
 use Rattle.merging.specs.declared.Op.{Op}
 use Rattle.merging.specs.declared.Op.the-variants.{Delete, Insert, Retain}
-use Rattle.merging.specs.declared.Order.{Order}
 use Rattle.merging.specs.Lent.{Lent, Rules, Lawful}
 use Rattle.merging.specs.Operations.{lengthOf, orderOf, spanOf}
-use Rattle.merging.specs.Meeting.{frontOf, tailOf, behindCut, keptLength}
-use Rattle.merging.specs.Turn.{State, turned, turnWith, turnLeft, turnRight, fromLeft, fromRight, takenOf}
+use Rattle.merging.specs.Meeting.{frontOf, tailOf, behindCut, keptLength, nothing}
+use Rattle.merging.specs.Turn.{State, turned, turnWith, turnLeft}
 use Rattle.merging.specs.Tiling.{Tiled, totalOf, tokensOf, Inserts}
 use Rattle.merging.specs.Reached.{remembered}
-use Rattle.merging.proofs.OneTurn.{tiled-le, keep-less}
-use Rattle.merging.proofs.Places.{back, Roomed, roomed}
-use Rattle.merging.proofs.Turns.{Stands, stands-turned, stands-next, Turning, turning, takes-left, takes-right}
+use Rattle.merging.proofs.OneTurn.{placeAfter, tiled-le, keep-less}
+use Rattle.merging.proofs.Places.{back, roomed}
+use Rattle.merging.proofs.Turns.{Stands, stands-start, stands-turned, stands-next, Turning}
 use Rattle.merging.proofs.Count.{asked-tail}
 use Rattle.merging.proofs.WorkRoom.{own-less, other-less}
 
@@ -25,10 +25,8 @@ use Rattle.merging.proofs.WorkRoom.{own-less, other-less}
 abbrev pub textOfAll : Lent → List Op → ℕ
 textOfAll lent ls = totalOf (lengthOf lent) ls
 
--- a state between turns of the merge of ls and rs over an original of n code points; Q is what was asked of each insert's tokens
-pub record Sound (R : Rules) (Q : ℕ → ℕ → Type 0) (ls rs : List Op) (n : ℕ) (s : State) : Type 0 where
-  pub p : ℕ
-  pub q : ℕ
+-- a state between turns of the merge of ls and rs over an original of n code points, whose sides stand at p and q of it; Q is what was asked of each insert's tokens
+pub record Sound (R : Rules) (Q : ℕ → ℕ → Type 0) (ls rs : List Op) (n : ℕ) (s : State) (p q : ℕ) : Type 0 where
   pub stands : Stands s p q n
   pub place-left : back (s .right .last) p q ≤ s .merged
   pub place-right : back (s .left .last) q p ≤ s .merged
@@ -40,12 +38,34 @@ pub record Sound (R : Rules) (Q : ℕ → ℕ → Type 0) (ls rs : List Op) (n :
   pub tokens-left : remembered (s .left .last) + tokensOf (s .left .next) ≤ tokensOf ls
   pub tokens-right : remembered (s .right .last) + tokensOf (s .right .next) ≤ tokensOf rs
 
-pub sound-turned : {R : Rules} {Q : ℕ → ℕ → Type 0} {ls rs : List Op} {n : ℕ} {s : State} → Sound R Q ls rs n s → Sound R Q rs ls n (turned s)
-sound-turned {n = n} {s = s} g =
+-- whatever the cursors are
+pub sound-start : (R : Rules) (Q : ℕ → ℕ → Type 0) (ls rs : List Op) (cs ds : List Cursor) (n : ℕ) → Tiled ls 0 n → Tiled rs 0 n → Inserts Q ls → Inserts Q rs
+    → Sound R Q ls rs n
+    (record {
+      left = record { next = ls; last = nothing; seen = 0; cursors = cs };
+      right = record { next = rs; last = nothing; seen = 0; cursors = ds };
+      merged = 0;
+      consumed = 0;
+    }) 0 0
+sound-start R Q ls rs cs ds n tx ty ix iy =
     record {
-      p = g .q;
-      q = g .p;
-      stands = stands-turned s (g .p) (g .q) n (g .stands);
+      stands = record { good = stands-start ls rs cs ds n tx ty .good; at = refl };
+      place-left = omega arith;
+      place-right = omega arith;
+      seen-left = omega arith;
+      seen-right = omega arith;
+      merged-most = omega arith;
+      inserts-left = ix;
+      inserts-right = iy;
+      tokens-left = omega arith;
+      tokens-right = omega arith;
+    }
+
+-- with the sides exchanged
+pub sound-turned : {R : Rules} {Q : ℕ → ℕ → Type 0} {ls rs : List Op} {n : ℕ} {s : State} {p q : ℕ} → Sound R Q ls rs n s p q → Sound R Q rs ls n (turned s) q p
+sound-turned {n = n} {s = s} {p = p} {q = q} g =
+    record {
+      stands = stands-turned s p q n (g .stands);
       place-left = g .place-right;
       place-right = g .place-left;
       seen-left = g .seen-right;
@@ -69,58 +89,29 @@ front-tail lent (Delete o l) rs ls = omega arith
 front-tail lent (Insert o f k) rs ls = refl
 front-tail lent (Retain o l) rs ls = behind-text lent o l (keptLength o l rs) ls (keep-less o l rs)
 
-module _ (R : Rules) (law : Lawful R) (Q : ℕ → ℕ → Type 0) (ls rs : List Op) (n : ℕ) (s : State) (g : Sound R Q ls rs n s) where
-  -- the turn of the left side, by what is taken
-  pub left-turning : (priority : Order) (a : Op) (xs : List Op) → takenOf (R .lent) priority (s .left .next) (s .right .next) ≡ fromLeft a xs → Turning s a xs (g .p) (g .q) n
-  left-turning priority a xs e =
-      turning s a xs (g .p) (g .q) n (g .stands)
-      (takes-left (R .lent) priority n (s .left .next) (s .right .next) (g .p) (g .q) a xs (g .stands .good .tiledL) (g .stands .good .tiledR) e)
-
-  -- and of the right, with the sides exchanged
-  pub right-turning : (priority : Order) (b : Op) (xs : List Op) → takenOf (R .lent) priority (s .left .next) (s .right .next) ≡ fromRight b xs
-      → Turning (turned s) b xs (g .q) (g .p) n
-  right-turning priority b xs e =
-      turning (turned s) b xs (g .q) (g .p) n (stands-turned s (g .p) (g .q) n (g .stands))
-      (takes-right (R .lent) priority n (s .left .next) (s .right .next) (g .p) (g .q) b xs (g .stands .good .tiledL) (g .stands .good .tiledR) e)
-
-  -- the turn's shared text
-  turn-room : (a : Op) (xs : List Op) → Turning s a xs (g .p) (g .q) n
-      → Roomed R (frontOf a (s .right .next)) (s .left .last) (s .right .last) (g .q) (orderOf a + spanOf (frontOf a (s .right .next))) (s .merged) 0 0
-  turn-room a xs t =
-      roomed R law a (s .left .last) xs (s .right .last) (s .right .next) (g .p) (g .q) n (t .good) (t .le) (s .merged) 0 0
-      (omega (arith, g .place-left)) (omega (arith, g .place-right))
-
-  -- what is asked of each insert holds of the one taken
-  pub turn-inserts : (a : Op) (xs : List Op) → Turning s a xs (g .p) (g .q) n → Inserts Q (a ∷ xs)
-  turn-inserts a xs t = rw (t .next) at (g .inserts-left)
-
-  pub sound-left : (side : ℕ) (a : Op) (xs : List Op) → Turning s a xs (g .p) (g .q) n → Sound R Q ls rs n (turnLeft R side a xs s .state)
-  unfolding turnLeft turnWith
-  sound-left side a xs t =
-      let ys : List Op = s .right .next in
-      let r = turn-room a xs t in
-      let lt : textOfAll (R .lent) (s .left .next) ≡ textOfAll (R .lent) (a ∷ xs) = ap (textOfAll (R .lent)) (t .next) in
-      let lk : tokensOf (s .left .next) ≡ tokensOf (a ∷ xs) = ap tokensOf (t .next) in
-      record {
-        p = orderOf a + spanOf (frontOf a ys);
-        q = g .q;
-        stands = stands-next R side s a xs (g .p) (g .q) n t;
-        place-left = omega (arith, r .own);
-        place-right = omega (arith, r .other);
-        seen-left = omega (arith, front-tail (R .lent) a ys xs, g .seen-left);
-        seen-right = g .seen-right;
-        merged-most = omega (arith, r .rest, g .merged-most);
-        inserts-left = asked-tail Q a xs ys (turn-inserts a xs t);
-        inserts-right = g .inserts-right;
-        tokens-left = omega (arith, own-less R (s .left .last) (s .right .last) a xs ys, g .tokens-left);
-        tokens-right = omega (arith, other-less R (frontOf a ys) (s .right .last), g .tokens-right);
-      }
-
--- a turn of the right
-pub sound-right : (R : Rules) → Lawful R → (Q : ℕ → ℕ → Type 0) (ls rs : List Op) (n : ℕ) (s : State) (g : Sound R Q ls rs n s) (side : ℕ) (b : Op) (xs : List Op)
-    → Turning (turned s) b xs (g .q) (g .p) n → Sound R Q ls rs n (turnRight R side b xs s .state)
-unfolding turnRight sound-turned
-sound-right R law Q ls rs n s g side b xs t = sound-turned (sound-left R law Q rs ls n (turned s) (sound-turned g) side b xs t)
+-- a turn of the left side; one of the right is one of the left with the sides exchanged
+pub sound-next : {R : Rules} {Q : ℕ → ℕ → Type 0} {ls rs : List Op} {n : ℕ} {s : State} {p q : ℕ} → Lawful R → Sound R Q ls rs n s p q → (side : ℕ) (a : Op) (xs : List Op)
+    → Turning s a xs p q n → Sound R Q ls rs n (turnLeft R side a xs s .state) (placeAfter a (s .right .next)) q
+unfolding turnLeft turnWith
+sound-next {R} {Q} {ls} {rs} {n} {s} {p} {q} law g side a xs t =
+    let ys : List Op = s .right .next in
+    let r =
+    roomed R law a (s .left .last) xs (s .right .last) ys p q n (t .good) (t .le) (s .merged) 0 0 (omega (arith, g .place-left)) (omega (arith, g .place-right))
+    in
+    let lt : textOfAll (R .lent) (s .left .next) ≡ textOfAll (R .lent) (a ∷ xs) = ap (textOfAll (R .lent)) (t .next) in
+    let lk : tokensOf (s .left .next) ≡ tokensOf (a ∷ xs) = ap tokensOf (t .next) in
+    record {
+      stands = stands-next R side s a xs p q n t;
+      place-left = omega (arith, r .own);
+      place-right = omega (arith, r .other);
+      seen-left = omega (arith, front-tail (R .lent) a ys xs, g .seen-left);
+      seen-right = g .seen-right;
+      merged-most = omega (arith, r .rest, g .merged-most);
+      inserts-left = asked-tail Q a xs ys (rw (t .next) at (g .inserts-left));
+      inserts-right = g .inserts-right;
+      tokens-left = omega (arith, own-less R (s .left .last) (s .right .last) a xs ys, g .tokens-left);
+      tokens-right = omega (arith, other-less R (frontOf a ys) (s .right .last), g .tokens-right);
+    }
 
 -- where the operations of a list that tiles the original end
 pub next-within : (a : Op) (xs : List Op) (p n : ℕ) → Tiled (a ∷ xs) p n → orderOf a + spanOf a ≤ n

@@ -1,7 +1,7 @@
 -- Shown: what holds of each turn of a good state holds of the whole run (`shows`); and any fuel that is enough gives the same run.
 -- How: a turn of the right is a turn of the left with the sides exchanged, so that a law is shown for the left alone. The fuel falls with every turn: a cut leaves less of a retain.
 use Prim.Native.Nat.{ℕ, zero, suc, _+_, max, _≤_, _<_}
-use mathlib.Core.Path.{_≡_, refl, sym, _∙_, ap}
+use mathlib.Core.Path.{_≡_, refl, sym, _∙_, ap, subst}
 use mathlib.Core.Bool.{Bool, true, false}
 use mathlib.Core.Logic.{⊎-elim}
 use mathlib.Core.List.{List, [], _∷_}
@@ -47,34 +47,25 @@ pub by-order : (a b : ℕ) (P : Type 0) → (a < b → P) → (a ≡ b → P) �
 by-order a b P f g h = elim (decLt a b) [ yes z ↦ f z | no z ↦ elim (decLt b a) [ yes w ↦ h w | no w ↦ g (omega arith) ] ]
 
 module _ (lent : Lent) (priority : Order) (a b : Op) where
-  -- what is taken of the left goes no later than what is next on the right, and the other way round
-  first-left : goesLeft lent priority a b ≡ true → Before a b
-  unfolding goesLeft orderRule
-  first-left e =
-      by-order (orderOf a) (orderOf b) (Before a b)
-      (λ z. record { order = omega arith; kind = λ w. absurd (omega arith) })
-      (λ z. by-order (kindOf a) (kindOf b) (Before a b)
-      (λ w. record { order = omega arith; kind = λ v. omega arith })
-      (λ w. record { order = omega arith; kind = λ v. omega arith })
-      (λ w. let c : _≡_ {A = Bool} false true = rw (numbers-same _ _ z, numbers-more _ _ w) at e in absurd (never c)))
-      (λ z. let c : _≡_ {A = Bool} false true = rw (numbers-more _ _ z) at e in absurd (never c))
-    where
-      never : _≡_ {A = Bool} false true → ⊥
-      never c = let z : _≡_ {A = ℕ} 0 1 = cc in omega arith
+  -- what goes first, by whether the left goes
+  abbrev First : Bool → Type 0
+  First true = Before a b
+  First false = Before b a
 
-  first-right : goesLeft lent priority a b ≡ false → Before b a
+  first : First (goesLeft lent priority a b)
   unfolding goesLeft orderRule
-  first-right e =
-      by-order (orderOf a) (orderOf b) (Before b a)
-      (λ z. let c : _≡_ {A = Bool} true false = rw (numbers-less _ _ z) at e in absurd (never c))
-      (λ z. by-order (kindOf a) (kindOf b) (Before b a)
-      (λ w. let c : _≡_ {A = Bool} true false = rw (numbers-same _ _ z, numbers-less _ _ w) at e in absurd (never c))
-      (λ w. record { order = omega arith; kind = λ v. omega arith })
-      (λ w. record { order = omega arith; kind = λ v. omega arith }))
-      (λ z. record { order = omega arith; kind = λ w. absurd (omega arith) })
+  first =
+      by-order (orderOf a) (orderOf b) (First (goesLeft lent priority a b))
+      (λ z. rw (numbers-less _ _ z) (record { order = omega arith; kind = λ w. absurd (omega arith) }))
+      (λ z. by-order (kindOf a) (kindOf b) (First (goesLeft lent priority a b))
+      (λ w. rw (numbers-same _ _ z, numbers-less _ _ w) (record { order = omega arith; kind = λ v. omega arith }))
+      (λ w. either z w (goesLeft lent priority a b))
+      (λ w. rw (numbers-same _ _ z, numbers-more _ _ w) (record { order = omega arith; kind = λ v. omega arith })))
+      (λ z. rw (numbers-more _ _ z) (record { order = omega arith; kind = λ w. absurd (omega arith) }))
     where
-      never : _≡_ {A = Bool} true false → ⊥
-      never c = let z : _≡_ {A = ℕ} 0 1 = cc in omega arith
+      either : orderOf a ≡ orderOf b → kindOf a ≡ kindOf b → (t : Bool) → First t
+      either z w true = record { order = omega arith; kind = λ v. omega arith }
+      either z w false = record { order = omega arith; kind = λ v. omega arith }
 
 -- what is known of the side that is taken: a is its next operation, ls stands behind it; the other side has ys next
 pub record Takes (a : Op) (ls xs ys : List Op) (p q : ℕ) : Type 0 where
@@ -82,14 +73,11 @@ pub record Takes (a : Op) (ls xs ys : List Op) (p q : ℕ) : Type 0 where
   pub le : p ≤ q
   pub ahead : p ≡ q → Ahead a ys
 
-module _ (lent : Lent) (priority : Order) (a x : Op) (ls rs : List Op) where
-  taken-left : goesLeft lent priority a x ≡ true → takenOf lent priority (a ∷ ls) (x ∷ rs) ≡ fromLeft a ls
-  unfolding takenOf
-  taken-left h = rw (h, takenOf)
-
-  taken-right : goesLeft lent priority a x ≡ false → takenOf lent priority (a ∷ ls) (x ∷ rs) ≡ fromRight x rs
-  unfolding takenOf
-  taken-right h = rw (h, takenOf)
+-- by what is taken
+abbrev TakenBy : Taken → List Op → List Op → ℕ → ℕ → Type 0
+TakenBy none xs ys p q = (xs ≡ []) × (ys ≡ [])
+TakenBy (fromLeft a ls) xs ys p q = Takes a ls xs ys p q
+TakenBy (fromRight b rs) xs ys p q = Takes b rs ys xs q p
 
 module _ (lent : Lent) (priority : Order) (n : ℕ) where
   takes-first : (a x : Op) (ls rs : List Op) (p q : ℕ) → Tiled (a ∷ ls) p n → Tiled (x ∷ rs) q n → Before a x → Takes a ls (a ∷ ls) (x ∷ rs) p q
@@ -99,62 +87,16 @@ module _ (lent : Lent) (priority : Order) (n : ℕ) where
   takes-last : (a : Op) (ls : List Op) (p q : ℕ) → Tiled (a ∷ ls) p n → q ≡ n → Takes a ls (a ∷ ls) [] p q
   takes-last a ls p q tx e = record { is = refl; le = omega (arith, tiled-le (a ∷ ls) p n tx); ahead = λ z. tt }
 
-  pub takes-left : (xs ys : List Op) (p q : ℕ) (a : Op) (ls : List Op) → Tiled xs p n → Tiled ys q n
-      → takenOf lent priority xs ys ≡ fromLeft a ls → Takes a ls xs ys p q
+  takes : (xs ys : List Op) (p q : ℕ) → Tiled xs p n → Tiled ys q n → TakenBy (takenOf lent priority xs ys) xs ys p q
   unfolding takenOf
-  takes-left [] [] p q a ls tx ty e = absurd (let z : _≡_ {A = ℕ} 0 1 = cc in omega arith)
-  takes-left [] (x ∷ rs) p q a ls tx ty e = absurd (let z : _≡_ {A = ℕ} 0 1 = cc in omega arith)
-  takes-left (b ∷ bs) [] p q a ls tx ty e =
-      let ea : b ≡ a = cc in
-      let el : bs ≡ ls = cc in
-      rw (← ea, ← el) (takes-last b bs p q tx ty)
-  takes-left (b ∷ bs) (x ∷ rs) p q a ls tx ty e = go (goesLeft lent priority b x) refl
+  takes [] [] p q tx ty = (refl, refl)
+  takes [] (x ∷ rs) p q tx ty = takes-last x rs q p ty tx
+  takes (b ∷ bs) [] p q tx ty = takes-last b bs p q tx ty
+  takes (b ∷ bs) (x ∷ rs) p q tx ty = go (goesLeft lent priority b x) (first lent priority b x)
     where
-      go : (t : Bool) → goesLeft lent priority b x ≡ t → Takes a ls (b ∷ bs) (x ∷ rs) p q
-      go true h =
-          let f : fromLeft b bs ≡ fromLeft a ls = sym (taken-left lent priority b x bs rs h) ∙ e in
-          let ea : b ≡ a = cc in
-          let el : bs ≡ ls = cc in
-          rw (← ea, ← el) (takes-first b x bs rs p q tx ty (first-left lent priority b x h))
-      go false h =
-          let f : fromRight x rs ≡ fromLeft a ls = sym (taken-right lent priority b x bs rs h) ∙ e in
-          absurd (let z : _≡_ {A = ℕ} 0 1 = cc in omega arith)
-
-  pub takes-right : (xs ys : List Op) (p q : ℕ) (a : Op) (rs : List Op) → Tiled xs p n → Tiled ys q n
-      → takenOf lent priority xs ys ≡ fromRight a rs → Takes a rs ys xs q p
-  unfolding takenOf
-  takes-right [] [] p q a rs tx ty e = absurd (let z : _≡_ {A = ℕ} 0 1 = cc in omega arith)
-  takes-right (b ∷ bs) [] p q a rs tx ty e = absurd (let z : _≡_ {A = ℕ} 0 1 = cc in omega arith)
-  takes-right [] (x ∷ ys) p q a rs tx ty e =
-      let ea : x ≡ a = cc in
-      let el : ys ≡ rs = cc in
-      rw (← ea, ← el) (takes-last x ys q p ty tx)
-  takes-right (b ∷ bs) (x ∷ ys) p q a rs tx ty e = go (goesLeft lent priority b x) refl
-    where
-      go : (t : Bool) → goesLeft lent priority b x ≡ t → Takes a rs (x ∷ ys) (b ∷ bs) q p
-      go true h =
-          let f : fromLeft b bs ≡ fromRight a rs = sym (taken-left lent priority b x bs ys h) ∙ e in
-          absurd (let z : _≡_ {A = ℕ} 0 1 = cc in omega arith)
-      go false h =
-          let f : fromRight x ys ≡ fromRight a rs = sym (taken-right lent priority b x bs ys h) ∙ e in
-          let ea : x ≡ a = cc in
-          let el : ys ≡ rs = cc in
-          rw (← ea, ← el) (takes-first x b ys bs q p ty tx (first-right lent priority b x h))
-
-  takes-none : (xs ys : List Op) → takenOf lent priority xs ys ≡ none → (xs ≡ []) × (ys ≡ [])
-  unfolding takenOf
-  takes-none [] [] e = (refl, refl)
-  takes-none [] (x ∷ ys) e = absurd (let z : _≡_ {A = ℕ} 0 1 = cc in omega arith)
-  takes-none (b ∷ bs) [] e = absurd (let z : _≡_ {A = ℕ} 0 1 = cc in omega arith)
-  takes-none (b ∷ bs) (x ∷ ys) e = go (goesLeft lent priority b x) refl
-    where
-      go : (t : Bool) → goesLeft lent priority b x ≡ t → (b ∷ bs ≡ []) × (x ∷ ys ≡ [])
-      go true h =
-          let f : fromLeft b bs ≡ none = sym (taken-left lent priority b x bs ys h) ∙ e in
-          absurd (let z : _≡_ {A = ℕ} 0 1 = cc in omega arith)
-      go false h =
-          let f : fromRight x ys ≡ none = sym (taken-right lent priority b x bs ys h) ∙ e in
-          absurd (let z : _≡_ {A = ℕ} 0 1 = cc in omega arith)
+      go : (t : Bool) → First lent priority b x t → TakenBy (elim t [ true ↦ fromLeft b bs | false ↦ fromRight x rs ]) (b ∷ bs) (x ∷ rs) p q
+      go true h = takes-first b x bs rs p q tx ty h
+      go false h = takes-first x b rs bs q p ty tx h
 
 -- a cut leaves less
 kept-less : (o l : ℕ) (rs : List Op) → keptLength o l rs < l → 0 < keptLength o l rs
@@ -230,8 +172,23 @@ pub record Turning (s : State) (a : Op) (ls : List Op) (p q n : ℕ) : Type 0 wh
   pub ahead : p ≡ q → Ahead a (s .right .next)
   pub at : s .consumed ≡ q
 
-pub turning : (s : State) (a : Op) (ls : List Op) (p q n : ℕ) → Stands s p q n → Takes a ls (s .left .next) (s .right .next) p q → Turning s a ls p q n
+turning : (s : State) (a : Op) (ls : List Op) (p q n : ℕ) → Stands s p q n → Takes a ls (s .left .next) (s .right .next) p q → Turning s a ls p q n
 turning s a ls p q n g k = record { good = rw (k .is) at (g .good); next = k .is; le = k .le; ahead = k .ahead; at = omega (arith, g .at, k .le) }
+
+-- the turn of the side that is taken, one of the right with the sides exchanged; or there is none left
+abbrev pub TurningBy : Taken → State → ℕ → ℕ → ℕ → Type 0
+TurningBy none s p q n = (s .left .next ≡ []) × (s .right .next ≡ [])
+TurningBy (fromLeft a ls) s p q n = Turning s a ls p q n
+TurningBy (fromRight b rs) s p q n = Turning (turned s) b rs q p n
+
+module _ (lent : Lent) (priority : Order) (s : State) (p q n : ℕ) (g : Stands s p q n) where
+  pub turning-by : (t : Taken) → takenOf lent priority (s .left .next) (s .right .next) ≡ t → TurningBy t s p q n
+  turning-by t e = go t (subst (λ (u : Taken). TakenBy u (s .left .next) (s .right .next) p q) e (takes lent priority n (s .left .next) (s .right .next) p q (g .good .tiledL) (g .good .tiledR)))
+    where
+      go : (t : Taken) → TakenBy t (s .left .next) (s .right .next) p q → TurningBy t s p q n
+      go none k = k
+      go (fromLeft a ls) k = turning s a ls p q n g k
+      go (fromRight b rs) k = turning (turned s) b rs q p n (stands-turned s p q n g) k
 
 pub turn-step : (R : Rules) (s : State) (a : Op) (ls : List Op) (p q n : ℕ) → Turning s a ls p q n → StepOf R a ls (s .left .last) (s .right .last) (s .right .next) q n
 turn-step R s a ls p q n g = stepped R a (s .left .last) ls (s .right .last) (s .right .next) p q n (g .good) (g .le) (g .ahead)
@@ -299,16 +256,9 @@ module _ (R : Rules) (priority : Order) (n : ℕ) (P : State → ℕ → ℕ →
     showsTurn f ih s p q g h = go (takenOf (R .lent) priority (s .left .next) (s .right .next)) refl
       where
         go : (t : Taken) → takenOf (R .lent) priority (s .left .next) (s .right .next) ≡ t → P s p q (run R priority (suc f) s)
-        go none e = rw (run-none R priority f s e) (showsEnd s p q g (takes-none (R .lent) priority n (s .left .next) (s .right .next) e))
-        go (fromLeft a ls) e =
-            rw (run-left R priority f s a ls e)
-            (showsLeft f ih s p q a ls
-            (turning s a ls p q n g (takes-left (R .lent) priority n (s .left .next) (s .right .next) p q a ls (g .good .tiledL) (g .good .tiledR) e)) h)
-        go (fromRight b rs) e =
-            rw (run-right R priority f s b rs e)
-            (showsRight f ih s p q b rs
-            (turning (turned s) b rs q p n (stands-turned s p q n g)
-            (takes-right (R .lent) priority n (s .left .next) (s .right .next) p q b rs (g .good .tiledL) (g .good .tiledR) e)) h)
+        go none e = rw (run-none R priority f s e) (showsEnd s p q g (turning-by (R .lent) priority s p q n g none e))
+        go (fromLeft a ls) e = rw (run-left R priority f s a ls e) (showsLeft f ih s p q a ls (turning-by (R .lent) priority s p q n g (fromLeft a ls) e) h)
+        go (fromRight b rs) e = rw (run-right R priority f s b rs e) (showsRight f ih s p q b rs (turning-by (R .lent) priority s p q n g (fromRight b rs) e) h)
 
     pub shows : (f : ℕ) → Shows f
     shows zero s p q g h = rw (run-zero R priority 0 s) (showsEnd s p q g (work-none (s .left .next) (omega arith), work-none (s .right .next) (omega arith)))
@@ -329,12 +279,12 @@ run-empty R priority f s h =
     run-none R priority f s (rw (l, r))
 
 -- the work that a turn leaves
-left-less : (R : Rules) (side : ℕ) (s : State) (a : Op) (ls : List Op) → s .left .next ≡ a ∷ ls
+pub left-less : (R : Rules) (side : ℕ) (s : State) (a : Op) (ls : List Op) → s .left .next ≡ a ∷ ls
     → work (turnLeft R side a ls s .state .left .next) + work (turnLeft R side a ls s .state .right .next) < work (s .left .next) + work (s .right .next)
 unfolding turnLeft turnWith
 left-less R side s a ls e = omega (arith, work-less a (s .right .next) ls, ap work e)
 
-right-less : (R : Rules) (side : ℕ) (s : State) (b : Op) (rs : List Op) → s .right .next ≡ b ∷ rs
+pub right-less : (R : Rules) (side : ℕ) (s : State) (b : Op) (rs : List Op) → s .right .next ≡ b ∷ rs
     → work (turnRight R side b rs s .state .left .next) + work (turnRight R side b rs s .state .right .next) < work (s .left .next) + work (s .right .next)
 unfolding turnRight
 right-less R side s b rs e = omega (arith, left-less R side (turned s) b rs e)
@@ -344,11 +294,11 @@ unfolding takenOf
 taken-is lent priority [] [] t e = rw (← e) tt
 taken-is lent priority [] (x ∷ ys) t e = rw (← e) refl
 taken-is lent priority (b ∷ bs) [] t e = rw (← e) refl
-taken-is lent priority (b ∷ bs) (x ∷ ys) t e = go (goesLeft lent priority b x) refl
+taken-is lent priority (b ∷ bs) (x ∷ ys) t e = subst (λ (u : Taken). Next u (b ∷ bs) (x ∷ ys)) e (go (goesLeft lent priority b x))
   where
-    go : (u : Bool) → goesLeft lent priority b x ≡ u → Next t (b ∷ bs) (x ∷ ys)
-    go true h = rw (← (sym (taken-left lent priority b x bs ys h) ∙ e)) refl
-    go false h = rw (← (sym (taken-right lent priority b x bs ys h) ∙ e)) refl
+    go : (u : Bool) → Next (elim u [ true ↦ fromLeft b bs | false ↦ fromRight x ys ]) (b ∷ bs) (x ∷ ys)
+    go true = refl
+    go false = refl
 
 fuelTurn : (R : Rules) (priority : Order) (f g : ℕ) (s : State) → work (s .left .next) + work (s .right .next) ≤ suc f
     → work (s .left .next) + work (s .right .next) ≤ suc g

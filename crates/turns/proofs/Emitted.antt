@@ -14,19 +14,11 @@ use Rattle.merging.specs.declared.Op.the-variants.{Delete, Insert, Retain}
 use Rattle.merging.specs.Lent.{Lent}
 use Rattle.merging.specs.Operations.{Out, lengthOf, emptyOp, recordOf, recordsOf}
 use Rattle.merging.specs.Turn.{anchored, emitted}
+use Rattle.merging.proofs.Whole.{emit-none, emit-one}
 use Rattle.turns.specs.Emitting.{recordBy, Emits}
 
-module _ (side at : ℕ) (a : Op) where
-  emit-none : emptyOp a ≡ true → emitted side at a ≡ []
-  unfolding emitted
-  emit-none e = rw (e, emitted)
-
-  emit-one : emptyOp a ≡ false → emitted side at a ≡ record { side = side; op = anchored at a } ∷ []
-  unfolding emitted
-  emit-one e = rw (e, emitted)
-
-  pub emit-fits : (place n : ℕ) → emptyOp a ≡ false → (place + length (emitted side at a)) * 6 ≤ n → place * 6 + 6 ≤ n
-  emit-fits place n e h = omega (arith, ap length (emit-one e))
+pub emit-fits : (side at : ℕ) (a : Op) (place n : ℕ) → emptyOp a ≡ false → (place + length (emitted side at a)) * 6 ≤ n → place * 6 + 6 ≤ n
+emit-fits side at a place n e h = omega (arith, ap length (emit-one side at a e))
 
 records-append : (lent : Lent) (xs ys : List Out) → recordsOf lent (xs ++ ys) ≡ recordsOf lent xs ++ recordsOf lent ys
 unfolding recordsOf

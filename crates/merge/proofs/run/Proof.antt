@@ -6,15 +6,15 @@ use native.Mathlib.Omega.{arith}
 use borrow.Author.Needs.{needs}
 use Rattle.merging.specs.Merge.{work}
 use Rattle.turns.specs.Looking.{listFrom, aheadOf}
-use Rattle.merge.proofs.Running.{Going}
+use Rattle.merge.proofs.Running.{frame, Going}
 use Rattle.merge.proofs.Ends.{first-fits, next-readable, started, finished}
-use Rattle.merge.proofs.Taking.{takes, none-taken, seat-turnable, seat-less, seat-step}
+use Rattle.merge.proofs.Taking.{none-taken, seat-turnable, seat-less, seat-step}
 use Rattle.merge.proofs.run.Statement.{statement}
 use Rattle.merge.proofs.run.Tie as tie
 
 abbrev Inv-turns : tie.InvT-turns
 Inv-turns original text spans keys left-operations right-operations left-cursors right-cursors priority work₀ mid half out₀ moved₀ left₀ right₀ totals₀ work out moved left right totals =
-    Going original text spans keys left-operations right-operations left-cursors right-cursors priority mid half work₀ out₀ moved₀ work out moved left right totals
+    Going (frame original text spans keys left-operations right-operations left-cursors right-cursors priority mid half work₀ out₀ moved₀) work out moved left right totals
 
 abbrev μ-turns : tie.MeasureT-turns
 μ-turns original text spans keys left-operations right-operations left-cursors right-cursors priority work₀ mid half out₀ moved₀ left₀ right₀ totals₀ room out moved left right totals =
@@ -29,8 +29,7 @@ ahead-of-requires-2 c κs =
     first-fits _ _ (c .before .before .before .before .before .before .before .before .before .before .before .before .pre .original-most) (c .before .before .before .before .before .before .before .before .before .before .before .before .pre .right .tiled)
 
 turns-holds : tie.Need-turns-holds Inv-turns μ-turns
-turns-holds c =
-    started (c .before .before .before .before .before .before .before .before .before .before .before .before .before .args .original .now) (c .before .before .before .before .before .before .before .before .before .before .before .before .before .args .text .now) (c .before .before .before .before .before .before .before .before .before .before .before .before .before .args .spans .now) (c .before .before .before .before .before .before .before .before .before .before .before .before .before .args .keys .now) (c .before .before .before .before .before .before .before .before .before .before .before .before .before .args .left-operations .now) (c .before .before .before .before .before .before .before .before .before .before .before .before .before .args .right-operations .now) (c .before .before .before .before .before .before .before .before .before .before .before .before .before .args .left-cursors .now) (c .before .before .before .before .before .before .before .before .before .before .before .before .before .args .right-cursors .now) (c .before .before .before .before .before .before .before .before .before .before .before .before .before .args .priority) (c .before .before .before .before .before .before .before .before .before .before .before .before .before .args .mid) (c .before .before .before .before .before .before .before .before .before .before .before .before .before .args .half) (c .before .before .before .before .before .before .before .before .before .before .before .before .before .args .work .now) (c .before .before .before .before .before .before .before .before .before .before .before .before .before .args .out .now) (c .before .before .before .before .before .before .before .before .before .before .before .before .before .args .moved .now) (c .before .before .before .before .before .before .before .before .before .before .before .before .before .pre) _ _ (c .before .ahead-of .ensures) (c .ahead-of2 .ensures)
+turns-holds c = started (c .before .before .before .before .before .before .before .before .before .before .before .before .before .pre) _ _ (c .before .ahead-of .ensures) (c .ahead-of2 .ensures)
 
 choose-requires : tie.Need-choose-requires Inv-turns μ-turns
 choose-requires c κs = (
@@ -63,12 +62,11 @@ same-length-3 c =
 
 returns : tie.Need-returns Inv-turns μ-turns
 returns c =
-    let a = c .before .before .before .before .before .before .before .before .before .before .before .before .before .before .before .before .before .before .before .before .before .before .before .before .before .before .before .args in
-    let t = c .before .before .before .before .before .before .before .before .before .before .before .before .before .turns in
-    finished (a .original .now) (a .text .now) (a .spans .now) (a .keys .now) (a .left-operations .now) (a .right-operations .now) (a .left-cursors .now) (a .right-cursors .now) (a .priority) (a .mid) (a .half) (a .work .now) (a .out .now) (a .moved .now) (t .work) (t .out) (t .moved) _ _ (t .left) (t .right) (t .totals) _ _ (t .inv)
-    (none-taken (a .original .now) (a .text .now) (a .spans .now) (a .keys .now) (a .left-operations .now) (a .right-operations .now) (a .left-cursors .now) (a .right-cursors .now) (a .priority) (a .mid) (a .half) (a .work .now) (a .out .now) (a .moved .now) (t .work) (t .out) (t .moved) (t .left) (t .right) (t .totals) (c .before .before .before .before .before .before .before .before .before .before .before .before .before .before .before .before .before .before .before .before .before .before .before .before .before .before .before .pre) (t .inv) _ (sym (c .before .before .before .before .before .before .before .before .before .is-none .ensures) ∙ c .before .before .before .before .before .before .before .before .if1 .taken) (takes (a .original .now) (a .text .now) (a .spans .now) (a .keys .now) (a .left-operations .now) (a .right-operations .now) (a .left-cursors .now) (a .right-cursors .now) (a .priority) (a .mid) (a .half) (a .work .now) (a .out .now) (a .moved .now) (t .work) (t .out) (t .moved) (t .left) (t .right) (t .totals) (c .before .before .before .before .before .before .before .before .before .before .before .before .before .before .before .before .before .before .before .before .before .before .before .before .before .before .before .pre) (t .inv) _ (c .before .before .before .before .before .before .before .before .before .before .choose .ensures)))
-    (c .before .before .before .before .before .before .end-cursors .ensures)
-    (c .before .before .end-cursors2 .ensures)
+    let c8 = c .before .before .before .before .before .before .before .before in
+    let c9 = c8 .before in
+    let c10 = c9 .before in
+    let t = c10 .before .before .before .turns in
+    finished (t .inv) (none-taken _ (t .inv) _ (c10 .choose .ensures) (sym (c9 .is-none .ensures) ∙ c8 .if1 .taken)) (c .before .before .before .before .before .before .end-cursors .ensures) (c .before .before .end-cursors2 .ensures)
 
 taken-of-requires : tie.Need-taken-of-requires Inv-turns μ-turns
 taken-of-requires c κs = search needs
@@ -84,19 +82,22 @@ number-of-requires c κs = search needs
 
 turn-requires : tie.Need-turn-requires Inv-turns μ-turns
 turn-requires c κs =
-    let a = c .before .before .before .before .before .before .before .before .before .before .before .before .before .before .before .before .before .before .before .before .before .before .before .before .before .before .args in
-    let k = c .before .before .before .before .before .before .before .before .before .before .before .before .before .before .before .before .before .before .before .before .before .before .before .before .before .before .pre in
-    let t = c .before .before .before .before .before .before .before .before .before .before .before .before .turns in
-    let x = c .before .before .before .before .before .before .before .before .before .choose .result in
-    seat-turnable (a .original .now) (a .text .now) (a .spans .now) (a .keys .now) (a .left-operations .now) (a .right-operations .now) (a .left-cursors .now) (a .right-cursors .now) (a .priority) (a .mid) (a .half) (a .work .now) (a .out .now) (a .moved .now) (t .work) (t .out) (t .moved) (t .left) (t .right) (t .totals) k (t .inv) x
+    let c3 = c .before .before .before in
+    let c4 = c3 .before in
+    let c5 = c4 .before in
+    let c6 = c5 .before in
+    let c7 = c6 .before in
+    let c8 = c7 .before in
+    let c9 = c8 .before in
+    let t = c9 .before .before .before .turns in
+    seat-turnable _ (t .inv) _ (c9 .choose .ensures)
     (record {
-      some = sym (c .before .before .before .before .before .before .before .before .is-none .ensures) ∙ c .before .before .before .before .before .before .before .if1 .left;
-      a-is = c .before .before .before .before .before .before .taken-of .ensures;
-      own-is = c .before .before .before .before .before .side-of .ensures;
-      other-is = c .before .before .before .before .side-of2 .ensures;
-      number-is = c .before .before .before .number-of .ensures;
+      some = sym (c8 .is-none .ensures) ∙ c7 .if1 .left;
+      a-is = c6 .taken-of .ensures;
+      own-is = c5 .side-of .ensures;
+      other-is = c4 .side-of2 .ensures;
+      number-is = c3 .number-of .ensures;
     })
-    (takes (a .original .now) (a .text .now) (a .spans .now) (a .keys .now) (a .left-operations .now) (a .right-operations .now) (a .left-cursors .now) (a .right-cursors .now) (a .priority) (a .mid) (a .half) (a .work .now) (a .out .now) (a .moved .now) (t .work) (t .out) (t .moved) (t .left) (t .right) (t .totals) k (t .inv) x (c .before .before .before .before .before .before .before .before .before .choose .ensures))
 
 side-of-requires-3 : tie.Need-side-of-requires-3 Inv-turns μ-turns
 side-of-requires-3 c κs = search needs
@@ -106,43 +107,46 @@ side-of-requires-4 c κs = search needs
 
 turns-less : tie.Need-turns-less Inv-turns μ-turns
 turns-less c =
-    let a = c .before .before .before .before .before .before .before .before .before .before .before .before .before .before .before .before .before .before .before .before .before .before .before .before .before .before .before .before .before .before .before .before .before .before .before .before .before .before .args in
-    let k = c .before .before .before .before .before .before .before .before .before .before .before .before .before .before .before .before .before .before .before .before .before .before .before .before .before .before .before .before .before .before .before .before .before .before .before .before .before .before .pre in
-    let t = c .before .before .before .before .before .before .before .before .before .before .before .before .before .before .before .before .before .before .before .before .before .before .before .before .turns in
-    let x = c .before .before .before .before .before .before .before .before .before .before .before .before .before .before .before .before .before .before .before .before .before .choose .result in
-    seat-less (a .original .now) (a .text .now) (a .spans .now) (a .keys .now) (a .left-operations .now) (a .right-operations .now) (a .left-cursors .now) (a .right-cursors .now) (a .priority) (a .mid) (a .half) (a .work .now) (a .out .now) (a .moved .now) (t .work) (t .out) (t .moved) (t .left) (t .right) (t .totals) k (t .inv) x
+    let c11 = c .before .before .before .before .before .before .before .before .before .before .before in
+    let c15 = c11 .before .before .before .before in
+    let c16 = c15 .before in
+    let c17 = c16 .before in
+    let c18 = c17 .before in
+    let c19 = c18 .before in
+    let c20 = c19 .before in
+    let c21 = c20 .before in
+    let t = c21 .before .before .before .turns in
+    seat-less _ (t .inv) _ (c21 .choose .ensures)
     (record {
-      some = sym (c .before .before .before .before .before .before .before .before .before .before .before .before .before .before .before .before .before .before .before .before .is-none .ensures) ∙ c .before .before .before .before .before .before .before .before .before .before .before .before .before .before .before .before .before .before .before .if1 .left;
-      a-is = c .before .before .before .before .before .before .before .before .before .before .before .before .before .before .before .before .before .before .taken-of .ensures;
-      own-is = c .before .before .before .before .before .before .before .before .before .before .before .before .before .before .before .before .before .side-of .ensures;
-      other-is = c .before .before .before .before .before .before .before .before .before .before .before .before .before .before .before .before .side-of2 .ensures;
-      number-is = c .before .before .before .before .before .before .before .before .before .before .before .before .before .before .before .number-of .ensures;
+      some = sym (c20 .is-none .ensures) ∙ c19 .if1 .left;
+      a-is = c18 .taken-of .ensures;
+      own-is = c17 .side-of .ensures;
+      other-is = c16 .side-of2 .ensures;
+      number-is = c15 .number-of .ensures;
     })
-    (takes (a .original .now) (a .text .now) (a .spans .now) (a .keys .now) (a .left-operations .now) (a .right-operations .now) (a .left-cursors .now) (a .right-cursors .now) (a .priority) (a .mid) (a .half) (a .work .now) (a .out .now) (a .moved .now) (t .work) (t .out) (t .moved) (t .left) (t .right) (t .totals) k (t .inv) x (c .before .before .before .before .before .before .before .before .before .before .before .before .before .before .before .before .before .before .before .before .before .choose .ensures))
-    (c .before .before .before .before .before .before .before .before .before .before .before .turn .ensures)
-    (c .before .side-of3 .ensures)
-    (c .side-of4 .ensures)
+    (c11 .turn .ensures) (c .before .side-of3 .ensures) (c .side-of4 .ensures)
 
 turns-again : tie.Need-turns-again Inv-turns μ-turns
 turns-again c =
-    let a = c .before .before .before .before .before .before .before .before .before .before .before .before .before .before .before .before .before .before .before .before .before .before .before .before .before .before .before .before .before .before .before .before .before .before .before .before .before .before .args in
-    let k = c .before .before .before .before .before .before .before .before .before .before .before .before .before .before .before .before .before .before .before .before .before .before .before .before .before .before .before .before .before .before .before .before .before .before .before .before .before .before .pre in
-    let t = c .before .before .before .before .before .before .before .before .before .before .before .before .before .before .before .before .before .before .before .before .before .before .before .before .turns in
-    let x = c .before .before .before .before .before .before .before .before .before .before .before .before .before .before .before .before .before .before .before .before .before .choose .result in
-    seat-step (a .original .now) (a .text .now) (a .spans .now) (a .keys .now) (a .left-operations .now) (a .right-operations .now) (a .left-cursors .now) (a .right-cursors .now) (a .priority) (a .mid) (a .half) (a .work .now) (a .out .now) (a .moved .now) (t .work) (t .out) (t .moved) (t .left) (t .right) (t .totals) k (t .inv) x
+    let c11 = c .before .before .before .before .before .before .before .before .before .before .before in
+    let c15 = c11 .before .before .before .before in
+    let c16 = c15 .before in
+    let c17 = c16 .before in
+    let c18 = c17 .before in
+    let c19 = c18 .before in
+    let c20 = c19 .before in
+    let c21 = c20 .before in
+    let t = c21 .before .before .before .turns in
+    seat-step _ (t .inv) _ (c21 .choose .ensures)
     (record {
-      some = sym (c .before .before .before .before .before .before .before .before .before .before .before .before .before .before .before .before .before .before .before .before .is-none .ensures) ∙ c .before .before .before .before .before .before .before .before .before .before .before .before .before .before .before .before .before .before .before .if1 .left;
-      a-is = c .before .before .before .before .before .before .before .before .before .before .before .before .before .before .before .before .before .before .taken-of .ensures;
-      own-is = c .before .before .before .before .before .before .before .before .before .before .before .before .before .before .before .before .before .side-of .ensures;
-      other-is = c .before .before .before .before .before .before .before .before .before .before .before .before .before .before .before .before .side-of2 .ensures;
-      number-is = c .before .before .before .before .before .before .before .before .before .before .before .before .before .before .before .number-of .ensures;
+      some = sym (c20 .is-none .ensures) ∙ c19 .if1 .left;
+      a-is = c18 .taken-of .ensures;
+      own-is = c17 .side-of .ensures;
+      other-is = c16 .side-of2 .ensures;
+      number-is = c15 .number-of .ensures;
     })
-    (takes (a .original .now) (a .text .now) (a .spans .now) (a .keys .now) (a .left-operations .now) (a .right-operations .now) (a .left-cursors .now) (a .right-cursors .now) (a .priority) (a .mid) (a .half) (a .work .now) (a .out .now) (a .moved .now) (t .work) (t .out) (t .moved) (t .left) (t .right) (t .totals) k (t .inv) x (c .before .before .before .before .before .before .before .before .before .before .before .before .before .before .before .before .before .before .before .before .before .choose .ensures))
-    (c .before .before .before .before .before .before .before .before .before .before .before .turn .ensures)
-    (c .before .side-of3 .ensures)
-    (c .side-of4 .ensures)
-    (c .before .before .before .before .before .before .before .before .before .before .before .turn .kept .1 .1 .1 .1 .1 .1 .1 .1 .1 .1 .1 .1 .1 .0)
-    (c .before .before .before .before .before .before .before .before .before .before .before .turn .kept .1 .1 .1 .1 .1 .1 .1 .1 .1 .1 .1 .1 .1 .1 .0)
+    (c11 .turn .ensures) (c .before .side-of3 .ensures) (c .side-of4 .ensures)
+    (c11 .turn .kept .1 .1 .1 .1 .1 .1 .1 .1 .1 .1 .1 .1 .1 .0) (c11 .turn .kept .1 .1 .1 .1 .1 .1 .1 .1 .1 .1 .1 .1 .1 .1 .0)
 
 pub run-spec : {M : Type 1} → statement M
 run-spec =
