@@ -1,3 +1,4 @@
+pub mod Judging
 pub mod Accepted
 pub mod Passing
 pub mod Telling

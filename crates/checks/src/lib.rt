@@ -10,11 +10,11 @@ ghost use Rattle.records.specs.Cursors.{cursorsOf};
 ghost use mathlib.Core.Bool.{true, false};
 ghost use lib.ListN.{length};
 ghost use Rattle.sizes.specs.Texts.{total, insertedBy};
-ghost use Rattle.sizes.specs.Sizes.{Small};
+ghost use Rattle.sizes.specs.Sizes.{Small, lentFits};
 ghost use Rattle.checks.specs.Lists.{listVerdict, listsVerdict, checkedOf};
 ghost use Rattle.checks.specs.Passing.{Whole, Inserts, Summed, Good};
 
-// Refusals 3, 4, 1, 2 and 5 of one list, in this order: check by check.
+// Refusals 3, 4, 1, 2 and 5 of one list, in this order: check by check, over texts that keep their sizes.
 fn judge_list(
     limits: Limits,
     original: &[u32],
@@ -24,14 +24,11 @@ fn judge_list(
     operations: &[usize],
     cursors: &[usize],
 ) -> Verdict
-    requires { ⌜ Small limits ⌝ }
+    requires { ⌜ Small limits × (lentFits (now original) (now text) ≡ true) ⌝ }
     ensures { λ r. ⌜ r ≡ listVerdict limits (now (original .entry)) (now (text .entry)) (now (spans .entry)) (now (keys .entry)) (operationsOf (now (operations .entry))) (cursorsOf (now (cursors .entry))) ⌝ }
 {
     let n = original.len();
     let m = text.len();
-    if !sizes::lent_fits(original, text) {
-        return Verdict::Refused(refusal::Refusal::Size);
-    }
     if !sizes::list_fits(limits, m, spans, keys, operations, cursors) {
         return Verdict::Refused(refusal::Refusal::Size);
     }
@@ -47,7 +44,7 @@ fn judge_list(
     }
 }
 
-// Refusals 3, 4, 1, 2 and 5 of the two lists of a merge, each on both before the next: check by check.
+// Refusals 3, 4, 1, 2 and 5 of the two lists of a merge, each on both before the next: check by check, over texts that keep their sizes.
 fn judge_lists(
     limits: Limits,
     original: &[u32],
@@ -59,14 +56,11 @@ fn judge_lists(
     left_cursors: &[usize],
     right_cursors: &[usize],
 ) -> Verdict
-    requires { ⌜ Small limits ⌝ }
+    requires { ⌜ Small limits × (lentFits (now original) (now text) ≡ true) ⌝ }
     ensures { λ r. ⌜ r ≡ listsVerdict limits (now (original .entry)) (now (text .entry)) (now (spans .entry)) (now (keys .entry)) (operationsOf (now (left .entry))) (operationsOf (now (right .entry))) (cursorsOf (now («left_cursors» .entry))) (cursorsOf (now («right_cursors» .entry))) ⌝ }
 {
     let n = original.len();
     let m = text.len();
-    if !sizes::lent_fits(original, text) {
-        return Verdict::Refused(refusal::Refusal::Size);
-    }
     if !sizes::lists_fit(
         limits,
         m,
@@ -287,7 +281,7 @@ fn judge_sums(
     operations: &[usize],
     cursors: &[usize],
 ) -> Checked
-    requires { ⌜ Small limits ⌝ }
+    requires { ⌜ Small limits × (lentFits (now original) (now text) ≡ true) ⌝ }
     ensures { λ r. ⌜ r ≡ checkedOf (listVerdict limits (now (original .entry)) (now (text .entry)) (now (spans .entry)) (now (keys .entry)) (operationsOf (now (operations .entry))) (cursorsOf (now (cursors .entry)))) (total (insertedBy (length (now (text .entry))) (now (spans .entry)) (now (keys .entry))) (operationsOf (now (operations .entry)))) ⌝ }
 {
     match judge_list(limits, original, text, spans, keys, operations, cursors) {

@@ -23,7 +23,7 @@ good-sums-requires c κs =
     (c10 .pre, lent-few (c10 .args .original .now) (c10 .args .text .now) (sym (c .before .lent-fits .ensures) ∙ not-false _ (c .if1 .left)))
 
 judge-lists-requires : tie.Need-judge-lists-requires
-judge-lists-requires c κs = search needs
+judge-lists-requires c κs = (c .before .before .before .before .before .before .before .before .before .before .before .before .before .pre, sym (c .before .before .before .before .lent-fits .ensures) ∙ not-false _ (c .before .before .before .if1 .left))
 
 returns-2 : tie.Need-returns-2
 returns-2 c = search needs
@@ -35,7 +35,7 @@ good-sums-requires-2 c κs =
     (c13 .pre, lent-few (c13 .args .original .now) (c13 .args .text .now) (sym (c3 .before .lent-fits .ensures) ∙ not-false _ (c3 .if1 .left)))
 
 judge-lists-requires-2 : tie.Need-judge-lists-requires-2
-judge-lists-requires-2 c κs = search needs
+judge-lists-requires-2 c κs = (c .before .before .before .before .before .before .before .before .before .before .before .before .before .before .before .before .pre, sym (c .before .before .before .before .before .before .before .lent-fits .ensures) ∙ not-false _ (c .before .before .before .before .before .before .if1 .left))
 
 returns-3 : tie.Need-returns-3
 returns-3 c = search needs

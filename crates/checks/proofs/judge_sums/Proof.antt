@@ -29,7 +29,7 @@ returns-2 c =
     let a = c10 .args in
     let v = sym (c3 .judge-list .ensures) ∙ c .before .enum-told .given .1 in
     told-yes _ _ _ v
-    (text-known (a .limits) (a .original .now) (a .text .now) (a .spans .now) (a .keys .now) _ _ _ (c10 .pre) v (c .inserted .ensures))
+    (text-known (a .limits) (a .original .now) (a .text .now) (a .spans .now) (a .keys .now) _ _ _ (c10 .pre .0) v (c .inserted .ensures))
 
 pub judge-sums-spec : {M : Type 1} → statement M
 judge-sums-spec =

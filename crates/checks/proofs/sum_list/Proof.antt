@@ -23,7 +23,7 @@ good-sums-requires c κs =
     (c8 .pre, lent-few (c8 .args .original .now) (c8 .args .text .now) (sym (c .before .lent-fits .ensures) ∙ not-false _ (c .if1 .left)))
 
 judge-sums-requires : tie.Need-judge-sums-requires
-judge-sums-requires c κs = search needs
+judge-sums-requires c κs = (c .before .before .before .before .before .before .before .before .before .before .before .pre, sym (c .before .before .before .before .lent-fits .ensures) ∙ not-false _ (c .before .before .before .if1 .left))
 
 returns-2 : tie.Need-returns-2
 returns-2 c = search needs
