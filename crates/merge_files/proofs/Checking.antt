@@ -1,7 +1,7 @@
 -- Shown: the tests before the merge tell what the definition says of each file.
 -- How: each call's answer, by its cases.
 use Prim.Native.Nat.{ℕ, _≤_, _<_}
-use mathlib.Core.Path.{_≡_, refl, sym}
+use mathlib.Core.Path.{_≡_, sym}
 use mathlib.Core.Bool.{true, false}
 use mathlib.Core.List.{List}
 use mathlib.Core.Logic.{⊎-elim}
@@ -13,11 +13,12 @@ use Rattle.refusal.specs.declared.Counted.the-variants as C
 use Rattle.numbers.proofs.Orders.{le-or-lt}
 use Rattle.utf8_read.specs.Reading.{good-end}
 use Rattle.utf8.specs.Answers.{read-length-of}
-use Rattle.edit_format.specs.Reading.{Found, Accepted, Refused}
-use Rattle.edit_read.specs.declared.FileRead.the-variants as F
-use Rattle.edit_read.specs.Answer.{lengthsOf}
+use Rattle.edit_format.specs.Reading.{Found, readFile}
+use Rattle.edit_read.specs.declared.Verdict.the-variants.{Accepted as Yes, Refused as No}
+use Rattle.edit_read.specs.Judged.{Judged}
+use Rattle.merge_files.specs.declared.Checked.the-variants as F
 use Rattle.merge_files.specs.Program.{utf8}
-use Rattle.merge_files.specs.Steps.{isEdit}
+use Rattle.merge_files.specs.Steps.{usesOf, firstOf}
 
 pub never : {A : Type 0} {n : ℕ} {r : Refusal} → C.Count n ≡ C.Refused r → A
 never e = let z : _≡_ {A = ℕ} 0 1 = cc in absurd (omega arith)
@@ -34,12 +35,21 @@ utf8-no s r e =
     ⊎-elim (λ (h : length s ≤ good-end s). never (sym (rw (le-ltb (good-end s) (length s) h) at e)))
     (λ (h : good-end s < length s). rw (lt-leb (length s) (good-end s) h)) (le-or-lt (length s) (good-end s))
 
-pub edit-yes : (f : Found) (n m : ℕ) → F.Counts n m ≡ lengthsOf f → true ≡ isEdit f
-unfolding lengthsOf isEdit
-edit-yes (Accepted is) n m e = refl
-edit-yes (Refused l) n m e = let z : _≡_ {A = ℕ} 0 1 = cc in absurd (omega arith)
+-- where sizes and UTF-8 of all three are good, the edit files decide
+pub reached : (o l r : List ℕ) → length o ≤ 2048 → length l ≤ 2048 → length r ≤ 2048 → utf8 o ≡ true → utf8 l ≡ true → utf8 r ≡ true
+    → firstOf o l r ≡ usesOf (readFile l) (readFile r)
+unfolding firstOf
+reached o l r so sl sr uo ul ur = rw (le-leb (length o) 2048 so, le-leb (length l) 2048 sl, le-leb (length r) 2048 sr, uo, ul, ur)
 
-pub edit-no : (f : Found) (r : Refusal) → F.Refused r ≡ lengthsOf f → false ≡ isEdit f
-unfolding lengthsOf isEdit
-edit-no (Accepted is) r e = let z : _≡_ {A = ℕ} 0 1 = cc in absurd (omega arith)
-edit-no (Refused l) r e = refl
+pub left-bad : {p : List ℕ} {k : ℕ} (g : Found) → Judged p (No k) → usesOf (readFile p) g ≡ F.Refused 8
+unfolding usesOf
+left-bad g h = rw (h .says)
+
+module _ {p : List ℕ} {n m x f : ℕ} (h : Judged p (Yes n m x f)) {q : List ℕ} where
+  pub right-bad : {k : ℕ} → Judged q (No k) → usesOf (readFile p) (readFile q) ≡ F.Refused 8
+  unfolding usesOf
+  right-bad g = rw (h .says .2, g .says)
+
+  pub both-good : {n′ m′ x′ f′ : ℕ} → Judged q (Yes n′ m′ x′ f′) → usesOf (readFile p) (readFile q) ≡ F.Uses x x′
+  unfolding usesOf
+  both-good g = rw (h .says .2, g .says .2, h .says .5, g .says .5)

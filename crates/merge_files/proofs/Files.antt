@@ -6,7 +6,7 @@ use mathlib.Core.Bool.{Bool, true, false, _&&_}
 use mathlib.Core.List.{List, [], _∷_}
 use native.Mathlib.Omega.{arith}
 use lib.ListN.{length, take, replicate, length-append, length-take, length-replicate}
-use borrow.Author.Tests.{leb-true, le-ltb, eqb-true}
+use borrow.Author.Tests.{leb-true, le-ltb}
 use Rattle.numbers.specs.Points.{isPoint}
 use Rattle.refusal.specs.declared.Refusal.{Refusal}
 use Rattle.refusal.specs.declared.Counted.{Counted}
@@ -21,16 +21,18 @@ use Rattle.utf8_read.specs.Grammar.{utf8-char}
 use Rattle.utf8_read.specs.Table.{decode}
 use Rattle.utf8_read.specs.Reading.{good-end, points, points-from}
 use Rattle.utf8.specs.Answers.{read-of, Answered, leaves}
-use Rattle.edit_format.specs.Items.{Item, texts}
-use Rattle.edit_format.specs.Reading.{Found, Accepted, Refused, readFile, believes}
+use Rattle.edit_format.specs.Items.{Item, kept, dropped, texts}
+use Rattle.edit_format.specs.Reading.{Found, Accepted, Refused, readFile}
 use Rattle.edit_format.proofs.Accepts.{accepted-good}
 use Rattle.outputs.proofs.Replaying.{front}
 use Rattle.edit_list.specs.Raws.{itemsIn}
 use Rattle.edit_list.specs.Lists.{usedBy}
 use Rattle.edit_list.proofs.Bounds.{file-long}
 use Rattle.merge_files.specs.declared.Outcome.{Outcome}
+use Rattle.merge_files.specs.declared.Checked.{Checked}
+use Rattle.merge_files.specs.declared.Checked.the-variants as F
 use Rattle.merge_files.specs.Program.{Result, refused, padding, ofFiles, sized, utf8, resultOf, Written}
-use Rattle.merge_files.specs.Steps.{isEdit, firstOf, Files, Texted, goodResult}
+use Rattle.merge_files.specs.Steps.{usesOf, firstOf, Files, Texted, goodResult}
 use Rattle.merge_files.proofs.Padding.{padded}
 
 -- no more code points than bytes
@@ -45,42 +47,53 @@ few-points (b ∷ s) zero = go (utf8-char (b ∷ s)) (λ j. few-points s j)
     go zero h = omega arith
     go (suc j) h = omega (arith, h j)
 
+-- a refusal and what the files use
+mixed : {A : Type 0} {n x y : ℕ} → F.Refused n ≡ F.Uses x y → A
+mixed e = let z : _≡_ {A = ℕ} 0 1 = cc in absurd (omega arith)
+
+number-is : {n m : ℕ} → F.Refused n ≡ F.Refused m → n ≡ m
+number-is e = cc
+
 -- zeros are code points
 pub zeros-fine : (n i : ℕ) → pointsFrom (replicate n 0) i ≡ W.Accepted
 unfolding pointsFrom isPoint
 zeros-fine zero i = refl
 zeros-fine (suc n) i = zeros-fine n (i + 1)
 
--- three tests, and what they leave
-first-most : (a b c : Bool) → pick a (pick b (pick c 0 8) 10) 3 ≤ 10
-first-most true true true = omega arith
-first-most true true false = omega arith
-first-most true false c = omega arith
-first-most false b c = omega arith
+-- two tests and both files, and what they leave
+first-most : (a b : Bool) (f g : Found) (n : ℕ) → F.Refused n ≡ pick a (pick b (usesOf f g) (F.Refused 10)) (F.Refused 3) → n ≤ 10
+unfolding usesOf
+first-most true true (Accepted is) (Accepted js) n e = mixed e
+first-most true true (Accepted is) (Refused l) n e = omega (arith, number-is e)
+first-most true true (Refused k) g n e = omega (arith, number-is e)
+first-most true false f g n e = omega (arith, number-is e)
+first-most false b f g n e = omega (arith, number-is e)
 
-refused-first : (a b : Bool) (f g : Found) (d o : List ℕ) (n : ℕ) → n ≡ pick a (pick b (pick (isEdit f && isEdit g) 0 8) 10) 3 → (n ≡ 0 → ⊥)
+refused-first : (a b : Bool) (f g : Found) (d o : List ℕ) (n : ℕ) → F.Refused n ≡ pick a (pick b (usesOf f g) (F.Refused 10)) (F.Refused 3)
     → refused n ≡ pick a (pick b (ofFiles d o f g) (refused 10)) (refused 3)
-unfolding isEdit ofFiles
-refused-first true true (Accepted is) (Accepted js) d o n e z = absurd (z e)
-refused-first true true (Accepted is) (Refused l) d o n e z = ap refused e
-refused-first true true (Refused k) g d o n e z = ap refused e
-refused-first true false f g d o n e z = ap refused e
-refused-first false b f g d o n e z = ap refused e
+unfolding usesOf ofFiles
+refused-first true true (Accepted is) (Accepted js) d o n e = mixed e
+refused-first true true (Accepted is) (Refused l) d o n e = ap refused (number-is e)
+refused-first true true (Refused k) g d o n e = ap refused (number-is e)
+refused-first true false f g d o n e = ap refused (number-is e)
+refused-first false b f g d o n e = ap refused (number-is e)
 
 -- no test failed
-pub record Fine (a b : Bool) (f g : Found) : Type 0 where
+pub record Fine (a b : Bool) (f g : Found) (x y : ℕ) : Type 0 where
   pub first : a ≡ true
   pub second : b ≡ true
   pub left : f ≡ Accepted (itemsIn f)
   pub right : g ≡ Accepted (itemsIn g)
+  pub of-left : x ≡ kept (itemsIn f) + dropped (itemsIn f)
+  pub of-right : y ≡ kept (itemsIn g) + dropped (itemsIn g)
 
-fine : (a b : Bool) (f g : Found) → _≡_ {A = ℕ} (pick a (pick b (pick (isEdit f && isEdit g) 0 8) 10) 3) 0 → Fine a b f g
-unfolding isEdit itemsIn
-fine true true (Accepted is) (Accepted js) e = record { first = refl; second = refl; left = refl; right = refl }
-fine true true (Accepted is) (Refused l) e = absurd (omega arith)
-fine true true (Refused k) g e = absurd (omega arith)
-fine true false f g e = absurd (omega arith)
-fine false b f g e = absurd (omega arith)
+fine : (a b : Bool) (f g : Found) (x y : ℕ) → F.Uses x y ≡ pick a (pick b (usesOf f g) (F.Refused 10)) (F.Refused 3) → Fine a b f g x y
+unfolding usesOf itemsIn
+fine true true (Accepted is) (Accepted js) x y e = record { first = refl; second = refl; left = refl; right = refl; of-left = cc; of-right = cc }
+fine true true (Accepted is) (Refused l) x y e = mixed (sym e)
+fine true true (Refused k) g x y e = mixed (sym e)
+fine true false f g x y e = mixed (sym e)
+fine false b f g x y e = mixed (sym e)
 
 module _ (o l r : List ℕ) where
   abbrev a : Bool
@@ -89,20 +102,27 @@ module _ (o l r : List ℕ) where
   abbrev b : Bool
   b = utf8 o && (utf8 l && utf8 r)
 
-  module _ (n : ℕ) (e : n ≡ firstOf o l r) where
-    pub number-small : n ≤ 10
-    unfolding firstOf
-    number-small = rw e (first-most a b (isEdit (readFile l) && isEdit (readFile r)))
-
-    pub refuses : (n ≡ 0 → ⊥) → (out out′ : List ℕ) (z : Outcome) → Written (refused n) out out′ z → Written (resultOf o l r) out out′ z
-    unfolding firstOf resultOf
-    refuses h out out′ z w =
-        subst (λ (x : Result). Written x out out′ z) (refused-first a b (readFile l) (readFile r) padding (points o) n e h) w
-
-    module _ (h : n ≡ 0) where
-      passed : Fine a b (readFile l) (readFile r)
+  module _ {c : Checked} (e : c ≡ firstOf o l r) where
+    module _ {n : ℕ} (h : c ≡ F.Refused n) where
+      pub number-small : n ≤ 10
       unfolding firstOf
-      passed = fine a b (readFile l) (readFile r) (sym e ∙ h)
+      number-small = first-most a b (readFile l) (readFile r) n (sym h ∙ e)
+
+      pub refuses : (out out′ : List ℕ) (z : Outcome) → Written (refused n) out out′ z → Written (resultOf o l r) out out′ z
+      unfolding firstOf resultOf
+      refuses out out′ z w =
+          subst (λ (x : Result). Written x out out′ z) (refused-first a b (readFile l) (readFile r) padding (points o) n (sym h ∙ e)) w
+
+    module _ {ul ur : ℕ} (h : c ≡ F.Uses ul ur) where
+      passed : Fine a b (readFile l) (readFile r) ul ur
+      unfolding firstOf
+      passed = fine a b (readFile l) (readFile r) ul ur (sym h ∙ e)
+
+      pub uses-left : ul ≡ usedBy l
+      uses-left = passed .of-left
+
+      pub uses-right : ur ≡ usedBy r
+      uses-right = passed .of-right
 
       o-short : length o ≤ 2048
       o-short = leb-true (length o) 2048 (and-left (sized o) (sized l && sized r) (passed .first))
@@ -167,10 +187,6 @@ texted l r n h k ul ur =
     let e : length {A = ℕ} (replicate n 0) ≡ n = length-replicate {A = ℕ} n 0 in
     record { good = zeros-fine n 0; text-long = omega arith; text-most = omega arith; left-long = omega arith; right-long = omega arith }
 
--- what a file uses of the original: no more than any has, and where it is believed what the original has
+-- what a file uses of the original is no more than any has
 pub used-most : (l : List ℕ) → readFile l ≡ Accepted (itemsIn (readFile l)) → usedBy l ≤ 65535
 used-most l e = accepted-good l e .original
-
-pub used-all : (l : List ℕ) (n : ℕ) → readFile l ≡ Accepted (itemsIn (readFile l)) → believes (readFile l) n ≡ true → usedBy l ≡ n
-unfolding believes
-used-all l n e b = eqb-true (usedBy l) n (rw e at b)

@@ -1,7 +1,7 @@
 -- What the program's steps say to one another. Assumes nothing.
-use Prim.Native.Nat.{ℕ, _≤_}
+use Prim.Native.Nat.{ℕ, _+_, _≤_}
 use mathlib.Core.Path.{_≡_}
-use mathlib.Core.Bool.{Bool, true, false, _&&_}
+use mathlib.Core.Bool.{_&&_}
 use mathlib.Core.List.{List, _++_}
 use lib.ListN.{length}
 use Rattle.room.specs.Choice.{pick}
@@ -10,7 +10,7 @@ use Rattle.verdict.specs.declared.Verdict.the-variants as W
 use Rattle.sizes.specs.Texts.{total, claimedBy, insertedBy}
 use Rattle.verdict.specs.Points.{pointsFrom}
 use Rattle.raw_lists.specs.Raws.{flatSpans, flatKeys}
-use Rattle.edit_format.specs.Items.{texts}
+use Rattle.edit_format.specs.Items.{kept, dropped, texts}
 use Rattle.edit_format.specs.Reading.{Found, Accepted, Refused, readFile}
 use Rattle.edit_format.specs.Written.{written}
 use Rattle.merging.specs.Lent.{lentOf as given}
@@ -18,6 +18,8 @@ use Rattle.to_diff.specs.Items.{diffOf}
 use Rattle.to_diff.specs.Answers.{verdictOn}
 use Rattle.edit_list.specs.Raws.{itemsIn}
 use Rattle.edit_list.specs.Lists.{usedBy}
+use Rattle.merge_files.specs.declared.Checked.{Checked}
+use Rattle.merge_files.specs.declared.Checked.the-variants as C
 use Rattle.merge_files.specs.Program.{Result, merged, mergedOf, tokensOf, leftOf, rightOf, sized, utf8}
 
 -- the edit file of a list
@@ -43,17 +45,18 @@ pub record Mergeable (text spans keys left right : List ℕ) : Type 0 where
   pub left-little : total (insertedBy (length text) spans keys) (operationsOf left) ≤ 1024
   pub right-little : total (insertedBy (length text) spans keys) (operationsOf right) ≤ 1024
 
--- "a bad edit file is 8": whether it is none
-unfoldable pub isEdit : Found → Bool
-isEdit (Accepted is) = true
-isEdit (Refused l) = false
+-- "a bad edit file is 8": what each of two files uses of the original, where both are edit files
+unfoldable pub usesOf : Found → Found → Checked
+usesOf (Accepted ls) (Accepted rs) = C.Uses (kept ls + dropped ls) (kept rs + dropped rs)
+usesOf (Accepted ls) (Refused l) = C.Refused 8
+usesOf (Refused l) f = C.Refused 8
 
--- "It checks in this order, original, left, right each time": the first refusal before the merge's own; 0 is none
-unfoldable pub firstOf : List ℕ → List ℕ → List ℕ → ℕ
+-- "It checks in this order, original, left, right each time": the first refusal before the merge's own, or what the files use
+unfoldable pub firstOf : List ℕ → List ℕ → List ℕ → Checked
 firstOf original left right =
     pick (sized original && (sized left && sized right))
-    (pick (utf8 original && (utf8 left && utf8 right)) (pick (isEdit (readFile left) && isEdit (readFile right)) 0 8) 10)
-    3
+    (pick (utf8 original && (utf8 left && utf8 right)) (usesOf (readFile left) (readFile right)) (C.Refused 10))
+    (C.Refused 3)
 
 -- two edit files that were accepted
 pub record Files (left right : List ℕ) : Type 0 where

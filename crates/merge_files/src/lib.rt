@@ -5,14 +5,21 @@ ghost use mathlib.Core.Path.{_≡_};
 ghost use Prim.Native.Nat.{_≤_};
 ghost use lib.ListN.{length};
 ghost use Rattle.edit_format.specs.Reading.{readFile};
+ghost use Rattle.edit_list.specs.Lists.{usedBy};
 ghost use Rattle.merge_files.specs.Program.{refused, utf8, resultOf, Written};
-ghost use Rattle.merge_files.specs.Steps.{isEdit, firstOf, Mergeable, Diffable, Files, Texted, mergeResult, diffResult, goodResult};
+ghost use Rattle.merge_files.specs.Steps.{firstOf, Mergeable, Diffable, Files, Texted, mergeResult, diffResult, goodResult};
 
 // How many bytes stand in the room: a merged edit file, or a refusal's line; or that it is too short.
 pub enum Outcome {
     Merged(usize),
     Refused(usize),
     Room,
+}
+
+// The number of a refusal before the merge's own; or how much of the original each of the edit files uses.
+pub enum Checked {
+    Refused(usize),
+    Uses { left: usize, right: usize },
 }
 
 // The line of a refusal.
@@ -37,45 +44,50 @@ fn is_utf8(bytes: &[u8]) -> bool
     }
 }
 
-// Whether the bytes are an edit file.
-fn is_edit(bytes: &[u8]) -> bool
-    ensures { λ r. ⌜ r ≡ isEdit (readFile (now (bytes .entry))) ⌝ }
-{
-    match edit_read::read_lengths(bytes) {
-        edit_read::FileRead::Counts { items: _, text: _ } => true,
-        edit_read::FileRead::Refused(_) => false,
-    }
-}
-
-// The number of the first refusal before the merge's own: 3, 10, 8, or 0 for none.
-fn check_files(original: &[u8], left: &[u8], right: &[u8]) -> usize
+// The first refusal before the merge's own, 3, 10 or 8; or how much of the original each of the edit files uses.
+fn check_files(original: &[u8], left: &[u8], right: &[u8]) -> Checked
     ensures { λ r. ⌜ r ≡ firstOf (now (original .entry)) (now (left .entry)) (now (right .entry)) ⌝ }
 {
     if 2048 < original.len() {
-        return 3;
+        return Checked::Refused(3);
     }
     if 2048 < left.len() {
-        return 3;
+        return Checked::Refused(3);
     }
     if 2048 < right.len() {
-        return 3;
+        return Checked::Refused(3);
     }
     if !is_utf8(original) {
-        return 10;
+        return Checked::Refused(10);
     }
     if !is_utf8(left) {
-        return 10;
+        return Checked::Refused(10);
     }
     if !is_utf8(right) {
-        return 10;
+        return Checked::Refused(10);
     }
-    if !is_edit(left) {
-        return 8;
+    let edit_read::Verdict::Accepted {
+        items: _,
+        text: _,
+        original: of_left,
+        first: _,
+    } = edit_read::judge(left)
+    else {
+        return Checked::Refused(8);
+    };
+    let edit_read::Verdict::Accepted {
+        items: _,
+        text: _,
+        original: of_right,
+        first: _,
+    } = edit_read::judge(right)
+    else {
+        return Checked::Refused(8);
+    };
+    Checked::Uses {
+        left: of_left,
+        right: of_right,
     }
-    if !is_edit(right) {
-        return 8;
-    }
-    0
 }
 
 // The edit file of a merged list.
@@ -202,15 +214,22 @@ fn merge_unfit(original: &[u32], left: &[u8], right: &[u8], out: &mut [u8]) -> O
     merge_edits(original, left, right, &mut text, out)
 }
 
-// The merge of two accepted edit files. Where both are believed for the original, no keep is longer than it, and a short room is
-// enough: a long one is cleared only where it is needed.
-fn merge_fit(original: &[u32], left: &[u8], right: &[u8], out: &mut [u8]) -> Outcome
-    requires { ⌜ Files (now left) (now right) × (length (now original) ≤ 2048) ⌝ }
+// The merge of two accepted edit files that use so much of an original. Where both use as much as this one has, no keep is longer than
+// it, and a short room is enough: a long one is cleared only where it is needed.
+fn merge_fit(
+    original: &[u32],
+    left: &[u8],
+    of_left: usize,
+    right: &[u8],
+    of_right: usize,
+    out: &mut [u8],
+) -> Outcome
+    requires { ⌜ Files (now left) (now right) × (length (now original) ≤ 2048) × («of_left» ≡ usedBy (now left)) × («of_right» ≡ usedBy (now right)) ⌝ }
     ensures { λ r. ⌜ Written (goodResult (now (original .entry)) (readFile (now (left .entry))) (readFile (now (right .entry)))) (now (out .entry)) (now (out .exit)) r ⌝ }
 {
     let n = original.len();
-    if edit_read::believed(left, n) {
-        if edit_read::believed(right, n) {
+    if of_left == n {
+        if of_right == n {
             let mut text = [0u32; 2048];
             return merge_edits(original, left, right, &mut text, out);
         }
@@ -222,13 +241,19 @@ fn merge_fit(original: &[u32], left: &[u8], right: &[u8], out: &mut [u8]) -> Out
 pub fn merge_files(original: &[u8], left: &[u8], right: &[u8], out: &mut [u8]) -> Outcome
     ensures { λ r. ⌜ Written (resultOf (now (original .entry)) (now (left .entry)) (now (right .entry))) (now (out .entry)) (now (out .exit)) r ⌝ }
 {
-    let number = check_files(original, left, right);
-    if number != 0 {
-        return put_refused(number, out);
-    }
-    let mut points = [0u32; 2048];
-    match utf8::read(original, &mut points) {
-        Counted::Refused(_) => Outcome::Room,
-        Counted::Count(count) => merge_fit(&points[..count], left, right, out),
+    match check_files(original, left, right) {
+        Checked::Refused(number) => put_refused(number, out),
+        Checked::Uses {
+            left: of_left,
+            right: of_right,
+        } => {
+            let mut points = [0u32; 2048];
+            match utf8::read(original, &mut points) {
+                Counted::Refused(_) => Outcome::Room,
+                Counted::Count(count) => {
+                    merge_fit(&points[..count], left, of_left, right, of_right, out)
+                }
+            }
+        }
     }
 }

@@ -6,6 +6,7 @@ use mathlib.Core.Path.{sym, _∙_}
 use native.Mathlib.Omega.{arith}
 use lib.ListN.{length}
 use Rattle.merge_files.specs.Steps.{firstOf}
+use Rattle.merge_files.proofs.Checking.{reached, left-bad, right-bad, both-good}
 use Rattle.merge_files.proofs.check_files.Statement.{statement}
 use Rattle.merge_files.proofs.check_files.Tie as tie
 
@@ -54,29 +55,50 @@ returns-6 c =
     let s = c .before .before .before .before .before .before .before .before .before .before .before .before in
     rw (le-leb (length (s .args .original .now)) 2048 (omega (arith, c .before .before .before .before .before .before .before .before .if1 .left)), le-leb (length (s .args .left .now)) 2048 (omega (arith, c .before .before .before .before .before .before .before .if2 .left)), le-leb (length (s .args .right .now)) 2048 (omega (arith, c .before .before .before .before .before .before .if3 .left)), sym (c .before .before .before .before .before .is-utf8 .ensures) ∙ not-false _ (c .before .before .before .before .if4 .left), sym (c .before .before .before .is-utf82 .ensures) ∙ not-false _ (c .before .before .if5 .left), sym (c .before .is-utf83 .ensures) ∙ not-true _ (c .if6 .taken))
 
-is-edit-requires : tie.Need-is-edit-requires
-is-edit-requires c κs = search needs
+judge-requires : tie.Need-judge-requires
+judge-requires c κs = search needs
+
+enum-known-of-left : tie.Need-enum-known-of-left
+enum-known-of-left c = search needs
+
+enum-told : tie.Need-enum-told
+enum-told c = search needs
 
 returns-7 : tie.Need-returns-7
-unfolding firstOf
 returns-7 c =
-    let s = c .before .before .before .before .before .before .before .before .before .before .before .before .before .before in
-    rw (le-leb (length (s .args .original .now)) 2048 (omega (arith, c .before .before .before .before .before .before .before .before .before .before .if1 .left)), le-leb (length (s .args .left .now)) 2048 (omega (arith, c .before .before .before .before .before .before .before .before .before .if2 .left)), le-leb (length (s .args .right .now)) 2048 (omega (arith, c .before .before .before .before .before .before .before .before .if3 .left)), sym (c .before .before .before .before .before .before .before .is-utf8 .ensures) ∙ not-false _ (c .before .before .before .before .before .before .if4 .left), sym (c .before .before .before .before .before .is-utf82 .ensures) ∙ not-false _ (c .before .before .before .before .if5 .left), sym (c .before .before .before .is-utf83 .ensures) ∙ not-false _ (c .before .before .if6 .left), sym (c .before .is-edit .ensures) ∙ not-true _ (c .if7 .taken))
+    let d = c .before .before .before in
+    let s = d .before .before .before .before .before .before .before .before .before .before .before .before in
+    sym
+    (reached (s .args .original .now) (s .args .left .now) (s .args .right .now) (omega (arith, d .before .before .before .before .before .before .before .before .if1 .left)) (omega (arith, d .before .before .before .before .before .before .before .if2 .left)) (omega (arith, d .before .before .before .before .before .before .if3 .left))
+    (sym (d .before .before .before .before .before .is-utf8 .ensures) ∙ not-false _ (d .before .before .before .before .if4 .left)) (sym (d .before .before .before .is-utf82 .ensures) ∙ not-false _ (d .before .before .if5 .left)) (sym (d .before .is-utf83 .ensures) ∙ not-false _ (d .if6 .left))
+    ∙ left-bad _ (rw (c .enum-told .given .1) at (c .before .before .judge .ensures)))
 
-is-edit-requires-2 : tie.Need-is-edit-requires-2
-is-edit-requires-2 c κs = search needs
+judge-requires-2 : tie.Need-judge-requires-2
+judge-requires-2 c κs = search needs
+
+enum-known-of-right : tie.Need-enum-known-of-right
+enum-known-of-right c = search needs
+
+enum-told-2 : tie.Need-enum-told-2
+enum-told-2 c = search needs
 
 returns-8 : tie.Need-returns-8
-unfolding firstOf
 returns-8 c =
-    let s = c .before .before .before .before .before .before .before .before .before .before .before .before .before .before .before .before in
-    rw (le-leb (length (s .args .original .now)) 2048 (omega (arith, c .before .before .before .before .before .before .before .before .before .before .before .before .if1 .left)), le-leb (length (s .args .left .now)) 2048 (omega (arith, c .before .before .before .before .before .before .before .before .before .before .before .if2 .left)), le-leb (length (s .args .right .now)) 2048 (omega (arith, c .before .before .before .before .before .before .before .before .before .before .if3 .left)), sym (c .before .before .before .before .before .before .before .before .before .is-utf8 .ensures) ∙ not-false _ (c .before .before .before .before .before .before .before .before .if4 .left), sym (c .before .before .before .before .before .before .before .is-utf82 .ensures) ∙ not-false _ (c .before .before .before .before .before .before .if5 .left), sym (c .before .before .before .before .before .is-utf83 .ensures) ∙ not-false _ (c .before .before .before .before .if6 .left), sym (c .before .before .before .is-edit .ensures) ∙ not-false _ (c .before .before .if7 .left), sym (c .before .is-edit2 .ensures) ∙ not-true _ (c .if8 .taken))
+    let d = c .before .before .before .before .before .before .before in
+    let s = d .before .before .before .before .before .before .before .before .before .before .before .before in
+    sym
+    (reached (s .args .original .now) (s .args .left .now) (s .args .right .now) (omega (arith, d .before .before .before .before .before .before .before .before .if1 .left)) (omega (arith, d .before .before .before .before .before .before .before .if2 .left)) (omega (arith, d .before .before .before .before .before .before .if3 .left))
+    (sym (d .before .before .before .before .before .is-utf8 .ensures) ∙ not-false _ (d .before .before .before .before .if4 .left)) (sym (d .before .before .before .is-utf82 .ensures) ∙ not-false _ (d .before .before .if5 .left)) (sym (d .before .is-utf83 .ensures) ∙ not-false _ (d .if6 .left))
+    ∙ right-bad (rw (c .before .before .before .before .of-left .given .1) at (c .before .before .before .before .before .before .judge .ensures)) (rw (c .enum-told2 .given .1) at (c .before .before .judge2 .ensures)))
 
 returns-9 : tie.Need-returns-9
-unfolding firstOf
 returns-9 c =
-    let s = c .before .before .before .before .before .before .before .before .before .before .before .before .before .before .before .before in
-    rw (le-leb (length (s .args .original .now)) 2048 (omega (arith, c .before .before .before .before .before .before .before .before .before .before .before .before .if1 .left)), le-leb (length (s .args .left .now)) 2048 (omega (arith, c .before .before .before .before .before .before .before .before .before .before .before .if2 .left)), le-leb (length (s .args .right .now)) 2048 (omega (arith, c .before .before .before .before .before .before .before .before .before .before .if3 .left)), sym (c .before .before .before .before .before .before .before .before .before .is-utf8 .ensures) ∙ not-false _ (c .before .before .before .before .before .before .before .before .if4 .left), sym (c .before .before .before .before .before .before .before .is-utf82 .ensures) ∙ not-false _ (c .before .before .before .before .before .before .if5 .left), sym (c .before .before .before .before .before .is-utf83 .ensures) ∙ not-false _ (c .before .before .before .before .if6 .left), sym (c .before .before .before .is-edit .ensures) ∙ not-false _ (c .before .before .if7 .left), sym (c .before .is-edit2 .ensures) ∙ not-false _ (c .if8 .left))
+    let d = c .before .before .before .before .before .before .before .before in
+    let s = d .before .before .before .before .before .before .before .before .before .before .before .before in
+    sym
+    (reached (s .args .original .now) (s .args .left .now) (s .args .right .now) (omega (arith, d .before .before .before .before .before .before .before .before .if1 .left)) (omega (arith, d .before .before .before .before .before .before .before .if2 .left)) (omega (arith, d .before .before .before .before .before .before .if3 .left))
+    (sym (d .before .before .before .before .before .is-utf8 .ensures) ∙ not-false _ (d .before .before .before .before .if4 .left)) (sym (d .before .before .before .is-utf82 .ensures) ∙ not-false _ (d .before .before .if5 .left)) (sym (d .before .is-utf83 .ensures) ∙ not-false _ (d .if6 .left))
+    ∙ both-good (rw (c .before .before .before .before .before .of-left .given .1) at (c .before .before .before .before .before .before .before .judge .ensures)) (rw (c .before .of-right .given .1) at (c .before .before .before .judge2 .ensures)))
 
 pub check-files-spec : {M : Type 1} → statement M
 check-files-spec =
@@ -91,8 +113,12 @@ check-files-spec =
     returns-5
     is-utf8-requires-3
     returns-6
-    is-edit-requires
+    judge-requires
+    enum-known-of-left
+    enum-told
     returns-7
-    is-edit-requires-2
+    judge-requires-2
+    enum-known-of-right
+    enum-told-2
     returns-8
     returns-9)
