@@ -1,4 +1,4 @@
--- Shown: the list of a file inserts no more text than the file adds, wherever its tokens stand among those that are lent.
+-- Shown: the list of a file has no more operations than the file has items, and its inserts have a token for each code point that the file adds and no more text, wherever its tokens stand among those that are lent.
 -- How: elongating keeps the insert tokens, and each is one code point long.
 use Prim.Native.Nat.{ℕ, _+_, _*_, _≤_}
 use mathlib.Core.Path.{_≡_, refl, sym, _∙_, ap}
@@ -6,23 +6,24 @@ use mathlib.Core.Bool.{Bool, true, false, _&&_}
 use mathlib.Core.List.{List, [], _∷_, _++_, append-assoc, append-nil}
 use mathlib.Core.Logic.{inl}
 use native.Mathlib.Omega.{arith}
-use lib.ListN.{length, drop, getD}
+use lib.ListN.{length, drop, getD, length-append}
 use lib.Dec.{eqb}
 use Rattle.room.specs.Choice.{pick}
 use Rattle.records.specs.Tokens.{tokensFrom}
-use Rattle.sizes.specs.Texts.{total, inText, runText, runLent, insertedBy}
+use Rattle.sizes.specs.Texts.{total, inText, runText, runLent, claimedBy, insertedBy}
 use Rattle.raw_lists.specs.Raws.{Piece, Run, flatSpans}
 use Rattle.elongate.specs.Elongated.{piecesLength, consumes, cookedFrom, allTokens}
 use Rattle.elongate.specs.Kept.{chosen}
 use Rattle.elongate.proofs.Lengths.{pieces-append}
-use Rattle.elongate.proofs.Laws.{keeps}
+use Rattle.elongate.proofs.Joining.{cooked-length}
+use Rattle.elongate.proofs.Laws.{keeps, no-longer}
 use Rattle.edit_format.specs.Items.{Item, Keep, Drop, Add, added, texts}
 use Rattle.edit_format.specs.Records.{size}
 use Rattle.edit_list.specs.Raws.{pointTokens, runOf, runsOf, listOf}
 use Rattle.edit_list.proofs.Back.{drop-past, left-at}
 use Rattle.raw_lists.proofs.Pieces.{length-spans, spans-append}
 use Rattle.merge_files.specs.Program.{tokensOf, leftOf, rightOf}
-use Rattle.edit_list.proofs.Runs.{points-size}
+use Rattle.edit_list.proofs.Runs.{points-length, points-size, runs-length}
 
 -- the kind of inserts
 abbrev pub inserts : ℕ → Bool
@@ -92,6 +93,40 @@ list-adds n spans keys is at place f q e =
       runs-added at is,
     )
 
+-- how many tokens its inserts have
+claimed-one : (a : Bool) (ps qs : List Piece) (m : ℕ) → m ≡ length qs
+    → pick a (length ps) 0 + m ≡ length {A = Piece} (elim a as (λ (x : Bool). List Piece) [ true ↦ ps ++ qs | false ↦ qs ])
+claimed-one true ps qs m h = omega (arith, length-append ps qs)
+claimed-one false ps qs m h = omega arith
+
+claimed-all : (rs : List Run) (at f : ℕ) → total claimedBy (cookedFrom rs at f) ≡ length (chosen inserts rs)
+unfolding total cookedFrom chosen
+claimed-all [] at f = refl
+claimed-all (r ∷ rs) at f =
+    claimed-one (eqb (r .kind) 1) (r .tokens) (chosen inserts rs) (total claimedBy (cookedFrom rs (at + consumes (r .kind) (piecesLength (r .tokens))) (f + length (r .tokens))))
+    (claimed-all rs (at + consumes (r .kind) (piecesLength (r .tokens))) (f + length (r .tokens)))
+
+runs-claim : (at : ℕ) (is : List Item) → length (chosen inserts (runsOf at is)) ≡ added is
+unfolding runsOf runOf chosen added
+runs-claim at [] = refl
+runs-claim at (Keep n ∷ is) = runs-claim (at + size (Keep n)) is
+runs-claim at (Drop n ∷ is) = runs-claim (at + size (Drop n)) is
+runs-claim at (Add cs ∷ is) =
+    omega (
+      arith,
+      runs-claim (at + size (Add cs)) is,
+      length-append (pointTokens at cs) (chosen inserts (runsOf (at + size (Add cs)) is)),
+      points-length at cs,
+    )
+
+list-claims : (is : List Item) (at place f : ℕ) → total claimedBy (cookedFrom (listOf at is) place f) ≡ added is
+unfolding listOf
+list-claims is at place f = claimed-all (listOf at is) place f ∙ (ap length (keeps inserts (inl refl) (runsOf at is)) ∙ runs-claim at is)
+
+list-few : (is : List Item) (at place f : ℕ) → length (cookedFrom (listOf at is) place f) ≤ length is
+unfolding listOf
+list-few is at place f = omega (arith, cooked-length (listOf at is) place f, no-longer (runsOf at is), runs-length at is)
+
 -- the tokens of both lists, left before right
 module _ (ls rs : List Item) where
   abbrev lt : List Piece
@@ -114,3 +149,15 @@ module _ (ls rs : List Item) where
 
   pub right-adds : (n : ℕ) (keys : List ℕ) → total (insertedBy n (flatSpans (tokensOf ls rs)) keys) (rightOf ls rs) ≤ added rs
   right-adds n keys = list-adds n (flatSpans (tokensOf ls rs)) keys rs (length (texts ls)) 0 (length lt) [] right-stand
+
+  pub left-claims : total claimedBy (leftOf ls) ≡ added ls
+  left-claims = list-claims ls 0 0 0
+
+  pub right-claims : total claimedBy (rightOf ls rs) ≡ added rs
+  right-claims = list-claims rs (length (texts ls)) 0 (length lt)
+
+  pub left-few : length (leftOf ls) ≤ length ls
+  left-few = list-few ls 0 0 0
+
+  pub right-few : length (rightOf ls rs) ≤ length rs
+  right-few = list-few rs (length (texts ls)) 0 (length lt)

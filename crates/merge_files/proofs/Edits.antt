@@ -2,21 +2,17 @@
 -- How: what was put behind something that stands at the front of a room stands at the front with it.
 use Prim.Native.Nat.{ℕ, _+_, _*_, _≤_}
 use mathlib.Core.Path.{_≡_, sym, _∙_, ap}
-use mathlib.Core.Bool.{Bool, true, false}
-use mathlib.Core.List.{List, [], _∷_, _++_}
+use mathlib.Core.List.{List, _++_}
 use native.Mathlib.Omega.{arith}
 use lib.ListN.{length, take, length-append}
-use lib.Dec.{eqb}
-use Rattle.room.specs.Choice.{pick}
 use Rattle.room.specs.Placed.{placed, answered}
 use Rattle.room.proofs.Answers.{at-start, one-more, same-room}
 use Rattle.records.specs.declared.Operation.{Operation}
 use Rattle.records.specs.Operations.{operationsOf}
 use Rattle.records.proofs.Operations.{of-answered, length-answered}
-use Rattle.sizes.specs.Texts.{total, claimedBy}
-use Rattle.raw_lists.specs.Raws.{Piece, Run, flatSpans, flatKeys}
+use Rattle.raw_lists.specs.Raws.{Piece, flatSpans, flatKeys}
 use Rattle.raw_lists.proofs.Pieces.{length-spans, length-keys, spans-append, keys-append}
-use Rattle.elongate.specs.Elongated.{cookedFrom, allTokens, consumes, piecesLength}
+use Rattle.elongate.specs.Elongated.{cookedFrom, allTokens}
 use Rattle.elongate.proofs.Joining.{cooked-length}
 use Rattle.edit_format.specs.Items.{Item, texts}
 use Rattle.edit_format.specs.Reading.{readFile}
@@ -30,25 +26,7 @@ use Rattle.edit_list.proofs.Points.{good-text}
 use Rattle.merge_files.specs.declared.Outcome.{Outcome}
 use Rattle.merge_files.specs.Program.{tokensOf, rightOf, Written}
 use Rattle.merge_files.specs.Steps.{mergeResult, goodResult, Mergeable, Files, Texted, Rooms}
-use Rattle.merge_files.proofs.Added.{left-adds, right-adds}
-
--- a list's inserts claim no more tokens than it has
-picked : (k n : ℕ) → pick (eqb k 1) n 0 ≤ n
-picked k n = at (eqb k 1)
-  where
-    at : (b : Bool) → pick b n 0 ≤ n
-    at b = elim b [ true ↦ omega arith | false ↦ omega arith ]
-
-claims-most : (rs : List Run) (at first : ℕ) → total claimedBy (cookedFrom rs at first) ≤ length (allTokens rs)
-unfolding total cookedFrom allTokens
-claims-most [] at first = omega arith
-claims-most (r ∷ rs) at first =
-    omega (
-      arith,
-      picked (r .kind) (length (r .tokens)),
-      length-append (r .tokens) (allTokens rs),
-      claims-most rs (at + consumes (r .kind) (piecesLength (r .tokens))) (first + length (r .tokens)),
-    )
+use Rattle.merge_files.proofs.Added.{left-adds, right-adds, left-claims, right-claims}
 
 -- the front of a room that two puts made
 two-puts : {A : Type 0} (s t d d₁ d₂ : List A) (n : ℕ) → d₁ ≡ placed d 0 s → n ≡ length s → d₂ ≡ placed d₁ n t → d₂ ≡ answered (s ++ t) d
@@ -197,8 +175,8 @@ module _ (left right : List ℕ) (F : Files left right) (text : List ℕ) (T : T
           record {
             left-few = rw left-is (omega (arith, left-many, L .operations-most));
             right-few = rw right-is (omega (arith, right-many, M .operations-most));
-            left-tokens = rw left-is (omega (arith, claims-most (listOf 0 ls) 0 0, L .many-tokens, L .tokens-most));
-            right-tokens = rw right-is (omega (arith, claims-most (listOf (l .text) rs) 0 (l .tokens), M .many-tokens, M .tokens-most));
+            left-tokens = rw left-is (omega (arith, left-claims ls rs, texts-length ls, L .many-points, L .points-most));
+            right-tokens = rw (right-is, right-list) (omega (arith, right-claims ls rs, texts-length rs, M .many-points, M .points-most));
             left-little = rw (left-is, spans-are) (omega (arith, left-adds ls rs (length text₃) (take (l .tokens + r .tokens) keys₂), texts-length ls, L .many-points, L .points-most));
             right-little = rw (right-is, right-list, spans-are) (omega (arith, right-adds ls rs (length text₃) (take (l .tokens + r .tokens) keys₂), texts-length rs, M .many-points, M .points-most));
           }

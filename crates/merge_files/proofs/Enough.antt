@@ -18,11 +18,8 @@ use Rattle.sizes.specs.Sizes.{merging}
 use Rattle.shapes.specs.Accepted.{AcceptedList}
 use Rattle.checks.proofs.Accepted.{accepted-left, accepted-right}
 use Rattle.verdict.proofs.Bools.{and-left, and-right}
-use Rattle.elongate.specs.Elongated.{allTokens}
-use Rattle.elongate.proofs.Joining.{cooked-length}
-use Rattle.elongate.proofs.Laws.{no-longer}
 use Rattle.utf8_read.specs.Reading.{points}
-use Rattle.edit_format.specs.Items.{Item, added, texts}
+use Rattle.edit_format.specs.Items.{Item, added}
 use Rattle.edit_format.specs.Reading.{Found, Accepted, Refused, readFile}
 use Rattle.edit_format.proofs.TextLaws.{texts-length}
 use Rattle.written_lines.proofs.Numbers.{few-digits}
@@ -36,14 +33,12 @@ use Rattle.merging_laws.proofs.Outputs.{diff-fits}
 use Rattle.to_diff.specs.Items.{diffOf}
 use Rattle.to_diff.proofs.Joining.{length-items, added-items}
 use Rattle.outputs.proofs.GoodItems.{accepts, diff-good}
-use Rattle.edit_list.specs.Raws.{runsOf, listOf}
 use Rattle.edit_list.proofs.Bounds.{file-long}
-use Rattle.edit_list.proofs.Runs.{runs-length}
 use Rattle.merge_files.specs.declared.Outcome.{Outcome}
 use Rattle.merge_files.specs.Program.{Result, refused, refusedKey, bytesOf, padding, lentOf, leftOf, rightOf, verdictOf, fileOf, judged, mergedOf, ofFiles, sized, utf8, resultOf, kindOf, outcomeOf, roomAfter, Written}
 use Rattle.merge_files.proofs.Merging.{number-most, merged-fine}
 use Rattle.merge_files.proofs.Short.{file-most}
-use Rattle.merge_files.proofs.Added.{left-adds, right-adds}
+use Rattle.merge_files.proofs.Added.{left-few, right-few, left-adds, right-adds}
 
 refusal-most : (n : ℕ) → n ≤ 10 → length (bytesOf (refused n)) ≤ 14393
 unfolding bytesOf
@@ -58,20 +53,6 @@ judged-most (W.Refused r) file h = refusal-most (number r) (number-most r)
 module _ (d original : List ℕ) (ls rs : List Item) where
   abbrev lent : Lent
   lent = lentOf d original ls rs
-
-  left-few : length (leftOf ls) ≤ length ls
-  unfolding listOf
-  left-few = omega (arith, cooked-length (listOf 0 ls) 0 0, no-longer (runsOf 0 ls), runs-length 0 ls)
-
-  right-few : length (rightOf ls rs) ≤ length rs
-  unfolding listOf
-  right-few =
-      omega (
-        arith,
-        cooked-length (listOf (length (texts ls)) rs) 0 (length (allTokens (listOf 0 ls))),
-        no-longer (runsOf (length (texts ls)) rs),
-        runs-length (length (texts ls)) rs,
-      )
 
   module _ (few : (4 * length ls + 2 * added ls) + (4 * length rs + 2 * added rs) ≤ 4096) where
     module _ (passed : verdictOf lent (leftOf ls) (rightOf ls rs) ≡ W.Accepted) where
@@ -96,7 +77,7 @@ module _ (d original : List ℕ) (ls rs : List Item) where
           record {
             original-most = m .original-most;
             text-most = m .text-most;
-            operations-most = omega (arith, merged-operations-most lent (leftOf ls) (rightOf ls rs) [] [] al ar, left-few, right-few);
+            operations-most = omega (arith, merged-operations-most lent (leftOf ls) (rightOf ls rs) [] [] al ar, left-few ls rs, right-few ls rs);
             cursors-most = m .cursors-most;
             tokens-most = m .tokens-most;
             inserted-most = omega (arith, merged-text-most lent (leftOf ls) (rightOf ls rs) [] [] al ar, left-adds ls rs (length (lent .inserted)) (lent .keys), right-adds ls rs (length (lent .inserted)) (lent .keys));

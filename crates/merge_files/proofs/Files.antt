@@ -20,7 +20,10 @@ use Rattle.verdict.proofs.Bools.{and-left, and-right}
 use Rattle.utf8_read.specs.Grammar.{utf8-char}
 use Rattle.utf8_read.specs.Table.{decode}
 use Rattle.utf8_read.specs.Reading.{good-end, points, points-from}
+use Rattle.utf8_write.specs.Writing.{scalars}
+use Rattle.utf8_write.proofs.Scalar.{first-of}
 use Rattle.utf8.specs.Answers.{read-of, Answered, leaves}
+use Rattle.utf8.proofs.Texts.{read-scalars}
 use Rattle.edit_format.specs.Items.{Item, kept, dropped, texts}
 use Rattle.edit_format.specs.Reading.{Found, Accepted, Refused, readFile}
 use Rattle.edit_format.proofs.Accepts.{accepted-good}
@@ -32,7 +35,7 @@ use Rattle.merge_files.specs.declared.Outcome.{Outcome}
 use Rattle.merge_files.specs.declared.Checked.{Checked}
 use Rattle.merge_files.specs.declared.Checked.the-variants as F
 use Rattle.merge_files.specs.Program.{Result, refused, padding, ofFiles, sized, utf8, resultOf, Written}
-use Rattle.merge_files.specs.Steps.{usesOf, firstOf, Files, Texted, goodResult}
+use Rattle.merge_files.specs.Steps.{usesOf, firstOf, Files, Fitting, Texted, goodResult}
 use Rattle.merge_files.proofs.Padding.{padded}
 
 -- no more code points than bytes
@@ -46,6 +49,12 @@ few-points (b ∷ s) zero = go (utf8-char (b ∷ s)) (λ j. few-points s j)
         → length {A = ℕ} (elim n as (λ (x : ℕ). List ℕ) [ zero ↦ [] | suc j ↦ decode (take (suc j) (b ∷ s)) ∷ points-from j s ]) ≤ suc (length s)
     go zero h = omega arith
     go (suc j) h = omega (arith, h j)
+
+-- what was read from UTF-8 is code points
+points-fine : (s : List ℕ) (i : ℕ) → scalars s ≡ length s → pointsFrom s i ≡ W.Accepted
+unfolding pointsFrom
+points-fine [] i e = refl
+points-fine (x ∷ s) i e = let f = first-of x s (isPoint x) refl e in rw (f .0, pointsFrom) (points-fine s (i + 1) (f .1))
 
 -- a refusal and what the files use
 mixed : {A : Type 0} {n x y : ℕ} → F.Refused n ≡ F.Uses x y → A
@@ -118,19 +127,13 @@ module _ (o l r : List ℕ) where
       unfolding firstOf
       passed = fine a b (readFile l) (readFile r) ul ur (sym h ∙ e)
 
-      pub uses-left : ul ≡ usedBy l
-      uses-left = passed .of-left
-
-      pub uses-right : ur ≡ usedBy r
-      uses-right = passed .of-right
-
       o-short : length o ≤ 2048
       o-short = leb-true (length o) 2048 (and-left (sized o) (sized l && sized r) (passed .first))
 
       o-good : length o ≤ good-end o
       o-good = leb-true (length o) (good-end o) (and-left (utf8 o) (utf8 l && utf8 r) (passed .second))
 
-      pub files : Files l r
+      files : Files l r
       files =
           let s : sized l && sized r ≡ true = and-right (sized o) (sized l && sized r) (passed .first) in
           record {
@@ -166,27 +169,31 @@ module _ (o l r : List ℕ) where
               let s : length d′ ≡ length d = rw room-is (same-room (points o) d (omega (arith, few-points o 0, o-short))) in
               omega (arith, count, few-points o 0, o-short)
 
-          pub points-short : length (take k d′) ≤ 2048
-          points-short = omega (arith, length-take k d′, count, few-points o 0, o-short)
+          points-are : take k d′ ≡ points o
+          points-are = front (points o) d d′ k count room-is
+
+          pub fitting : Fitting (take k d′) l r ul ur
+          fitting = record {
+            files = files;
+            good = rw points-are (points-fine (points o) 0 (read-scalars o));
+            short = omega (arith, length-take k d′, count, few-points o 0, o-short);
+            uses-left = passed .of-left;
+            uses-right = passed .of-right;
+          }
 
           pub result : (out out′ : List ℕ) (z : Outcome) → Written (goodResult (take k d′) (readFile l) (readFile r)) out out′ z → Written (resultOf o l r) out out′ z
           unfolding resultOf ofFiles padding
           result out out′ z v =
-              let p : take k d′ ≡ points o = front (points o) d d′ k count room-is in
               let ls : List Item = itemsIn (readFile l) in
               let rs : List Item = itemsIn (readFile r) in
               let gl = accepted-good l (passed .left) in
               let gr = accepted-good r (passed .right) in
               let e = padded (points o) ls rs (gl .each) (gr .each) (replicate 67583 0) (zeros-fine 67583 0) (omega (arith, length-replicate {A = ℕ} 67583 0))
               (omega (arith, length-append (texts ls) (texts rs), file-long l (passed .left), file-long r (passed .right), files .left-short, files .right-short)) in
-              rw (passed .first, passed .second, passed .left, passed .right) (rw e (rw p at v))
+              rw (passed .first, passed .second, passed .left, passed .right) (rw e (rw points-are at v))
 
--- a room of so many zeros for what the files add
-pub texted : (l r : List ℕ) (n : ℕ) → 2048 ≤ n → n ≤ 131070 → usedBy l ≤ n → usedBy r ≤ n → Texted l r (replicate n 0)
-texted l r n h k ul ur =
-    let e : length {A = ℕ} (replicate n 0) ≡ n = length-replicate {A = ℕ} n 0 in
-    record { good = zeros-fine n 0; text-long = omega arith; text-most = omega arith; left-long = omega arith; right-long = omega arith }
-
--- what a file uses of the original is no more than any has
-pub used-most : (l : List ℕ) → readFile l ≡ Accepted (itemsIn (readFile l)) → usedBy l ≤ 65535
-used-most l e = accepted-good l e .original
+-- a room of zeros for what the files add
+pub texted : (l r : List ℕ) → usedBy l ≤ 2048 → usedBy r ≤ 2048 → Texted l r (replicate 2048 0)
+texted l r ul ur =
+    let e : length {A = ℕ} (replicate 2048 0) ≡ 2048 = length-replicate {A = ℕ} 2048 0 in
+    record { good = zeros-fine 2048 0; text-long = omega arith; text-most = omega arith; left-long = omega arith; right-long = omega arith }

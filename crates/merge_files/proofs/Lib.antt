@@ -6,6 +6,7 @@ pub mod Added
 pub mod Edits
 pub mod Unread
 pub mod Padding
+pub mod Unfit
 pub mod Files
 pub mod Short
 pub mod Enough

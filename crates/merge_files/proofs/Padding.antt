@@ -58,7 +58,7 @@ unfolding PiecesIn
 pieces-right n [] qs h = h
 pieces-right n (p ∷ ps) qs h = pieces-right n ps qs (h .1 .1)
 
-pieces-both : (n : ℕ) (ps qs : List Piece) → PiecesIn n ps → PiecesIn n qs → PiecesIn n (ps ++ qs)
+pub pieces-both : (n : ℕ) (ps qs : List Piece) → PiecesIn n ps → PiecesIn n qs → PiecesIn n (ps ++ qs)
 unfolding PiecesIn
 pieces-both n [] qs h g = g
 pieces-both n (p ∷ ps) qs h g = (h .0, (h .1 .0, pieces-both n ps qs (h .1 .1) g))
@@ -133,12 +133,12 @@ module _ (original : List ℕ) (ls rs : List Item) (gl : itemsGood false ls ≡ 
   abbrev lent : Lent
   lent = given original text spans keys
 
-  left-reaches : Reaches (length text) spans keys (leftOf ls)
+  pub left-reaches : Reaches (length text) spans keys (leftOf ls)
   left-reaches =
       list-reaches (length text) spans keys ls 0 0 0 (flatSpans (allTokens (listOf (length (texts ls)) rs))) (left-stand ls rs)
       (omega (arith, length-append (texts ls) (texts rs), texts-length ls))
 
-  right-reaches : Reaches (length text) spans keys (rightOf ls rs)
+  pub right-reaches : Reaches (length text) spans keys (rightOf ls rs)
   right-reaches =
       list-reaches (length text) spans keys rs (length (texts ls)) 0 (length (allTokens (listOf 0 ls))) [] (right-stand ls rs)
       (omega (arith, length-append (texts ls) (texts rs), texts-length rs))
@@ -149,16 +149,19 @@ module _ (original : List ℕ) (ls rs : List Item) (gl : itemsGood false ls ≡ 
       let e : placed (placed d 0 (texts ls)) (length (texts ls)) (texts rs) ≡ text ++ drop (length text) d = rw (at-start (texts ls) d) (one-more (texts ls) (texts rs) d) in
       rw e at (good-text (placed d 0 (texts ls)) (length (texts ls)) rs (good-text d 0 ls h gl) gr)
 
+  pub added-fine : pointsFrom text 0 ≡ W.Accepted
+  unfolding pointsFrom
+  added-fine = rw (drop-nil {A = ℕ} (length text), append-nil text) at (fine [] refl)
+
   module _ (d : List ℕ) (p : pointsFrom d 0 ≡ W.Accepted) (most : length d ≤ 131070) (few : length text ≤ 131070) where
     abbrev more : List ℕ
     more = drop (length text) d
 
     verdict-is : verdictOf (given original (text ++ more) spans keys) (leftOf ls) (rightOf ls rs) ≡ verdictOf lent (leftOf ls) (rightOf ls rs)
-    unfolding verdictOf pointsFrom
+    unfolding verdictOf
     verdict-is =
-        let a : pointsFrom text 0 ≡ W.Accepted = rw (drop-nil {A = ℕ} (length text), append-nil text) at (fine [] refl) in
         verdict-same original spans keys text more (leftOf ls) (rightOf ls rs) left-reaches right-reaches
-        (omega (arith, length-append text more, length-drop (length text) d)) a (fine d p)
+        (omega (arith, length-append text more, length-drop (length text) d)) added-fine (fine d p)
 
     reach : (os : List Op) → Inserts (Lends lent) os → Inserts (Reach original spans keys text more) os
     unfolding Inserts

@@ -65,6 +65,14 @@ pub record Files (left right : List ℕ) : Type 0 where
   pub left-accepted : readFile left ≡ Accepted (itemsIn (readFile left))
   pub right-accepted : readFile right ≡ Accepted (itemsIn (readFile right))
 
+-- two such files, what each uses of its original, and an original for both
+pub record Fitting (original left right : List ℕ) (of-left of-right : ℕ) : Type 0 where
+  pub files : Files left right
+  pub good : pointsFrom original 0 ≡ W.Accepted
+  pub short : length original ≤ 2048
+  pub uses-left : of-left ≡ usedBy left
+  pub uses-right : of-right ≡ usedBy right
+
 -- a room for the code points that they add, as long as what either uses of the original
 pub record Texted (left right text : List ℕ) : Type 0 where
   pub good : pointsFrom text 0 ≡ W.Accepted

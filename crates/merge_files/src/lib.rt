@@ -3,11 +3,9 @@
 use refusal::Counted;
 ghost use mathlib.Core.Path.{_≡_};
 ghost use Prim.Native.Nat.{_≤_};
-ghost use lib.ListN.{length};
 ghost use Rattle.edit_format.specs.Reading.{readFile};
-ghost use Rattle.edit_list.specs.Lists.{usedBy};
 ghost use Rattle.merge_files.specs.Program.{refused, utf8, resultOf, Written};
-ghost use Rattle.merge_files.specs.Steps.{firstOf, Mergeable, Diffable, Files, Texted, mergeResult, diffResult, goodResult};
+ghost use Rattle.merge_files.specs.Steps.{firstOf, Mergeable, Diffable, Files, Fitting, Texted, mergeResult, diffResult, goodResult};
 
 // How many bytes stand in the room: a merged edit file, or a refusal's line; or that it is too short.
 pub enum Outcome {
@@ -205,17 +203,8 @@ fn merge_edits(
     )
 }
 
-// The same where counts do not fit the original: a keep may be as long as any original.
-fn merge_unfit(original: &[u32], left: &[u8], right: &[u8], out: &mut [u8]) -> Outcome
-    requires { ⌜ Files (now left) (now right) ⌝ }
-    ensures { λ r. ⌜ Written (goodResult (now (original .entry)) (readFile (now (left .entry))) (readFile (now (right .entry)))) (now (out .entry)) (now (out .exit)) r ⌝ }
-{
-    let mut text = [0u32; 65535];
-    merge_edits(original, left, right, &mut text, out)
-}
-
-// The merge of two accepted edit files that use so much of an original. Where both use as much as this one has, no keep is longer than
-// it, and a short room is enough: a long one is cleared only where it is needed.
+// The merge of two accepted edit files that use so much of an original. Counts that do not fit this one are refusal 2, and no other comes
+// before it. Where they fit, no keep is longer than the original, and a short room is enough.
 fn merge_fit(
     original: &[u32],
     left: &[u8],
@@ -224,17 +213,18 @@ fn merge_fit(
     of_right: usize,
     out: &mut [u8],
 ) -> Outcome
-    requires { ⌜ Files (now left) (now right) × (length (now original) ≤ 2048) × («of_left» ≡ usedBy (now left)) × («of_right» ≡ usedBy (now right)) ⌝ }
+    requires { ⌜ Fitting (now original) (now left) (now right) «of_left» «of_right» ⌝ }
     ensures { λ r. ⌜ Written (goodResult (now (original .entry)) (readFile (now (left .entry))) (readFile (now (right .entry)))) (now (out .entry)) (now (out .exit)) r ⌝ }
 {
     let n = original.len();
-    if of_left == n {
-        if of_right == n {
-            let mut text = [0u32; 2048];
-            return merge_edits(original, left, right, &mut text, out);
-        }
+    if of_left != n {
+        return put_refused(2, out);
     }
-    merge_unfit(original, left, right, out)
+    if of_right != n {
+        return put_refused(2, out);
+    }
+    let mut text = [0u32; 2048];
+    merge_edits(original, left, right, &mut text, out)
 }
 
 // What the program writes for three files that it could read.

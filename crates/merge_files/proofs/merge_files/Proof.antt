@@ -3,7 +3,7 @@
 use borrow.Author.Needs.{needs}
 use mathlib.Core.Path.{refl, sym}
 use lib.Seq.{length-take-le}
-use Rattle.merge_files.proofs.Files.{number-small, refuses, uses-left, uses-right, files, points-in, points-short, not-refused, result}
+use Rattle.merge_files.proofs.Files.{number-small, refuses, points-in, fitting, not-refused, result}
 use Rattle.merge_files.proofs.merge_files.Statement.{statement}
 use Rattle.merge_files.proofs.merge_files.Tie as tie
 
@@ -50,8 +50,7 @@ merge-fit-requires : tie.Need-merge-fit-requires
 merge-fit-requires c κs =
     let b = c .before .before .before .before .before .before .before .before .before .before .before in
     let s = b .before .before .before .before .before in
-    let u = c .before .before .before .before .before .before .before .before .before .of-left .given .1 in
-    (files (s .args .original .now) (s .args .left .now) (s .args .right .now) (b .check-files .ensures) u, points-short (s .args .original .now) (s .args .left .now) (s .args .right .now) (b .check-files .ensures) u _ _ refl (c .before .before .before .before .before .before .read .ensures) (c .before .before .before .count .given .1), uses-left (s .args .original .now) (s .args .left .now) (s .args .right .now) (b .check-files .ensures) u, uses-right (s .args .original .now) (s .args .left .now) (s .args .right .now) (b .check-files .ensures) u)
+    fitting (s .args .original .now) (s .args .left .now) (s .args .right .now) (b .check-files .ensures) (c .before .before .before .before .before .before .before .before .before .of-left .given .1) _ _ refl (c .before .before .before .before .before .before .read .ensures) (c .before .before .before .count .given .1)
 
 same-length : tie.Need-same-length
 same-length c = search needs
