@@ -7,9 +7,9 @@ use native.Mathlib.Omega.{arith}
 use lib.ListN.{length, drop, take, length-append}
 use lib.IntN.{ℤ}
 use Rattle.room.specs.Placed.{Put}
+use Rattle.room.proofs.Placing.{put-none}
 use Rattle.diff.specs.declared.diff.Item.the-variants.{Retain, Delete, Insert, Neither}
 use Rattle.diff.specs.Items.{itemAt}
-use Rattle.string_builder.proofs.Stops.{put-none}
 use Rattle.diff.proofs.Decoding.{range-part}
 use Rattle.edit_format.specs.Items.{Item, Add}
 use Rattle.edit_format.specs.Written.{numberLine, keepKey, dropKey, itemLine, itemLines}

@@ -1,10 +1,11 @@
-// Numbers: which are code points and how far those of a text are, and a number in a wider type. A cast is a function, so
-// that a proof speaks of the number alone.
+// Numbers: which are code points and how far those of a text are, an order as a number, and a number in a wider type. A
+// cast is a function, so that a proof speaks of the number alone.
 ghost use mathlib.Core.Path.{_≡_};
 ghost use mathlib.Core.Bool.{true};
 ghost use Prim.Native.Nat.{_<_, _≤_};
 ghost use lib.ListN.{length};
 ghost use Rattle.numbers.specs.Points.{isPoint, scalars, scalarsFrom};
+ghost use Rattle.numbers.specs.Steps.{step};
 
 pub mod bytes;
 
@@ -97,6 +98,13 @@ pub fn scalars_of(text: &[u32]) -> usize
         i = bad;
     }
     i
+}
+
+// 1 for a number that is not below another: a sum of these is made of vectors.
+pub fn at_least(x: u32, least: u32) -> u32
+    ensures { λ r. ⌜ r ≡ step x least ⌝ }
+{
+    if least <= x { 1 } else { 0 }
 }
 
 // A number as an index or a length.

@@ -8,9 +8,9 @@ use lib.ListN.{length, take, drop, length-append}
 use lib.Seq.{drop-drop}
 use lib.IntN.{ℤ}
 use Rattle.room.specs.Placed.{placed, Put}
-use Rattle.room.proofs.Placing.{placed-none, placed-length, placed-more}
+use Rattle.room.proofs.Placing.{put-none, placed-none, placed-length, placed-more}
 use Rattle.string_builder.specs.Builder.{stopAt, Retained}
-use Rattle.string_builder.proofs.Stops.{stop-within, stop-rest, retained-length, put-none}
+use Rattle.string_builder.proofs.Stops.{stop-within, stop-rest, retained-length}
 use Rattle.diff.specs.declared.diff.Item.{Item}
 use Rattle.diff.specs.declared.diff.Item.the-variants.{Retain, Delete, Insert, Neither}
 use Rattle.diff.specs.Items.{itemAt, itemsOf}

@@ -1,4 +1,6 @@
 pub mod Answers
 pub mod Choices
 pub mod Copying
+pub mod Growing
+pub mod Parts
 pub mod Placing

@@ -1,18 +1,21 @@
 -- A run put at a place of a room: none, its length, and one behind another.
 -- List arithmetic over `take` and `drop`, for values of any type. Assumes nothing.
-use mathlib.Core.Path.{_≡_, ap}
+use mathlib.Core.Path.{_≡_, sym, ap}
 use mathlib.Core.List.{List, [], _++_, append-assoc, append-nil}
 use Prim.Native.Nat.{ℕ, _+_, _≤_}
 use native.Mathlib.Nat.{add-zero}
 use native.Mathlib.Omega.{arith}
 use lib.ListN.{length, take, drop, length-append, length-take, length-drop, take-append-drop}
 use lib.Seq.{take-at, drop-append-add, drop-drop, length-take-le}
-use Rattle.room.specs.Placed.{placed}
+use Rattle.room.specs.Placed.{placed, Put}
 
 -- a run of nothing changes no room
 pub placed-none : {A : Type 0} (d : List A) (at : ℕ) → placed d at [] ≡ d
 unfolding placed
 placed-none d at = rw (append-nil (take at d), add-zero at) (take-append-drop at d)
+
+pub put-none : {A : Type 0} (d : List A) (at : ℕ) → Put [] d at d at
+put-none d at = record { next = sym (add-zero at); stands = sym (placed-none d at) }
 
 pub placed-length : {A : Type 0} (d : List A) (at : ℕ) (s : List A) → at + length s ≤ length d → length (placed d at s) ≡ length d
 unfolding placed

@@ -4,13 +4,10 @@ use mathlib.Core.Path.{_≡_, sym, ap, _∙_}
 use mathlib.Core.List.{List, []}
 use Prim.Native.Nat.{ℕ, _+_, _-_, _≤_}
 use native.Mathlib.Decide.{decLt}
-use native.Mathlib.Nat.{add-zero}
 use native.Mathlib.Omega.{arith}
 use lib.ListN.{length, take, drop, length-drop, drop-of-length-le}
 use lib.Seq.{take-all, take-nil, length-take-le}
 use borrow.Author.Tests.{le-leb, lt-leb}
-use Rattle.room.specs.Placed.{Put}
-use Rattle.room.proofs.Placing.{placed-none}
 use Rattle.string_builder.specs.Builder.{stopAt}
 
 pub stop-short : (len at n : ℕ) → at + n ≤ len → stopAt len at n ≡ at + n
@@ -67,7 +64,3 @@ stop-rest o at n =
 -- past the end there is nothing
 pub none-left : (o : List ℕ) (at n : ℕ) → length o ≤ at → take n (drop at o) ≡ []
 none-left o at n h = rw (drop-of-length-le o h) (take-nil n)
-
--- a run of nothing changes no room
-pub put-none : (d : List ℕ) (at : ℕ) → Put [] d at d at
-put-none d at = record { next = sym (add-zero at); stands = sym (placed-none d at) }

@@ -74,6 +74,3 @@ by-block {s} {at} {n} e m c l h q =
 
 pub ends : {s : List ℕ} {n : ℕ} → Counted s (length s) n → n ≡ starts s
 ends {s} {n} c = omega (arith, c .sum, ap starts (drop-of-length-le s {i = length s} (omega arith)), none)
-
-pub short : (s : List ℕ) (at e : ℕ) → e ≤ at + 192 → length (take (e - at) (drop at s)) ≤ 192
-short s at e h = omega (arith, length-take (e - at) (drop at s))

@@ -137,11 +137,3 @@ module _ {s d o : List ℕ} {at n : ℕ} (f : Filling s d o at n) where
           rw is-long
           (by-point (on s at l (f .good) .1) h (p .code)
           (w .number ∙ ap (λ (m : ℕ). decode (take m (drop at s))) (stands (on s at l (f .good) .1))))
-
--- from one state of the room to a later one, whatever it held at first
-pub record Grown (s o₀ : List ℕ) (at₀ n₀ : ℕ) (o : List ℕ) (at n : ℕ) : Type 0 where
-  pub least : at₀ ≤ at
-  pub grown : (d : List ℕ) → length (points s) ≤ length d → Filling s d o₀ at₀ n₀ → Filling s d o at n
-
-pub not-yet : (s o : List ℕ) (at n : ℕ) → Grown s o at n o at n
-not-yet s o at n = record { least = omega arith; grown = λ d h f. f }

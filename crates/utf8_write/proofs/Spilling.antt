@@ -6,15 +6,16 @@ use Prim.Native.Nat.{ℕ, zero, suc, _+_, _*_, _-_, _≤_, _<_}
 use native.Mathlib.Omega.{arith}
 use native.Mathlib.Decide.{decLt}
 use native.Mathlib.Numerals.{add-one}
-use lib.ListN.{length, getD, take, drop, length-append, take-append-drop, length-drop, length-take, drop-of-length-le}
+use lib.ListN.{length, getD, take, drop, length-append, take-append-drop, length-drop, drop-of-length-le}
 use lib.Seq.{take-suc, take-add, take-all, getD-drop, getD-take, drop-drop, length-take-le}
-use borrow.Author.Tests.{le-leb, lt-leb}
+use Rattle.numbers.specs.Steps.{step}
+use Rattle.numbers.proofs.Steps.{step-yes, step-no}
 use Rattle.room.specs.Placed.{placed, answered, Put}
 use Rattle.room.proofs.Answers.{at-start, one-more, same-room}
 use Rattle.utf8_read.specs.Table.{encode}
 use Rattle.utf8_read.specs.Window.{Ascii}
 use Rattle.utf8_read.proofs.Sequences.{front-1}
-use Rattle.utf8_write.specs.Writing.{encode-all, step}
+use Rattle.utf8_write.specs.Writing.{encode-all}
 use Rattle.utf8_write.proofs.Encodes.{row-1, row-2, row-3, row-4, none, one, parts}
 
 width-1 : (x : ℕ) → x < 0x80 → 1 ≡ length (encode x)
@@ -56,17 +57,6 @@ wide-none = rw none
 pub wide-most : (s : List ℕ) → wide s ≤ 4 * length s
 wide-most [] = omega (arith, wide-none)
 wide-most (x ∷ s) = omega (arith, wide-both (x ∷ []) s, wide-one x, at-most-4 x, wide-most s)
-
-pub step-yes : (x n : ℕ) → n ≤ x → 1 ≡ step x n
-unfolding step
-step-yes x n h = rw (le-leb n x h)
-
-pub step-no : (x n : ℕ) → x < n → 0 ≡ step x n
-unfolding step
-step-no x n h = rw (lt-leb n x h)
-
-pub step-most : (x n : ℕ) → step x n ≤ 1
-step-most x n = elim (decLt x n) [ yes h ↦ omega (arith, step-no x n h) | no h ↦ omega (arith, step-yes x n (omega arith)) ]
 
 -- a step at each change of length
 pub steps : (x : ℕ) → 1 + step x 0x80 + step x 0x800 + step x 0x10000 ≡ length (encode x)
@@ -111,9 +101,6 @@ by-block {s} {at} {n} e m c l h q =
 
 pub measured : {s : List ℕ} {n : ℕ} → Measured s (length s) n → n ≡ wide s
 measured {s} {n} c = omega (arith, c .sum, ap (λ (r : List ℕ). wide r) (drop-of-length-le s {i = length s} (omega arith)), wide-none)
-
-pub short : (s : List ℕ) (at e : ℕ) → e ≤ at + 65536 → length (take (e - at) (drop at s)) ≤ 65536
-short s at e h = omega (arith, length-take (e - at) (drop at s))
 
 pub within : {s : List ℕ} {at n : ℕ} → Measured s at n → n ≤ 4 * length s
 within {s} c = omega (arith, c .sum, wide-most s)
@@ -238,11 +225,3 @@ module _ {s d o : List ℕ} {i at : ℕ} (f : Spilling s d o i at) where
 
   pub ends : length s ≤ i → o ≡ answered (encode-all s) d
   ends h = f .room ∙ ap (λ (z : List ℕ). answered (encode-all z) d) (take-all i s h)
-
--- from one state of the room to a later one, whatever it held at first
-pub record Grown (s o₀ : List ℕ) (i₀ at₀ : ℕ) (o : List ℕ) (i at : ℕ) : Type 0 where
-  pub least : i₀ ≤ i
-  pub grown : (d : List ℕ) → wide s ≤ length d → Spilling s d o₀ i₀ at₀ → Spilling s d o i at
-
-pub not-yet : (s o : List ℕ) (i at : ℕ) → Grown s o i at o i at
-not-yet s o i at = record { least = omega arith; grown = λ d h f. f }

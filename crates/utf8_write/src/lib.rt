@@ -10,20 +10,13 @@ ghost use Rattle.room.specs.Placed.{Put, answered};
 ghost use Rattle.utf8_read.specs.Table.{six, encode};
 ghost use Rattle.utf8_read.specs.Window.{Ascii};
 ghost use Rattle.numbers.specs.Points.{scalars};
-ghost use Rattle.utf8_write.specs.Writing.{encode-all, step};
-
-// 1 for a number that is not below another.
-fn at_least(x: u32, least: u32) -> u32
-    ensures { λ r. ⌜ r ≡ step x least ⌝ }
-{
-    if least <= x { 1 } else { 0 }
-}
+ghost use Rattle.utf8_write.specs.Writing.{encode-all};
 
 // How many bytes a number takes: a sum, so that a loop over it is made of vectors.
 fn width(x: u32) -> u32
     ensures { λ r. ⌜ r ≡ length (encode x) ⌝ }
 {
-    1 + at_least(x, 0x80) + at_least(x, 0x800) + at_least(x, 0x10000)
+    1 + numbers::at_least(x, 0x80) + numbers::at_least(x, 0x800) + numbers::at_least(x, 0x10000)
 }
 
 // How many bytes at most 65,536 numbers take.

@@ -9,8 +9,7 @@ use native.Mathlib.Decide.{decLt}
 use lib.ListN.{length, getD, drop, take, set, length-append, length-set}
 use lib.Seq.{set-split}
 use Rattle.room.specs.Placed.{placed, Put}
-use Rattle.room.proofs.Placing.{placed-length, placed-more}
-use Rattle.string_builder.proofs.Stops.{put-none}
+use Rattle.room.proofs.Placing.{put-none, placed-length, placed-more}
 use Rattle.edit_format.specs.Digits.{digit, digits}
 use Rattle.edit_format.specs.Items.{Add}
 use Rattle.edit_format.specs.Written.{points, numberLine, addKey, itemLine}

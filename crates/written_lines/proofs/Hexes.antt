@@ -6,25 +6,15 @@ use Prim.Native.Nat.{ℕ, _+_, _-_, _/_, _≤_, _<_}
 use native.Mathlib.Numerals.{add-one}
 use native.Mathlib.Omega.{arith}
 use native.Mathlib.Decide.{decLt}
-use lib.ListN.{length, getD, take, drop, length-append, length-take, take-append-drop}
+use lib.ListN.{length, getD, take, drop, length-append, take-append-drop}
 use lib.Seq.{take-suc, take-all, drop-drop}
-use borrow.Author.Tests.{le-leb, lt-leb}
+use Rattle.numbers.specs.Steps.{step}
+use Rattle.numbers.proofs.Steps.{step-yes, step-no}
 use Rattle.edit_format.specs.Digits.{digits}
 use Rattle.edit_format.specs.Written.{points}
-use Rattle.written_lines.specs.Lengths.{cap, further, step, hexes}
+use Rattle.written_lines.specs.Lengths.{cap, further, hexes}
 use Rattle.written_lines.proofs.Numbers.{one-digit, one-less}
 use Rattle.written_lines.proofs.Counting.{first-point}
-
-pub step-yes : (x n : ℕ) → n ≤ x → 1 ≡ step x n
-unfolding step
-step-yes x n h = rw (le-leb n x h)
-
-pub step-no : (x n : ℕ) → x < n → 0 ≡ step x n
-unfolding step
-step-no x n h = rw (lt-leb n x h)
-
-pub step-most : (x n : ℕ) → step x n ≤ 1
-step-most x n = elim (decLt x n) [ yes h ↦ omega (arith, step-no x n h) | no h ↦ omega (arith, step-yes x n (omega arith)) ]
 
 -- how many digits a number has, by its size
 digits-2 : (n : ℕ) → 16 ≤ n → n < 256 → length (digits 16 n) ≡ 2
@@ -134,6 +124,3 @@ measured-end {t} {sum} c = omega (arith, c .small, c .same, ap (λ (x : List ℕ
     drop-all : (t : List ℕ) → drop (length t) t ≡ []
     drop-all [] = refl
     drop-all (c ∷ t) = drop-all t
-
-pub short : (s : List ℕ) (at e : ℕ) → e ≤ at + 65536 → length (take (e - at) (drop at s)) ≤ 65536
-short s at e h = omega (arith, length-take (e - at) (drop at s))

@@ -2,8 +2,6 @@
 use Prim.Native.Nat.{ℕ, _+_, _/_, _%_, min}
 use mathlib.Core.List.{List, [], _∷_, _++_}
 use lib.ListN.{length}
-use lib.Dec.{leb}
-use Rattle.room.specs.Choice.{pick}
 use Rattle.edit_format.specs.Digits.{digit, digits}
 
 -- a length as it is held: exact below the cap, which is above every file's
@@ -18,10 +16,6 @@ further (c ∷ cs) = 32 ∷ digits 16 c ++ further cs
 -- the last two hexadecimal digits of a number
 unfoldable pub lastTwo : ℕ → List ℕ
 lastTwo c = digit (c / 16 % 16) ∷ digit (c % 16) ∷ []
-
--- 1 for a number that is not below another
-unfoldable pub step : ℕ → ℕ → ℕ
-step x least = pick (leb least x) 1 0
 
 -- how many hexadecimal digits numbers have together
 unfoldable pub hexes : List ℕ → ℕ

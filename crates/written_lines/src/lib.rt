@@ -6,7 +6,7 @@ ghost use Rattle.room.specs.Placed.{Put};
 ghost use Rattle.edit_format.specs.Digits.{digit, digits};
 ghost use Rattle.edit_format.specs.Items.{Add};
 ghost use Rattle.edit_format.specs.Written.{points, numberLine, itemLine};
-ghost use Rattle.written_lines.specs.Lengths.{cap, further, lastTwo, step, hexes};
+ghost use Rattle.written_lines.specs.Lengths.{cap, further, lastTwo, hexes};
 
 // How many decimal digits a number has: most have few, and are measured without a division.
 fn width(n: u64) -> usize
@@ -116,25 +116,18 @@ fn put_hex(out: &mut [u8], at: usize, c: u32) -> usize
     put_pair(out, b, c)
 }
 
-// 1 for a number that is not below another.
-fn at_least(x: u32, least: u32) -> u32
-    ensures { λ r. ⌜ r ≡ step x least ⌝ }
-{
-    if least <= x { 1 } else { 0 }
-}
-
 // How many hexadecimal digits a number has: a sum, so that a loop over it is made of vectors.
 fn hex_width(c: u32) -> u32
     ensures { λ r. ⌜ (r ≡ length (digits 16 c)) × (r ≤ 8) ⌝ }
 {
     1
-        + at_least(c, 0x10)
-        + at_least(c, 0x100)
-        + at_least(c, 0x1000)
-        + at_least(c, 0x10000)
-        + at_least(c, 0x100000)
-        + at_least(c, 0x1000000)
-        + at_least(c, 0x10000000)
+        + numbers::at_least(c, 0x10)
+        + numbers::at_least(c, 0x100)
+        + numbers::at_least(c, 0x1000)
+        + numbers::at_least(c, 0x10000)
+        + numbers::at_least(c, 0x100000)
+        + numbers::at_least(c, 0x1000000)
+        + numbers::at_least(c, 0x10000000)
 }
 
 // How many hexadecimal digits at most 65,536 numbers have.

@@ -9,7 +9,7 @@ use lib.ListN.{length, take, drop, set, length-take, length-drop}
 use lib.Seq.{sets-eq}
 use borrow.Author.Tests.{eq-eqb, ne-eqb}
 use Rattle.room.specs.Placed.{placed, Put}
-use Rattle.string_builder.proofs.Stops.{put-none}
+use Rattle.room.proofs.Placing.{put-none}
 use Rattle.records.specs.declared.Operation.{Operation}
 use Rattle.words.specs.Words.{Lends}
 use Rattle.merging.specs.Lent.{Lent, spellingOf}

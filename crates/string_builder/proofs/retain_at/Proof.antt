@@ -1,6 +1,7 @@
 -- `retain_at` puts the next of the original, or what is left of them. The part it copies is what the step passes (Stops).
 -- Assumes nothing.
-use Rattle.string_builder.proofs.Stops.{stop-within, stop-part, none-left, put-none}
+use Rattle.string_builder.proofs.Stops.{stop-within, stop-part, none-left}
+use Rattle.room.proofs.Placing.{put-none}
 use lib.ListN.{length}
 use native.Mathlib.Omega.{arith}
 use borrow.Author.Needs.{needs}

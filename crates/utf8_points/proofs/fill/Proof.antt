@@ -3,13 +3,15 @@
 use Prim.Native.Nat.{_-_}
 use lib.ListN.{length}
 use native.Mathlib.Omega.{arith}
-use Rattle.utf8_points.proofs.Filling.{Filling, Grown, begins, by-run, run-fits, not-yet, there, past, room-left, by-pointed, as-long, ends}
+use Rattle.room.proofs.Growing.{Grown, not-yet}
+use Rattle.utf8_read.specs.Reading.{points}
+use Rattle.utf8_points.proofs.Filling.{Filling, begins, by-run, run-fits, there, past, room-left, by-pointed, as-long, ends}
 use borrow.Author.Needs.{needs}
 use Rattle.utf8_points.proofs.fill.Statement.{statement}
 use Rattle.utf8_points.proofs.fill.Tie as tie
 
 abbrev Inv-some : tie.InvT-some
-Inv-some bytes out₀ at₀ n₀ end stop out at n = Grown bytes out₀ at₀ n₀ out at n
+Inv-some bytes out₀ at₀ n₀ end stop out at n = Grown (Filling bytes) (length (points bytes)) out₀ at₀ n₀ out at n
 
 abbrev μ-some : tie.MeasureT-some
 μ-some bytes out₀ at₀ n₀ end stop out at n = length bytes - at
@@ -46,7 +48,7 @@ near-requires : tie.Need-near-requires Inv-some μ-some Inv-fill μ-fill
 near-requires c κs = c .before .before .before .before .before .calm-end .ensures .1
 
 some-holds : tie.Need-some-holds Inv-some μ-some Inv-fill μ-fill
-some-holds c = not-yet _ _ _ _
+some-holds c = not-yet _ _ _ _ _
 
 fill-less : tie.Need-fill-less Inv-some μ-some Inv-fill μ-fill
 fill-less c =

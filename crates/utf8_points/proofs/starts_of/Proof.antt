@@ -3,7 +3,8 @@
 use Prim.Native.Nat.{_+_, _-_}
 use lib.ListN.{length}
 use native.Mathlib.Omega.{arith}
-use Rattle.utf8_points.proofs.Counting.{Counted, begins, by-block, ends, short}
+use Rattle.utf8_points.proofs.Counting.{Counted, begins, by-block, ends}
+use Rattle.room.proofs.Parts.{part-most}
 use borrow.Author.Needs.{needs}
 use Rattle.utf8_points.proofs.starts_of.Statement.{statement}
 use Rattle.utf8_points.proofs.starts_of.Tie as tie
@@ -33,7 +34,7 @@ part-starts-block-end : tie.Need-part-starts-block-end Inv-many μ-many
 part-starts-block-end c = search needs
 
 starts-block-requires : tie.Need-starts-block-requires Inv-many μ-many
-starts-block-requires c κs = short (c .before .before .before .before .args .bytes .now) (c .before .before .many .at) (c .before .before .many .at + 192) (omega arith)
+starts-block-requires c κs = part-most (c .before .before .before .before .args .bytes .now) (c .before .before .many .at) (c .before .before .many .at + 192) 192 (omega arith)
 
 cast-n : tie.Need-cast-n Inv-many μ-many
 cast-n c = search needs
@@ -63,7 +64,7 @@ part-starts-block-end-2 c = search needs
 starts-block-requires-2 : tie.Need-starts-block-requires-2 Inv-many μ-many
 starts-block-requires-2 c κs =
     let c4 = c .before .before .before .before in
-    short (c4 .args .bytes .now) (c .before .before .many .at) (length (c4 .args .bytes .now)) (omega arith)
+    part-most (c4 .args .bytes .now) (c .before .before .many .at) (length (c4 .args .bytes .now)) 192 (omega arith)
 
 cast-result : tie.Need-cast-result Inv-many μ-many
 cast-result c = search needs

@@ -4,15 +4,16 @@ use Prim.Native.Nat.{_-_, _<_}
 use mathlib.Core.Path.{sym, _∙_}
 use lib.ListN.{length}
 use native.Mathlib.Omega.{arith}
+use Rattle.room.proofs.Growing.{Grown, not-yet}
 use Rattle.numbers.proofs.Points.{point-most}
 use Rattle.numbers.proofs.Scalar.{each}
-use Rattle.utf8_write.proofs.Spilling.{Spilling, Grown, narrow-text, narrow-room, narrow-long, begins, part-ascii, run-fits, by-run, code-fits, by-code, not-yet, as-long, ends}
+use Rattle.utf8_write.proofs.Spilling.{Spilling, wide, narrow-text, narrow-room, narrow-long, begins, part-ascii, run-fits, by-run, code-fits, by-code, as-long, ends}
 use borrow.Author.Needs.{needs}
 use Rattle.utf8_write.proofs.spill.Statement.{statement}
 use Rattle.utf8_write.proofs.spill.Tie as tie
 
 abbrev Inv-some : tie.InvT-some
-Inv-some text out₀ width step i₀ at₀ end stop out i at = Grown text out₀ i₀ at₀ out i at
+Inv-some text out₀ width step i₀ at₀ end stop out i at = Grown (Spilling text) (wide text) out₀ i₀ at₀ out i at
 
 abbrev μ-some : tie.MeasureT-some
 μ-some text out₀ width step i₀ at₀ end stop out i at = length text - i
@@ -76,7 +77,7 @@ near-requires : tie.Need-near-requires Inv-some μ-some Inv-spill μ-spill
 near-requires c κs = c .before .before .before .before .before .plain-end .ensures .1
 
 some-holds : tie.Need-some-holds Inv-some μ-some Inv-spill μ-spill
-some-holds c = not-yet _ _ _ _
+some-holds c = not-yet _ _ _ _ _
 
 spill-less : tie.Need-spill-less Inv-some μ-some Inv-spill μ-spill
 spill-less c =

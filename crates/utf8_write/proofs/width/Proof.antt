@@ -1,7 +1,8 @@
 -- `width` is the length of a number's row.
 -- A step at each change of length; no step is above 1. Assumes nothing.
 use native.Mathlib.Omega.{arith}
-use Rattle.utf8_write.proofs.Spilling.{steps, step-most}
+use Rattle.utf8_write.proofs.Spilling.{steps}
+use Rattle.numbers.proofs.Steps.{step-most}
 use borrow.Author.Needs.{needs}
 use Rattle.utf8_write.proofs.width.Statement.{statement}
 use Rattle.utf8_write.proofs.width.Tie as tie

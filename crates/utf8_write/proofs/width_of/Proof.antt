@@ -3,7 +3,8 @@
 use Prim.Native.Nat.{_+_, _-_}
 use lib.ListN.{length}
 use native.Mathlib.Omega.{arith}
-use Rattle.utf8_write.proofs.Spilling.{Measured, plain-measured, by-block, measured, within, short}
+use Rattle.utf8_write.proofs.Spilling.{Measured, plain-measured, by-block, measured, within}
+use Rattle.room.proofs.Parts.{part-most}
 use borrow.Author.Needs.{needs}
 use Rattle.utf8_write.proofs.width_of.Statement.{statement}
 use Rattle.utf8_write.proofs.width_of.Tie as tie
@@ -39,7 +40,7 @@ part-width-block-end : tie.Need-part-width-block-end Inv-many μ-many
 part-width-block-end c = search needs
 
 width-block-requires : tie.Need-width-block-requires Inv-many μ-many
-width-block-requires c κs = short (c .before .before .before .before .before .args .text .now) (c .before .before .many .at) (c .before .before .many .at + 65536) (omega arith)
+width-block-requires c κs = part-most (c .before .before .before .before .before .args .text .now) (c .before .before .many .at) (c .before .before .many .at + 65536) 65536 (omega arith)
 
 cast-n : tie.Need-cast-n Inv-many μ-many
 cast-n c = search needs
@@ -72,7 +73,7 @@ part-width-block-end-2 c = search needs
 width-block-requires-2 : tie.Need-width-block-requires-2 Inv-many μ-many
 width-block-requires-2 c κs =
     let c5 = c .before .before .before .before .before in
-    short (c5 .args .text .now) (c .before .before .many .at) (length (c5 .args .text .now)) (omega arith)
+    part-most (c5 .args .text .now) (c .before .before .many .at) (length (c5 .args .text .now)) 65536 (omega arith)
 
 cast-result : tie.Need-cast-result Inv-many μ-many
 cast-result c = search needs

@@ -1,7 +1,8 @@
 -- Shown: `hex_width` answers how many hexadecimal digits a number has.
 -- How: a step at each power of 16, and none is above 1.
 use native.Mathlib.Omega.{arith}
-use Rattle.written_lines.proofs.Hexes.{hex-steps, step-most}
+use Rattle.written_lines.proofs.Hexes.{hex-steps}
+use Rattle.numbers.proofs.Steps.{step-most}
 use borrow.Author.Needs.{needs}
 use Rattle.written_lines.proofs.hex_width.Statement.{statement}
 use Rattle.written_lines.proofs.hex_width.Tie as tie

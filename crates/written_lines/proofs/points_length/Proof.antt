@@ -4,7 +4,8 @@ use Prim.Native.Nat.{_+_, _-_}
 use native.Mathlib.Omega.{arith}
 use lib.ListN.{length}
 use Rattle.written_lines.proofs.Counting.{points-none}
-use Rattle.written_lines.proofs.Hexes.{Measured, measured-begin, measured-more, measured-end, short}
+use Rattle.written_lines.proofs.Hexes.{Measured, measured-begin, measured-more, measured-end}
+use Rattle.room.proofs.Parts.{part-most}
 use borrow.Author.Needs.{needs}
 use Rattle.written_lines.proofs.points_length.Statement.{statement}
 use Rattle.written_lines.proofs.points_length.Tie as tie
@@ -46,7 +47,7 @@ part-hex-block-end : tie.Need-part-hex-block-end Inv-many μ-many
 part-hex-block-end c = search needs
 
 hex-block-requires : tie.Need-hex-block-requires Inv-many μ-many
-hex-block-requires c κs = short (c .before .before .before .before .before .before .args .text .now) (c .before .before .many .at) (c .before .before .many .at + 65536) (omega arith)
+hex-block-requires c κs = part-most (c .before .before .before .before .before .before .args .text .now) (c .before .before .many .at) (c .before .before .many .at + 65536) 65536 (omega arith)
 
 cast-plus : tie.Need-cast-plus Inv-many μ-many
 cast-plus c = search needs
@@ -73,7 +74,7 @@ part-hex-block-end-2 : tie.Need-part-hex-block-end-2 Inv-many μ-many
 part-hex-block-end-2 c = search needs
 
 hex-block-requires-2 : tie.Need-hex-block-requires-2 Inv-many μ-many
-hex-block-requires-2 c κs = short (c .before .before .before .before .before .before .args .text .now) (c .before .before .many .at) (length (c .before .before .before .before .before .before .args .text .now)) (omega arith)
+hex-block-requires-2 c κs = part-most (c .before .before .before .before .before .before .args .text .now) (c .before .before .many .at) (length (c .before .before .before .before .before .before .args .text .now)) 65536 (omega arith)
 
 cast-plus-2 : tie.Need-cast-plus-2 Inv-many μ-many
 cast-plus-2 c = search needs
