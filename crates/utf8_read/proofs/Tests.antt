@@ -1,4 +1,4 @@
--- Tests joined by and and or, taken apart.
+-- Two tests joined by `or`, taken apart, and a test that is refuted.
 -- Each by the cases of the first test. Assumes nothing.
 use mathlib.Core.Path.{_≡_, refl}
 use mathlib.Core.Bool.{Bool, true, false, _||_}

@@ -53,10 +53,10 @@ pub hex-digit : (d : ℕ) → d < 16 → d + 48 + (d + 6) / 16 * 39 ≡ digit d
 unfolding digit
 hex-digit d h = elim (decLt d 10) [ yes g ↦ rw (lt-ltb d 10 g) (omega arith) | no g ↦ rw (le-ltb d 10 (omega arith)) (omega arith) ]
 
-pub some-digit : (m n : ℕ) → 1 < m → 1 ≤ length (digits m n)
-some-digit m n h = elim (decLt n m) [
-  | yes g ↦ omega (arith, one-digit m n g)
-  | no g ↦ omega (arith, one-less m n h (omega arith))
+some-digit : (n : ℕ) → 1 ≤ length (digits 10 n)
+some-digit n = elim (decLt n 10) [
+  | yes g ↦ omega (arith, one-digit 10 n g)
+  | no g ↦ omega (arith, one-less 10 n (omega arith) (omega arith))
 ]
 
 -- a store just before a run makes it longer
@@ -67,39 +67,39 @@ store-before d tail j v h =
     rw (e, take-suc d j 0 h, append-assoc (take j d) (getD d j 0 ∷ []) tail, append-assoc (take j d) (getD d j 0 ∷ tail) (drop (suc j + length tail) d), append-assoc (take j d) (v ∷ tail) (drop (suc j + length tail) d))
     (set-at (take j d) (getD d j 0) (tail ++ drop (suc j + length tail) d) v j (length-take-le j d (omega arith)))
 
-pub record Digiting (d : List ℕ) (at base n : ℕ) (o : List ℕ) (m k : ℕ) : Type 0 where
+pub record Digiting (d : List ℕ) (at n : ℕ) (o : List ℕ) (m k : ℕ) : Type 0 where
   pub tail : List ℕ
-  pub whole : digits base n ≡ digits base m ++ tail
-  pub place : k ≡ at + length (digits base m)
+  pub whole : digits 10 n ≡ digits 10 m ++ tail
+  pub place : k ≡ at + length (digits 10 m)
   pub room : o ≡ placed d k tail
   pub same : length o ≡ length d
 
-pub starts : (d : List ℕ) (at base n : ℕ) {k : ℕ} → k ≡ at + length (digits base n) → Digiting d at base n d n k
-starts d at base n e = record { tail = []; whole = sym (append-nil (digits base n)); place = e; room = sym (placed-none d _); same = refl }
+pub starts : (d : List ℕ) (at n : ℕ) {k : ℕ} → k ≡ at + length (digits 10 n) → Digiting d at n d n k
+starts d at n e = record { tail = []; whole = sym (append-nil (digits 10 n)); place = e; room = sym (placed-none d _); same = refl }
 
-module _ {d : List ℕ} {at base n : ℕ} {o : List ℕ} {m k : ℕ} (s : Digiting d at base n o m k) (big : 1 < base) (fits : at + length (digits base n) ≤ length d) where
+module _ {d : List ℕ} {at n : ℕ} {o : List ℕ} {m k : ℕ} (s : Digiting d at n o m k) (fits : at + length (digits 10 n) ≤ length d) where
   pub inside : k + length (s .tail) ≤ length d
   inside = omega (arith, s .place, simp length-append at (ap length (s .whole)))
 
   pub before : 0 < k
-  before = omega (arith, s .place, some-digit base m big)
+  before = omega (arith, s .place, some-digit m)
 
   stored : (v j : ℕ) → k ≡ suc j → set o j v ≡ placed d j (v ∷ s .tail)
   stored v j e = ap (λ (l : List ℕ). set l j v) (s .room ∙ ap (λ (i : ℕ). placed d i (s .tail)) e) ∙ store-before d (s .tail) j v (omega (arith, inside))
 
-  pub goes-on : base ≤ m → Digiting d at base n (set o (k - 1) (digit (m % base))) (m / base) (k - 1)
+  pub goes-on : 10 ≤ m → Digiting d at n (set o (k - 1) (digit (m % 10))) (m / 10) (k - 1)
   goes-on g =
       let e : k ≡ suc (k - 1) = omega (arith, before) in
       record {
-        tail = digit (m % base) ∷ s .tail;
-        whole = s .whole ∙ ap (λ (l : List ℕ). l ++ s .tail) (digits-last base m big g) ∙ append-assoc (digits base (m / base)) (digit (m % base) ∷ []) (s .tail);
-        place = omega (arith, s .place, one-less base m big g);
-        room = stored (digit (m % base)) (k - 1) e;
-        same = length-set o (k - 1) (digit (m % base)) ∙ s .same;
+        tail = digit (m % 10) ∷ s .tail;
+        whole = s .whole ∙ ap (λ (l : List ℕ). l ++ s .tail) (digits-last 10 m (omega arith) g) ∙ append-assoc (digits 10 (m / 10)) (digit (m % 10) ∷ []) (s .tail);
+        place = omega (arith, s .place, one-less 10 m (omega arith) g);
+        room = stored (digit (m % 10)) (k - 1) e;
+        same = length-set o (k - 1) (digit (m % 10)) ∙ s .same;
       }
 
-  pub ends : {e : ℕ} → m < base → e ≡ at + length (digits base n) → Put (digits base n) d at (set o (k - 1) (digit m)) e
+  pub ends : {e : ℕ} → m < 10 → e ≡ at + length (digits 10 n) → Put (digits 10 n) d at (set o (k - 1) (digit m)) e
   ends {e} g f =
-      let j : k - 1 ≡ at = omega (arith, s .place, one-digit base m g) in
-      let x : k ≡ suc at = omega (arith, s .place, one-digit base m g) in
-      record { next = f; stands = rw j (stored (digit m) at x ∙ ap (λ (l : List ℕ). placed d at l) (sym (s .whole ∙ ap (λ (l : List ℕ). l ++ s .tail) (digits-one base m g)))) }
+      let j : k - 1 ≡ at = omega (arith, s .place, one-digit 10 m g) in
+      let x : k ≡ suc at = omega (arith, s .place, one-digit 10 m g) in
+      record { next = f; stands = rw j (stored (digit m) at x ∙ ap (λ (l : List ℕ). placed d at l) (sym (s .whole ∙ ap (λ (l : List ℕ). l ++ s .tail) (digits-one 10 m g)))) }

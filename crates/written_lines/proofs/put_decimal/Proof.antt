@@ -8,7 +8,7 @@ use Rattle.written_lines.proofs.put_decimal.Statement.{statement}
 use Rattle.written_lines.proofs.put_decimal.Tie as tie
 
 abbrev Inv-digits : tie.InvT-digits
-Inv-digits out₀ at n end m₀ k₀ out m k = Digiting out₀ at 10 n out m k
+Inv-digits out₀ at n end m₀ k₀ out m k = Digiting out₀ at n out m k
 
 abbrev μ-digits : tie.MeasureT-digits
 μ-digits out₀ at n end m₀ k₀ out m k = m
@@ -20,10 +20,10 @@ add-end : tie.Need-add-end Inv-digits μ-digits
 add-end c = omega (arith, c .width .ensures, c .before .before .pre)
 
 digits-holds : tie.Need-digits-holds Inv-digits μ-digits
-digits-holds c = starts _ _ _ _ (omega (arith, c .width .ensures))
+digits-holds c = starts _ _ _ (omega (arith, c .width .ensures))
 
 sub-k : tie.Need-sub-k Inv-digits μ-digits
-sub-k c = before (c .before .digits .inv) (omega arith) (c .before .before .before .before .pre)
+sub-k c = before (c .before .digits .inv) (c .before .before .before .before .pre)
 
 decimal-byte-requires : tie.Need-decimal-byte-requires Inv-digits μ-digits
 decimal-byte-requires c κs = omega arith
@@ -32,7 +32,7 @@ slice-write-out : tie.Need-slice-write-out Inv-digits μ-digits
 slice-write-out c =
     let c2 = c .before .before in
     let c5 = c2 .before .before .before in
-    omega (arith, inside (c2 .digits .inv) (omega arith) (c5 .pre), c2 .digits .inv .same, before (c2 .digits .inv) (omega arith) (c5 .pre))
+    omega (arith, inside (c2 .digits .inv) (c5 .pre), c2 .digits .inv .same, before (c2 .digits .inv) (c5 .pre))
 
 digits-less : tie.Need-digits-less Inv-digits μ-digits
 digits-less c = omega arith
@@ -41,19 +41,19 @@ digits-again : tie.Need-digits-again Inv-digits μ-digits
 digits-again c =
     let c2 = c .before .before in
     let c5 = c2 .before .before .before in
-    rw (c .decimal-byte .ensures) (goes-on (c2 .digits .inv) (omega arith) (c5 .pre) (c .before .digits-test .taken))
+    rw (c .decimal-byte .ensures) (goes-on (c2 .digits .inv) (c5 .pre) (c .before .digits-test .taken))
 
 decimal-byte-requires-2 : tie.Need-decimal-byte-requires-2 Inv-digits μ-digits
 decimal-byte-requires-2 c κs = omega arith
 
 sub-out : tie.Need-sub-out Inv-digits μ-digits
-sub-out c = before (c .before .before .digits .inv) (omega arith) (c .before .before .before .before .before .pre)
+sub-out c = before (c .before .before .digits .inv) (c .before .before .before .before .before .pre)
 
 slice-write-out-2 : tie.Need-slice-write-out-2 Inv-digits μ-digits
 slice-write-out-2 c =
     let c2 = c .before .before in
     let c5 = c2 .before .before .before in
-    omega (arith, inside (c2 .digits .inv) (omega arith) (c5 .pre), c2 .digits .inv .same, before (c2 .digits .inv) (omega arith) (c5 .pre))
+    omega (arith, inside (c2 .digits .inv) (c5 .pre), c2 .digits .inv .same, before (c2 .digits .inv) (c5 .pre))
 
 same-length : tie.Need-same-length Inv-digits μ-digits
 same-length c = simp length-set (c .before .before .digits .inv .same)
@@ -63,7 +63,7 @@ returns c =
     let c2 = c .before .before in
     let c3 = c2 .before in
     let c5 = c3 .before .before in
-    rw (c .decimal-byte2 .ensures) (ends (c2 .digits .inv) (omega arith) (c5 .pre) (c .before .digits-test .left) (omega (arith, c3 .width .ensures)))
+    rw (c .decimal-byte2 .ensures) (ends (c2 .digits .inv) (c5 .pre) (c .before .digits-test .left) (omega (arith, c3 .width .ensures)))
 
 pub put-decimal-spec : {M : Type 1} → statement M
 put-decimal-spec =
