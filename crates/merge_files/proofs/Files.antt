@@ -20,8 +20,8 @@ use Rattle.verdict.proofs.Bools.{and-left, and-right}
 use Rattle.utf8_read.specs.Grammar.{utf8-char}
 use Rattle.utf8_read.specs.Table.{decode}
 use Rattle.utf8_read.specs.Reading.{good-end, points, points-from}
-use Rattle.utf8_write.specs.Writing.{scalars}
-use Rattle.utf8_write.proofs.Scalar.{first-of}
+use Rattle.numbers.specs.Points.{scalars}
+use Rattle.numbers.proofs.Scalar.{first-of}
 use Rattle.utf8.specs.Answers.{read-of, Answered, leaves}
 use Rattle.utf8.proofs.Texts.{read-scalars}
 use Rattle.edit_format.specs.Items.{Item, kept, dropped, texts}
