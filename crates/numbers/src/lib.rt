@@ -1,5 +1,4 @@
-// Numbers: which are code points and how far those of a text are, an order as a number, and a number in a wider type. A
-// cast is a function, so that a proof speaks of the number alone.
+// Numbers: which are code points and how far those of a text are, an order as a number, and a number in a wider type. A cast is a function, so that a proof speaks of the number alone.
 ghost use mathlib.Core.Path.{_≡_};
 ghost use mathlib.Core.Bool.{true};
 ghost use Prim.Native.Nat.{_<_, _≤_};
@@ -9,16 +8,14 @@ ghost use Rattle.numbers.specs.Steps.{step};
 
 pub mod bytes;
 
-// Whether a number is a code point: no surrogate, and at most 10FFFF. No way out between the tests: a loop over it is
-// made of vectors.
+// Whether a number is a code point: no surrogate, and at most 10FFFF. No way out between the tests, so that a caller branches once.
 pub fn is_point(x: u32) -> bool
     ensures { λ r. ⌜ r ≡ isPoint x ⌝ }
 {
     (x < 0xd800) | ((0xe000 <= x) & (x <= 0x10ffff))
 }
 
-// Whether the numbers from one place to another are below the surrogates; they may be and it is not told,
-// since only the bits of all together are looked at. No way out before the end: it is made of vectors.
+// Whether the numbers from one place to another are below the surrogates; they may be and it is not told, since only the bits of all together are looked at. No way out before the end: it is made of vectors.
 fn all_low(text: &[u32], at: usize, end: usize) -> bool
     requires { ⌜ (at ≤ end) × (end ≤ length (now text)) ⌝ }
     ensures { λ r. ⌜ (r ≡ true → scalarsFrom (now (text .entry)) end ≡ scalarsFrom (now (text .entry)) at) ⌝ }
@@ -32,8 +29,7 @@ fn all_low(text: &[u32], at: usize, end: usize) -> bool
     bits < 0xD800
 }
 
-// Whether the numbers from one place to another are code points; they may be and it is not told where some are above
-// FFFFF and others above FFFF. No way out before the end: it is made of vectors.
+// Whether the numbers from one place to another are code points: a surrogate has 27 above its lowest eleven bits, and only the bits of all together are held to 10FFFF, which is quicker. So they may be and it is not told, where some are above FFFFF and others above FFFF. No way out before the end: it is made of vectors.
 fn all_points(text: &[u32], at: usize, end: usize) -> bool
     requires { ⌜ (at ≤ end) × (end ≤ length (now text)) ⌝ }
     ensures { λ r. ⌜ (r ≡ true → scalarsFrom (now (text .entry)) end ≡ scalarsFrom (now (text .entry)) at) ⌝ }
@@ -75,8 +71,7 @@ fn block_end(at: usize, len: usize) -> usize
     if len - at < 256 { len } else { at + 256 }
 }
 
-// The index of the first number that is no code point; the length where all are. By blocks: most hold low numbers
-// alone, nearly all others code points.
+// The index of the first number that is no code point; the length where all are. By blocks: most hold low numbers alone, nearly all others code points.
 pub fn scalars_of(text: &[u32]) -> usize
     ensures { λ r. ⌜ r ≡ scalars (now (text .entry)) ⌝ }
 {
