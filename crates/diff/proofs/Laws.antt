@@ -1,12 +1,12 @@
--- What is true of every replay: its length, what an accepted one asks of the original, and that a retain may be split.
+-- What is true of every replay: its length, and what an accepted one asks of the original.
 -- Each by induction over the edits. Assumes nothing.
-use mathlib.Core.Path.{_≡_, refl, ap}
+use mathlib.Core.Path.{_≡_, refl}
 use mathlib.Core.Bool.{Bool, true, false}
-use mathlib.Core.List.{List, [], _∷_, _++_, append-assoc}
+use mathlib.Core.List.{List, [], _∷_}
 use Prim.Native.Nat.{ℕ, zero, suc, _+_, _-_, _≤_}
 use native.Mathlib.Omega.{arith}
-use lib.ListN.{length, take, drop, length-append, length-drop}
-use lib.Seq.{length-take-le, take-add, drop-drop}
+use lib.ListN.{length, drop, length-append, length-drop}
+use lib.Seq.{length-take-le}
 use lib.IntN.{ℤ}
 use lib.Dec.{ltb}
 use borrow.Author.Tests.{le-ltb, ltb-false}
@@ -95,13 +95,3 @@ unfolding itemsFrom editsOf
 added-used xs text i zero = none-added
 added-used xs text i (suc k) =
     one-added text (itemAt xs (length text) i) _ _ (λ s n e. insert-within xs (length text) i e) (added-used xs text (i + 1) k)
-
--- a retain may be split, and two neighbouring ones joined, anywhere
-pub split-retain :
-    (o : List ℕ) (fs : List Edit) (a b : ℕ) (es : List Edit)
-    → replayed o (fs ++ retain (a + b) ∷ es) ≡ replayed o (fs ++ retain a ∷ retain b ∷ es)
-unfolding replayed
-split-retain o [] a b es = rw (take-add a b o, ← drop-drop b a o) (append-assoc (take a o) (take b (drop a o)) _)
-split-retain o (retain n ∷ fs) a b es = ap (λ (t : List ℕ). take n o ++ t) (split-retain (drop n o) fs a b es)
-split-retain o (delete n ∷ fs) a b es = split-retain (drop n o) fs a b es
-split-retain o (insert s ∷ fs) a b es = ap (λ (t : List ℕ). s ++ t) (split-retain o fs a b es)

@@ -2,15 +2,15 @@
 -- By the order of the checks, and the laws of edits. Assumes nothing.
 use mathlib.Core.Path.{_≡_, refl, sym, _∙_}
 use mathlib.Core.List.{List}
-use Prim.Native.Nat.{ℕ, _+_, _≤_}
+use Prim.Native.Nat.{ℕ, _≤_}
 use native.Mathlib.Omega.{arith}
 use lib.ListN.{length}
 use Rattle.refusal.specs.declared.Counted.{Counted}
 use Rattle.diff.specs.Items.{itemsOf}
-use Rattle.diff.specs.Replay.{mentioned, kept, added, left}
+use Rattle.diff.specs.Replay.{mentioned, left}
 use Rattle.diff.specs.Checks.{Verdict, fine, refused, andThen, sizes, points, records, covers}
-use Rattle.replay.specs.Answers.{Diff, edits, textOf, plain, covering, roomed, Replayed}
-use Rattle.diff.proofs.Laws.{covers-none, numbers-enough, replayed-length}
+use Rattle.replay.specs.Answers.{Diff, edits, plain, covering, roomed, Replayed}
+use Rattle.diff.proofs.Laws.{covers-none, numbers-enough}
 
 then-fine : (a b : Verdict) → andThen a b ≡ fine → (a ≡ fine) × (b ≡ fine)
 then-fine fine b e = (refl, e)
@@ -25,11 +25,6 @@ module _ (d : Diff) where
       let w = then-fine (sizes (d .original) is (d .text)) _ e .1 in
       let v = then-fine (points 0 (d .text)) _ (then-fine (points 0 (d .original)) _ w .1) .1 in
       numbers-enough 0 (length (d .original)) (edits d) (then-fine (records 0 is) _ v .1)
-
-  -- the length of the replayed text is what is retained and what is inserted
-  pub plain-length : plain d ≡ fine → length (textOf d) ≡ kept (edits d) + added (edits d)
-  unfolding textOf
-  plain-length e = replayed-length (d .original) (edits d) (plain-enough e)
 
   -- covering replay accepts exactly when plain replay accepts and nothing is left
   pub covering-plain : covering d ≡ fine → (plain d ≡ fine) × (left (length (d .original)) (edits d) ≡ 0)

@@ -1,7 +1,7 @@
--- Answers at the start of a room: one put there, one more put where the first ends, and none.
+-- Answers at the start of a room: one put there, and one more put where the first ends.
 -- Each is list arithmetic over `take` and `drop`, for values of any type. Assumes nothing.
-use mathlib.Core.Path.{_≡_, refl}
-use mathlib.Core.List.{List, [], _++_}
+use mathlib.Core.Path.{_≡_}
+use mathlib.Core.List.{List, _++_}
 use Prim.Native.Nat.{_≤_}
 use native.Mathlib.Nat.{zero-add}
 use lib.ListN.{length, drop, length-append, length-drop}
@@ -18,10 +18,6 @@ at-start s d = rw (zero-add (length s))
 pub one-more : {A : Type 0} (s t d : List A) → placed (answered s d) (length s) t ≡ answered (s ++ t) d
 unfolding placed
 one-more s t d = rw (take-append-seam s (drop (length s) d), drop-append-add s (drop (length s) d) (length t), drop-drop, length-append)
-
--- an empty answer leaves the room as it was
-pub nothing : {A : Type 0} (d : List A) → answered [] d ≡ d
-nothing d = refl
 
 -- the room past an answer is unchanged
 pub past : {A : Type 0} (s d : List A) → drop (length s) (answered s d) ≡ drop (length s) d
