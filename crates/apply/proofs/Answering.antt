@@ -16,14 +16,16 @@ use Rattle.records.proofs.Cursors as cursors
 use Rattle.cursors.specs.Sorted.{sorted}
 use Rattle.cursors.proofs.Sinks.{length-sorted}
 use Rattle.sizes.specs.declared.Limits.{Limits}
-use Rattle.verdict.specs.declared.Verdict.{Verdict}
 use Rattle.verdict.specs.declared.Verdict.the-variants.{Accepted, Refused}
-use Rattle.sizes.specs.Texts.{total, textLength}
+use Rattle.sizes.specs.Texts.{total, insertedBy, textLength}
 use Rattle.sizes.specs.Sizes.{otherwise}
-use Rattle.checks.specs.Lists.{listVerdict}
+use Rattle.checks.specs.declared.Checked.{Checked}
+use Rattle.checks.specs.declared.Checked.the-variants.{Sums, Refused as No}
+use Rattle.checks.specs.Lists.{listVerdict, checkedOf}
 use Rattle.shapes.specs.Accepted.{AcceptedList}
 use Rattle.shapes.proofs.Accepted.{text-most}
 use Rattle.checks.proofs.Accepted.{accepted-list}
+use Rattle.checks.proofs.Telling.{says-no, says-yes, says-second}
 use Rattle.verdict.proofs.Bools.{and-left, and-right}
 use Rattle.merging.specs.Lent.{Lent}
 use Rattle.merging.specs.Outputs.{historyText, flatSpans}
@@ -36,20 +38,32 @@ use Rattle.apply.proofs.Lists.{history-is, length-history, length-spans
 
 -- verdicts
 
--- the verdict that the check gave
-pub judged : (lent : Lent) (os : List Operation) (cs : List Cursor) (l : Limits) (v w : Verdict) → l ≡ otherwise
-    → v ≡ listVerdict l (lent .original) (lent .inserted) (lent .spans) (lent .keys) os cs → v ≡ w → verdictOn lent os cs ≡ w
-unfolding verdictOn
-judged lent os cs l v w e f g = rw e at (sym f) ∙ g
+-- what the check gave
+abbrev Checks : Lent → List Operation → List Cursor → Limits → Checked → Type 0
+Checks lent os cs l x =
+    x
+    ≡ checkedOf (listVerdict l (lent .original) (lent .inserted) (lent .spans) (lent .keys) os cs) (total (insertedBy (length (lent .inserted)) (lent .spans) (lent .keys)) os)
+    (textLength (length (lent .inserted)) (lent .spans) (lent .keys) os)
+
+module _ (lent : Lent) (os : List Operation) (cs : List Cursor) {l : Limits} {x : Checked} (e : l ≡ otherwise) (f : Checks lent os cs l x) where
+  pub judged-no : (r : Refusal) → x ≡ No r → verdictOn lent os cs ≡ Refused r
+  unfolding verdictOn
+  judged-no r g = says-no _ _ _ _ (sym (rw e at f) ∙ g)
+
+  pub judged-yes : (n t : ℕ) → x ≡ Sums n t → verdictOn lent os cs ≡ Accepted
+  unfolding verdictOn
+  judged-yes n t g = says-yes _ _ _ _ _ (sym (rw e at f) ∙ g)
+
+  pub text-told : (n t : ℕ) → x ≡ Sums n t → t ≡ textLength (length (lent .inserted)) (lent .spans) (lent .keys) os
+  text-told n t g = says-second _ _ _ _ _ (sym f ∙ g)
 
 -- where no cursors are lent
 none-lent : (xs : List ℕ) → cursorsOf (take 0 xs) ≡ []
 unfolding cursorsOf cursorsFrom
 none-lent xs = refl
 
-pub judged-none : (lent : Lent) (os : List Operation) (xs : List ℕ) (l : Limits) (v w : Verdict) → l ≡ otherwise
-    → v ≡ listVerdict l (lent .original) (lent .inserted) (lent .spans) (lent .keys) os (cursorsOf (take 0 xs)) → v ≡ w → verdictOn lent os [] ≡ w
-judged-none lent os xs l v w e f g = judged lent os [] l v w e (rw (none-lent xs) at f) g
+pub checks-none : (lent : Lent) (os : List Operation) (xs : List ℕ) (l : Limits) {x : Checked} → Checks lent os (cursorsOf (take 0 xs)) l x → Checks lent os [] l x
+checks-none lent os xs l f = rw (none-lent xs) at f
 
 module _ (lent : Lent) (os : List Operation) where
   abbrev n : ℕ
@@ -64,16 +78,13 @@ module _ (lent : Lent) (os : List Operation) where
     all-lies = lists-lie lent otherwise os cs accepted
 
     -- the counts that the code sums
-    text-counted : (t : ℕ) → t ≡ min 1000000 (textLength n (lent .spans) (lent .keys) os) → t ≡ length (textOn lent os)
-    text-counted t e =
-        omega (
-          arith,
-          e,
-          text-count lent otherwise os cs accepted,
-          text-most otherwise (lent .original) (lent .inserted) (lent .spans) (lent .keys) os cs accepted,
-        )
+    text-counted : (t : ℕ) → t ≡ textLength n (lent .spans) (lent .keys) os → t ≡ length (textOn lent os)
+    text-counted t e = omega (arith, e, text-count lent otherwise os cs accepted)
 
-    told-counted : (t g : ℕ) → t ≡ min 1000000 (textLength n (lent .spans) (lent .keys) os) → g ≡ min 1000000 (total removedBy os)
+    pub text-low : (t : ℕ) → t ≡ textLength n (lent .spans) (lent .keys) os → t ≤ 1000000
+    text-low t e = omega (arith, e, text-most otherwise (lent .original) (lent .inserted) (lent .spans) (lent .keys) os cs accepted)
+
+    told-counted : (t g : ℕ) → t ≡ textLength n (lent .spans) (lent .keys) os → g ≡ min 1000000 (total removedBy os)
         → t + g ≡ length (historyText (historyOn lent os))
     told-counted t g e f =
         omega (arith, text-counted t e, f, removed-most lent otherwise os cs accepted, told-length lent otherwise os cs accepted)
@@ -128,7 +139,7 @@ module _ (lent : Lent) (os : List Operation) (cs : List Cursor) where
   pub lengths-refuse : (r : Refusal) → verdictOn lent os cs ≡ Refused r → A.Refused r ≡ applied (verdictOn lent os cs) (length (textOn lent os)) (length (sorted cs))
   lengths-refuse r e = rw e
 
-  pub lengths-count : (t k : ℕ) → verdictOn lent os cs ≡ Accepted → t ≡ min 1000000 (textLength (length (lent .inserted)) (lent .spans) (lent .keys) os)
+  pub lengths-count : (t k : ℕ) → verdictOn lent os cs ≡ Accepted → t ≡ textLength (length (lent .inserted)) (lent .spans) (lent .keys) os
       → k ≡ length cs → A.Counts t k ≡ applied (verdictOn lent os cs) (length (textOn lent os)) (length (sorted cs))
   lengths-count t k v e f = rw (v, text-counted lent os cs v t e, f, length-sorted cs)
 
@@ -138,7 +149,7 @@ module _ (lent : Lent) (os : List Operation) where
   told-refuse r e = rw e
 
   pub told-count : (k t g : ℕ) → verdictOn lent os [] ≡ Accepted → k ≡ length os
-      → t ≡ min 1000000 (textLength (length (lent .inserted)) (lent .spans) (lent .keys) os) → g ≡ min 1000000 (total removedBy os)
+      → t ≡ textLength (length (lent .inserted)) (lent .spans) (lent .keys) os → g ≡ min 1000000 (total removedBy os)
       → H.Counts k (t + g) ≡ told (verdictOn lent os []) (length (historyOn lent os)) (length (historyText (historyOn lent os)))
   told-count k t g v e f h = rw (v, spans-counted lent os k e, told-counted lent os [] v t g f h)
 
@@ -148,7 +159,7 @@ module _ (lent : Lent) (os : List Operation) (cs : List Cursor) where
       ≡ toldAll (verdictOn lent os cs) (length (textOn lent os)) (length (sorted cs)) (length (historyOn lent os)) (length (historyText (historyOn lent os)))
   all-refuse r e = rw e
 
-  pub all-count : (t c k g : ℕ) → verdictOn lent os cs ≡ Accepted → t ≡ min 1000000 (textLength (length (lent .inserted)) (lent .spans) (lent .keys) os)
+  pub all-count : (t c k g : ℕ) → verdictOn lent os cs ≡ Accepted → t ≡ textLength (length (lent .inserted)) (lent .spans) (lent .keys) os
       → c ≡ length cs → k ≡ length os → g ≡ min 1000000 (total removedBy os)
       → B.Counts t c k (t + g)
       ≡ toldAll (verdictOn lent os cs) (length (textOn lent os)) (length (sorted cs)) (length (historyOn lent os)) (length (historyText (historyOn lent os)))

@@ -45,15 +45,15 @@ pub fn apply_lengths(
     ensures { λ r. ⌜ r ≡ applied (verdictOn (lentOf (now (original .entry)) (now (text .entry)) (now (spans .entry)) (now (keys .entry))) (operationsOf (now (operations .entry))) (cursorsOf (now (cursors .entry)))) (length (textOn (lentOf (now (original .entry)) (now (text .entry)) (now (spans .entry)) (now (keys .entry))) (operationsOf (now (operations .entry))))) (length (sorted (cursorsOf (now (cursors .entry))))) ⌝ }
 {
     let limits = sizes::other_limits();
-    match checks::check_list(limits, original, text, spans, keys, operations, cursors) {
-        verdict::Verdict::Refused(refusal) => Applied::Refused(refusal),
-        verdict::Verdict::Accepted => {
-            let written = sizes::text_length(spans, keys, text.len(), operations);
-            Applied::Counts {
-                text: written,
-                cursors: cursors.len() / 2,
-            }
-        }
+    match checks::sum_list(limits, original, text, spans, keys, operations, cursors) {
+        checks::Checked::Refused(refusal) => Applied::Refused(refusal),
+        checks::Checked::Sums {
+            first: _,
+            second: written,
+        } => Applied::Counts {
+            text: written,
+            cursors: cursors.len() / 2,
+        },
     }
 }
 
@@ -69,10 +69,12 @@ pub fn apply_with_history_lengths(
 {
     let limits = sizes::other_limits();
     let none = &operations[..0];
-    match checks::check_list(limits, original, text, spans, keys, operations, none) {
-        verdict::Verdict::Refused(refusal) => WithHistory::Refused(refusal),
-        verdict::Verdict::Accepted => {
-            let written = sizes::text_length(spans, keys, text.len(), operations);
+    match checks::sum_list(limits, original, text, spans, keys, operations, none) {
+        checks::Checked::Refused(refusal) => WithHistory::Refused(refusal),
+        checks::Checked::Sums {
+            first: _,
+            second: written,
+        } => {
             let gone = written_lists::removed(operations);
             WithHistory::Counts {
                 spans: operations.len() / 6,
@@ -94,10 +96,12 @@ pub fn apply_with_all_lengths(
     ensures { λ r. ⌜ r ≡ toldAll (verdictOn (lentOf (now (original .entry)) (now (text .entry)) (now (spans .entry)) (now (keys .entry))) (operationsOf (now (operations .entry))) (cursorsOf (now (cursors .entry)))) (length (textOn (lentOf (now (original .entry)) (now (text .entry)) (now (spans .entry)) (now (keys .entry))) (operationsOf (now (operations .entry))))) (length (sorted (cursorsOf (now (cursors .entry))))) (length (historyOn (lentOf (now (original .entry)) (now (text .entry)) (now (spans .entry)) (now (keys .entry))) (operationsOf (now (operations .entry))))) (length (historyText (historyOn (lentOf (now (original .entry)) (now (text .entry)) (now (spans .entry)) (now (keys .entry))) (operationsOf (now (operations .entry)))))) ⌝ }
 {
     let limits = sizes::other_limits();
-    match checks::check_list(limits, original, text, spans, keys, operations, cursors) {
-        verdict::Verdict::Refused(refusal) => WithAll::Refused(refusal),
-        verdict::Verdict::Accepted => {
-            let written = sizes::text_length(spans, keys, text.len(), operations);
+    match checks::sum_list(limits, original, text, spans, keys, operations, cursors) {
+        checks::Checked::Refused(refusal) => WithAll::Refused(refusal),
+        checks::Checked::Sums {
+            first: _,
+            second: written,
+        } => {
             let gone = written_lists::removed(operations);
             WithAll::Counts {
                 text: written,

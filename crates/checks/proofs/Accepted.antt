@@ -19,7 +19,7 @@ use Rattle.sizes.specs.Texts.{total, claimedBy, insertedBy, textLength}
 use Rattle.sizes.specs.Sizes.{Small, lentFits, listFits}
 use Rattle.sizes.proofs.Sums.{cap}
 use Rattle.shapes.specs.Accepted.{AcceptedList}
-use Rattle.shapes.proofs.Accepted.{list-facts, records-yes, tiling-yes, within-yes}
+use Rattle.shapes.proofs.Accepted.{list-facts, text-most, records-yes, tiling-yes, within-yes}
 use Rattle.checks.specs.Lists.{listVerdict, listsVerdict}
 
 module _ (l : Limits) (original text spans keys : List ℕ) (os : List Operation) (cs : List Cursor) where
@@ -34,10 +34,14 @@ module _ (l : Limits) (original text spans keys : List ℕ) (os : List Operation
       (and-right (lentFits original text) (listFits l m spans keys os cs) s)
       (first-passed _ _ p) (first-passed _ _ q) (rest-passed _ _ q)
 
-  -- the text that an accepted list inserts is below the cap
-  pub text-known : (x : ℕ) → Small l → listVerdict l original text spans keys os cs ≡ Accepted → x ≡ min cap (total (insertedBy (length text) spans keys) os)
+  -- the lengths of an accepted list's texts are below the cap
+  pub inserted-known : (x : ℕ) → Small l → listVerdict l original text spans keys os cs ≡ Accepted → x ≡ min cap (total (insertedBy (length text) spans keys) os)
       → x ≡ total (insertedBy (length text) spans keys) os
-  text-known x s h e = omega (arith, accepted-list h .inserted-most, s .text)
+  inserted-known x s h e = omega (arith, accepted-list h .inserted-most, s .text)
+
+  pub text-known : (x : ℕ) → Small l → listVerdict l original text spans keys os cs ≡ Accepted → x ≡ min cap (textLength (length text) spans keys os)
+      → x ≡ textLength (length text) spans keys os
+  text-known x s h e = omega (arith, s .text, text-most l original text spans keys os cs (accepted-list h))
 
   pub verdict-yes : AcceptedList l original text spans keys os cs → pointsVerdict original text ≡ Accepted
       → listVerdict l original text spans keys os cs ≡ Accepted
@@ -85,3 +89,10 @@ module _ (l : Limits) (original text spans keys : List ℕ) (ls rs : List Operat
       let q = rest-passed _ _ p in
       list-facts l original text spans keys rs rcs lent (and-right (listFits l (length text) spans keys ls lcs) (listFits l (length text) spans keys rs rcs) both)
       (rest-passed _ _ (first-passed _ _ p)) (rest-passed _ _ (first-passed _ _ q)) (rest-passed _ _ (rest-passed _ _ q))
+
+  -- the tokens that accepted lists insert are below the cap
+  pub left-claims : (x : ℕ) → Small l → x ≡ min cap (total claimedBy ls) → x ≡ total claimedBy ls
+  left-claims x s e = omega (arith, accepted-left .tokens-most, s .tokens)
+
+  pub right-claims : (x : ℕ) → Small l → x ≡ min cap (total claimedBy rs) → x ≡ total claimedBy rs
+  right-claims x s e = omega (arith, accepted-right .tokens-most, s .tokens)

@@ -1,5 +1,5 @@
 -- A chain of checks as the code goes through it: what each check answered, and where the chain ends.
--- By the definitions of `andThen` and `sized`. Assumes nothing.
+-- By the laws of chains, over what the code has tested. Assumes nothing.
 use Prim.Native.Nat.{ℕ, _<_}
 use mathlib.Core.Path.{_≡_, sym, _∙_}
 use mathlib.Core.Bool.{Bool, true, false, not, _&&_}
@@ -13,8 +13,8 @@ use Rattle.records.specs.declared.Cursor.{Cursor}
 use Rattle.verdict.specs.declared.Verdict.{Verdict}
 use Rattle.verdict.specs.declared.Verdict.the-variants.{Accepted, Refused}
 use Rattle.verdict.specs.Verdicts.{andThen, sized}
-use Rattle.verdict.proofs.Bools.{and-left, and-right}
-use Rattle.verdict.proofs.Chains.{first-passed, rest-passed}
+use Rattle.verdict.proofs.Bools.{and-left, and-right, second-no, both-yes}
+use Rattle.verdict.proofs.Chains.{stops, goes-on, too-big, fits, first-passed, rest-passed}
 use Rattle.sizes.specs.declared.Limits.{Limits}
 use Rattle.sizes.specs.Texts.{textLength}
 use Rattle.sizes.specs.Sizes.{Small, lentFits, listFits}
@@ -22,22 +22,18 @@ use Rattle.shapes.specs.Tiling.{tilingOf}
 use Rattle.shapes.proofs.Accepted.{text-small}
 
 -- the sizes of the texts are kept, x, and those of the lists were asked
-pub size-refused : (w : Verdict) {x y z : Bool} → x ≡ true → z ≡ y → not z ≡ true → Refused Size ≡ andThen (sized (x && y)) w
-unfolding andThen sized
-size-refused w {z = z} f e n = rw (f, ← e, not-true z n)
+pub sizes-refuse : (w : Verdict) {x y z : Bool} → x ≡ true → z ≡ y → not z ≡ true → Refused Size ≡ andThen (sized (x && y)) w
+sizes-refuse w f e n = too-big _ w (second-no _ _ f (sym e ∙ not-true _ n))
 
-pub size-passed : {x y z : Bool} {v w : Verdict} → x ≡ true → z ≡ y → not z ≡ false → v ≡ w → v ≡ andThen (sized (x && y)) w
-unfolding andThen sized
-size-passed {z = z} f e n k = rw (f, ← e, not-false z n) k
+pub sizes-pass : {x y z : Bool} {v w : Verdict} → x ≡ true → z ≡ y → not z ≡ false → v ≡ w → v ≡ andThen (sized (x && y)) w
+sizes-pass f e n k = fits _ _ _ (both-yes _ _ f (sym e ∙ not-false _ n)) k
 
 -- a check answered u
-pub check-refused : (w : Verdict) {u a : Verdict} {r : Refusal} → u ≡ a → u ≡ Refused r → Refused r ≡ andThen a w
-unfolding andThen
-check-refused w e g = rw (sym e ∙ g)
+pub check-refuses : (w : Verdict) {u a : Verdict} {r : Refusal} → u ≡ a → u ≡ Refused r → Refused r ≡ andThen a w
+check-refuses w e g = stops _ w _ (sym e ∙ g)
 
-pub check-passed : {u a v w : Verdict} → u ≡ a → u ≡ Accepted → v ≡ w → v ≡ andThen a w
-unfolding andThen
-check-passed e g k = rw (sym e ∙ g) k
+pub check-passes : {u a v w : Verdict} → u ≡ a → u ≡ Accepted → v ≡ w → v ≡ andThen a w
+check-passes e g k = goes-on _ _ _ (sym e ∙ g) k
 
 -- two sized lists that tile have texts below the cap of the code's sums
 module _ (original text spans keys : List ℕ) (ls rs : List Operation) (lcs rcs : List Cursor) {l : Limits} (s : Small l) (f : lentFits original text ≡ true)

@@ -124,11 +124,12 @@ module _ {l : Limits} {n m : ℕ} {spans keys xs : List ℕ} {count i at tokens 
         }
 
   pub passed : Small l → n ≤ 65535 → count ≤ i → at ≡ n
-      → Summed l n m spans keys (operationsOf xs) (record { good = true; inserted = inserted; retained = retained })
+      → Summed l n m spans keys (operationsOf xs) (record { good = true; tokens = tokens; inserted = inserted; retained = retained })
   passed small few j q =
       record {
         tokens = omega (arith, totals-end (h .claims) j, h .few, small .tokens);
         text = omega (arith, totals-end (h .adds) j, h .short, small .text);
+        claimed = omega (arith, totals-end (h .claims) j, h .few, small .tokens);
         inserted = omega (arith, totals-end (h .adds) j, h .short, small .text);
         retained = omega (arith, totals-end (h .keeps) j, h .kept);
         few = omega (arith, h .kept);
@@ -137,10 +138,10 @@ module _ {l : Limits} {n m : ℕ} {spans keys xs : List ℕ} {count i at tokens 
       }
 
 -- the sizes and the cursors, behind a pass
-pub good-list : (l : Limits) (n m : ℕ) (spans keys xs ys : List ℕ) (p : Pass) (v : Verdict) → length xs / 6 ≤ l .operations → length ys / 2 ≤ l .cursors
+pub good-list : (l : Limits) (n m : ℕ) (spans keys xs ys : List ℕ) (p : Pass) (v : Verdict) → Small l → n ≤ 65535 → length xs / 6 ≤ l .operations → length ys / 2 ≤ l .cursors
     → Summed l n m spans keys (operationsOf xs) p → v ≡ withinFrom (p .retained + p .inserted) (cursorsOf ys) 0 → v ≡ Accepted
     → Good l n m spans keys (operationsOf xs) (cursorsOf ys) p
-good-list l n m spans keys xs ys p v a b h e f =
+good-list l n m spans keys xs ys p v s k a b h e f =
     record {
       fits =
           rw (
@@ -152,7 +153,10 @@ good-list l n m spans keys xs ys p v a b h e f =
       records = sym (h .records);
       tiles = sym (h .tiles);
       within = rw (h .retained, h .inserted) at (sym e ∙ f);
+      claimed = h .claimed;
       inserted = h .inserted;
+      text = rw (h .retained, h .inserted);
+      small = omega (arith, h .few, h .inserted, h .text, s .text);
     }
 
 pub lent-few : (original text : List ℕ) → lentFits original text ≡ true → length original ≤ 65535

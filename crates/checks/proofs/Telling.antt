@@ -1,33 +1,38 @@
--- A verdict with the text of an accepted list beside it: how it is made, and what it says.
+-- A verdict with two sums of what is accepted beside it: how it is made, and what it says.
 -- By the verdict. Assumes nothing.
 use Prim.Native.Nat.{ℕ}
 use mathlib.Core.Path.{_≡_, refl}
 use Rattle.refusal.specs.declared.Refusal.{Refusal}
 use Rattle.verdict.specs.declared.Verdict.{Verdict}
 use Rattle.verdict.specs.declared.Verdict.the-variants.{Accepted, Refused}
-use Rattle.checks.specs.declared.Checked.the-variants.{Inserted, Refused as No}
+use Rattle.checks.specs.declared.Checked.the-variants.{Sums, Refused as No}
 use Rattle.checks.specs.Lists.{checkedOf}
 
-module _ (v : Verdict) (n : ℕ) where
-  pub told-no : (r : Refusal) → v ≡ Refused r → No r ≡ checkedOf v n
+module _ (v : Verdict) (n t : ℕ) where
+  pub told-no : (r : Refusal) → v ≡ Refused r → No r ≡ checkedOf v n t
   unfolding checkedOf
   told-no r e = rw e
 
-  pub told-yes : (x : ℕ) → v ≡ Accepted → x ≡ n → Inserted x ≡ checkedOf v n
+  pub told-yes : (x y : ℕ) → v ≡ Accepted → x ≡ n → y ≡ t → Sums x y ≡ checkedOf v n t
   unfolding checkedOf
-  told-yes x e f = rw (e, f)
+  told-yes x y e f g = rw (e, f, g)
 
-pub says-no : (v : Verdict) (n : ℕ) (r : Refusal) → checkedOf v n ≡ No r → v ≡ Refused r
+pub says-no : (v : Verdict) (n t : ℕ) (r : Refusal) → checkedOf v n t ≡ No r → v ≡ Refused r
 unfolding checkedOf
-says-no Accepted n r h = cc
-says-no (Refused q) n r h = cc
+says-no Accepted n t r h = cc
+says-no (Refused q) n t r h = cc
 
-pub says-yes : (v : Verdict) (n x : ℕ) → checkedOf v n ≡ Inserted x → v ≡ Accepted
+pub says-yes : (v : Verdict) (n t x y : ℕ) → checkedOf v n t ≡ Sums x y → v ≡ Accepted
 unfolding checkedOf
-says-yes Accepted n x h = refl
-says-yes (Refused q) n x h = cc
+says-yes Accepted n t x y h = refl
+says-yes (Refused q) n t x y h = cc
 
-pub says-text : (v : Verdict) (n x : ℕ) → checkedOf v n ≡ Inserted x → x ≡ n
+pub says-first : (v : Verdict) (n t x y : ℕ) → checkedOf v n t ≡ Sums x y → x ≡ n
 unfolding checkedOf
-says-text Accepted n x h = cc
-says-text (Refused q) n x h = cc
+says-first Accepted n t x y h = cc
+says-first (Refused q) n t x y h = cc
+
+pub says-second : (v : Verdict) (n t x y : ℕ) → checkedOf v n t ≡ Sums x y → y ≡ t
+unfolding checkedOf
+says-second Accepted n t x y h = cc
+says-second (Refused q) n t x y h = cc

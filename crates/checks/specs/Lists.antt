@@ -9,7 +9,7 @@ use Rattle.verdict.specs.declared.Verdict.{Verdict}
 use Rattle.verdict.specs.declared.Verdict.the-variants.{Accepted, Refused}
 use Rattle.sizes.specs.declared.Limits.{Limits}
 use Rattle.checks.specs.declared.Checked.{Checked}
-use Rattle.checks.specs.declared.Checked.the-variants.{Inserted, Refused as No}
+use Rattle.checks.specs.declared.Checked.the-variants.{Sums, Refused as No}
 use Rattle.verdict.specs.Verdicts.{andThen, sized}
 use Rattle.verdict.specs.Points.{pointsVerdict}
 use Rattle.sizes.specs.Texts.{textLength}
@@ -38,7 +38,7 @@ listsVerdict l original text spans keys left right leftCursors rightCursors =
     (andThen (withinFrom (textLength (length text) spans keys left) leftCursors 0)
     (withinFrom (textLength (length text) spans keys right) rightCursors 0)))))
 
--- a verdict with the text that an accepted list inserts beside it
-unfoldable pub checkedOf : Verdict → ℕ → Checked
-checkedOf Accepted n = Inserted n
-checkedOf (Refused r) n = No r
+-- a verdict with two sums of what is accepted beside it
+unfoldable pub checkedOf : Verdict → ℕ → ℕ → Checked
+checkedOf Accepted n t = Sums n t
+checkedOf (Refused r) n t = No r

@@ -9,7 +9,7 @@ ghost use Rattle.records.specs.Tokens.{tokensLent, tokensFrom};
 ghost use Rattle.records.specs.Cursors.{cursorsOf};
 ghost use mathlib.Core.Bool.{true, false};
 ghost use lib.ListN.{length};
-ghost use Rattle.sizes.specs.Texts.{total, insertedBy};
+ghost use Rattle.sizes.specs.Texts.{total, claimedBy, insertedBy, textLength};
 ghost use Rattle.sizes.specs.Sizes.{Small, lentFits};
 ghost use Rattle.checks.specs.Lists.{listVerdict, listsVerdict, checkedOf};
 ghost use Rattle.checks.specs.Passing.{Whole, Inserts, Summed, Good};
@@ -149,10 +149,11 @@ fn pass_insert(spans: &[u32], keys: &[u32], n: usize, o: records::Operation) -> 
     pass_run(spans, keys, n, o.first, o.count)
 }
 
-// What one pass over a list's operations sums up: the text that it inserts, and the original that it
-// retains; or that it may have found something to refuse.
+// What one pass over a list's operations sums up: the tokens and the text that it inserts, and the
+// original that it retains; or that it may have found something to refuse.
 struct Pass {
     good: bool,
+    tokens: usize,
     inserted: usize,
     retained: usize,
 }
@@ -162,6 +163,7 @@ fn no_pass() -> Pass
 {
     Pass {
         good: false,
+        tokens: 0,
         inserted: 0,
         retained: 0,
     }
@@ -227,6 +229,7 @@ fn pass_list(
     if at == n {
         return Pass {
             good: true,
+            tokens,
             inserted,
             retained,
         };
@@ -265,9 +268,10 @@ fn good_sums(
     }
 }
 
-// The verdict on a list, and of one that is accepted how much text it inserts.
+// The verdict with two sums of what is accepted: of one list how much text it inserts and how long its
+// text is, of the two of a merge how many tokens each inserts.
 pub enum Checked {
-    Inserted(usize),
+    Sums { first: usize, second: usize },
     Refused(refusal::Refusal),
 }
 
@@ -282,18 +286,22 @@ fn judge_sums(
     cursors: &[usize],
 ) -> Checked
     requires { ⌜ Small limits × (lentFits (now original) (now text) ≡ true) ⌝ }
-    ensures { λ r. ⌜ r ≡ checkedOf (listVerdict limits (now (original .entry)) (now (text .entry)) (now (spans .entry)) (now (keys .entry)) (operationsOf (now (operations .entry))) (cursorsOf (now (cursors .entry)))) (total (insertedBy (length (now (text .entry))) (now (spans .entry)) (now (keys .entry))) (operationsOf (now (operations .entry)))) ⌝ }
+    ensures { λ r. ⌜ r ≡ checkedOf (listVerdict limits (now (original .entry)) (now (text .entry)) (now (spans .entry)) (now (keys .entry)) (operationsOf (now (operations .entry))) (cursorsOf (now (cursors .entry)))) (total (insertedBy (length (now (text .entry))) (now (spans .entry)) (now (keys .entry))) (operationsOf (now (operations .entry)))) (textLength (length (now (text .entry))) (now (spans .entry)) (now (keys .entry)) (operationsOf (now (operations .entry)))) ⌝ }
 {
     match judge_list(limits, original, text, spans, keys, operations, cursors) {
         Verdict::Refused(refusal) => Checked::Refused(refusal),
         Verdict::Accepted => {
             let inserted = sizes::inserted(spans, keys, text.len(), operations);
-            Checked::Inserted(inserted)
+            let written = sizes::text_length(spans, keys, text.len(), operations);
+            Checked::Sums {
+                first: inserted,
+                second: written,
+            }
         }
     }
 }
 
-// Refusals 3, 4, 1, 2 and 5 of one list, in this order, or how much text it inserts. One pass mostly
+// Refusals 3, 4, 1, 2 and 5 of one list, in this order, or the lengths of its texts. One pass mostly
 // shows that there is none.
 pub fn sum_list(
     limits: Limits,
@@ -305,7 +313,7 @@ pub fn sum_list(
     cursors: &[usize],
 ) -> Checked
     requires { ⌜ Small limits ⌝ }
-    ensures { λ r. ⌜ r ≡ checkedOf (listVerdict limits (now (original .entry)) (now (text .entry)) (now (spans .entry)) (now (keys .entry)) (operationsOf (now (operations .entry))) (cursorsOf (now (cursors .entry)))) (total (insertedBy (length (now (text .entry))) (now (spans .entry)) (now (keys .entry))) (operationsOf (now (operations .entry)))) ⌝ }
+    ensures { λ r. ⌜ r ≡ checkedOf (listVerdict limits (now (original .entry)) (now (text .entry)) (now (spans .entry)) (now (keys .entry)) (operationsOf (now (operations .entry))) (cursorsOf (now (cursors .entry)))) (total (insertedBy (length (now (text .entry))) (now (spans .entry)) (now (keys .entry))) (operationsOf (now (operations .entry)))) (textLength (length (now (text .entry))) (now (spans .entry)) (now (keys .entry)) (operationsOf (now (operations .entry)))) ⌝ }
 {
     let n = original.len();
     let m = text.len();
@@ -318,7 +326,13 @@ pub fn sum_list(
     }
     match verdict::check_texts(original, text) {
         Verdict::Refused(refusal) => Checked::Refused(refusal),
-        Verdict::Accepted => Checked::Inserted(sums.inserted),
+        Verdict::Accepted => {
+            let written = sums.retained + sums.inserted;
+            Checked::Sums {
+                first: sums.inserted,
+                second: written,
+            }
+        }
     }
 }
 
@@ -337,12 +351,107 @@ pub fn check_list(
 {
     match sum_list(limits, original, text, spans, keys, operations, cursors) {
         Checked::Refused(refusal) => Verdict::Refused(refusal),
-        Checked::Inserted(inserted) => Verdict::Accepted,
+        Checked::Sums {
+            first: inserted,
+            second: written,
+        } => Verdict::Accepted,
     }
 }
 
-// Refusals 3, 4, 1, 2 and 5 of the two lists of a merge, each on both before the next. One
-// pass over each list mostly shows that there is none.
+// Those of the two lists of a merge, with the tokens that each inserts, check by check.
+fn judge_claims(
+    limits: Limits,
+    original: &[u32],
+    text: &[u32],
+    spans: &[u32],
+    keys: &[u32],
+    left: &[usize],
+    right: &[usize],
+    left_cursors: &[usize],
+    right_cursors: &[usize],
+) -> Checked
+    requires { ⌜ Small limits × (lentFits (now original) (now text) ≡ true) ⌝ }
+    ensures { λ r. ⌜ r ≡ checkedOf (listsVerdict limits (now (original .entry)) (now (text .entry)) (now (spans .entry)) (now (keys .entry)) (operationsOf (now (left .entry))) (operationsOf (now (right .entry))) (cursorsOf (now («left_cursors» .entry))) (cursorsOf (now («right_cursors» .entry)))) (total claimedBy (operationsOf (now (left .entry)))) (total claimedBy (operationsOf (now (right .entry)))) ⌝ }
+{
+    match judge_lists(
+        limits,
+        original,
+        text,
+        spans,
+        keys,
+        left,
+        right,
+        left_cursors,
+        right_cursors,
+    ) {
+        Verdict::Refused(refusal) => Checked::Refused(refusal),
+        Verdict::Accepted => {
+            let first = sizes::claimed(left);
+            let second = sizes::claimed(right);
+            Checked::Sums { first, second }
+        }
+    }
+}
+
+// Refusals 3, 4, 1, 2 and 5 of the two lists of a merge, each on both before the next, or how many
+// tokens each inserts. One pass over each list mostly shows that there is none.
+pub fn sum_lists(
+    limits: Limits,
+    original: &[u32],
+    text: &[u32],
+    spans: &[u32],
+    keys: &[u32],
+    left: &[usize],
+    right: &[usize],
+    left_cursors: &[usize],
+    right_cursors: &[usize],
+) -> Checked
+    requires { ⌜ Small limits ⌝ }
+    ensures { λ r. ⌜ r ≡ checkedOf (listsVerdict limits (now (original .entry)) (now (text .entry)) (now (spans .entry)) (now (keys .entry)) (operationsOf (now (left .entry))) (operationsOf (now (right .entry))) (cursorsOf (now («left_cursors» .entry))) (cursorsOf (now («right_cursors» .entry)))) (total claimedBy (operationsOf (now (left .entry)))) (total claimedBy (operationsOf (now (right .entry)))) ⌝ }
+{
+    let n = original.len();
+    let m = text.len();
+    if !sizes::lent_fits(original, text) {
+        return Checked::Refused(refusal::Refusal::Size);
+    }
+    let left_sums = good_sums(limits, n, m, spans, keys, left, left_cursors);
+    if !left_sums.good {
+        return judge_claims(
+            limits,
+            original,
+            text,
+            spans,
+            keys,
+            left,
+            right,
+            left_cursors,
+            right_cursors,
+        );
+    }
+    let right_sums = good_sums(limits, n, m, spans, keys, right, right_cursors);
+    if !right_sums.good {
+        return judge_claims(
+            limits,
+            original,
+            text,
+            spans,
+            keys,
+            left,
+            right,
+            left_cursors,
+            right_cursors,
+        );
+    }
+    match verdict::check_texts(original, text) {
+        Verdict::Refused(refusal) => Checked::Refused(refusal),
+        Verdict::Accepted => Checked::Sums {
+            first: left_sums.tokens,
+            second: right_sums.tokens,
+        },
+    }
+}
+
+// Refusals 3, 4, 1, 2 and 5 of the two lists of a merge, each on both before the next.
 pub fn check_lists(
     limits: Limits,
     original: &[u32],
@@ -357,38 +466,18 @@ pub fn check_lists(
     requires { ⌜ Small limits ⌝ }
     ensures { λ r. ⌜ r ≡ listsVerdict limits (now (original .entry)) (now (text .entry)) (now (spans .entry)) (now (keys .entry)) (operationsOf (now (left .entry))) (operationsOf (now (right .entry))) (cursorsOf (now («left_cursors» .entry))) (cursorsOf (now («right_cursors» .entry))) ⌝ }
 {
-    let n = original.len();
-    let m = text.len();
-    if !sizes::lent_fits(original, text) {
-        return Verdict::Refused(refusal::Refusal::Size);
+    match sum_lists(
+        limits,
+        original,
+        text,
+        spans,
+        keys,
+        left,
+        right,
+        left_cursors,
+        right_cursors,
+    ) {
+        Checked::Refused(refusal) => Verdict::Refused(refusal),
+        Checked::Sums { first, second } => Verdict::Accepted,
     }
-    let left_sums = good_sums(limits, n, m, spans, keys, left, left_cursors);
-    if !left_sums.good {
-        return judge_lists(
-            limits,
-            original,
-            text,
-            spans,
-            keys,
-            left,
-            right,
-            left_cursors,
-            right_cursors,
-        );
-    }
-    let right_sums = good_sums(limits, n, m, spans, keys, right, right_cursors);
-    if !right_sums.good {
-        return judge_lists(
-            limits,
-            original,
-            text,
-            spans,
-            keys,
-            left,
-            right,
-            left_cursors,
-            right_cursors,
-        );
-    }
-    verdict::check_texts(original, text)
 }

@@ -110,7 +110,7 @@ pub fn merge(
     ensures { λ r. ⌜ MergedBy (now (original .entry)) (now (text .entry)) (now (spans .entry)) (now (keys .entry)) (now (left .entry)) (now (right .entry)) (now («left_cursors» .entry)) (now («right_cursors» .entry)) (now (operations .entry)) (now (operations .exit)) (now (cursors .entry)) (now (cursors .exit)) (now (work .entry)) (now (work .exit)) r ⌝ }
 {
     let limits = sizes::merging_limits();
-    match checks::check_lists(
+    match checks::sum_lists(
         limits,
         original,
         text,
@@ -121,10 +121,12 @@ pub fn merge(
         left_cursors,
         right_cursors,
     ) {
-        verdict::Verdict::Refused(refusal) => Answer::Refused(refusal),
-        verdict::Verdict::Accepted => {
-            let mid = sizes::claimed(left);
-            let half = mid + sizes::claimed(right);
+        checks::Checked::Refused(refusal) => Answer::Refused(refusal),
+        checks::Checked::Sums {
+            first: mid,
+            second: others,
+        } => {
+            let half = mid + others;
             if !rooms_fit(
                 left.len() / 6 + right.len() / 6,
                 left_cursors.len() / 2 + right_cursors.len() / 2,

@@ -21,7 +21,7 @@ use Rattle.sizes.specs.declared.Limits.{Limits}
 use Rattle.verdict.specs.declared.Verdict.the-variants.{Accepted, Refused}
 use Rattle.verdict.specs.Verdicts.{andThen, roomed}
 use Rattle.verdict.proofs.Bools.{and-left, and-right}
-use Rattle.sizes.specs.Texts.{total, claimedBy, insertedBy}
+use Rattle.sizes.specs.Texts.{total, claimedBy, insertedBy, textLength}
 use Rattle.sizes.specs.Sizes.{otherwise}
 use Rattle.checks.specs.declared.Checked.{Checked}
 use Rattle.checks.specs.Lists.{listVerdict, checkedOf}
@@ -51,7 +51,7 @@ no-cursors [] e = refl
 no-cursors (x ∷ xs) e = absurd (omega arith)
 
 pub checked : (original text spans keys xs : List ℕ) (os : List Operation) (l : Limits) (v : Checked) → l ≡ otherwise → length xs ≡ 0
-    → v ≡ checkedOf (listVerdict l original text spans keys os (cursorsOf xs)) (total (insertedBy (length text) spans keys) os)
+    → v ≡ checkedOf (listVerdict l original text spans keys os (cursorsOf xs)) (total (insertedBy (length text) spans keys) os) (textLength (length text) spans keys os)
     → v ≡ checkedOn (lentOf original text spans keys) os
 unfolding verdictOn
 checked original text spans keys xs os l v e z f = rw (no-cursors xs z, e) at f

@@ -11,7 +11,7 @@ use Rattle.verdict.specs.declared.Verdict.{Verdict}
 use Rattle.verdict.specs.declared.Verdict.the-variants.{Accepted, Refused}
 use Rattle.verdict.specs.Verdicts.{andThen, roomed, leaves}
 use Rattle.sizes.specs.Sizes.{otherwise}
-use Rattle.sizes.specs.Texts.{total, insertedBy}
+use Rattle.sizes.specs.Texts.{total, insertedBy, textLength}
 use Rattle.checks.specs.declared.Checked.{Checked}
 use Rattle.checks.specs.Lists.{listVerdict, checkedOf}
 use Rattle.edit_format.specs.Items.{Item, texts}
@@ -25,9 +25,9 @@ use Rattle.to_diff.specs.Items.{diffOf}
 unfoldable pub verdictOn : Lent → List Operation → Verdict
 verdictOn lent os = listVerdict otherwise (lent .original) (lent .inserted) (lent .spans) (lent .keys) os []
 
--- the same, with the text that an accepted list inserts beside it
+-- the same, with the lengths of an accepted list's texts beside it
 abbrev pub checkedOn : Lent → List Operation → Checked
-checkedOn lent os = checkedOf (verdictOn lent os) (total (insertedBy (length (lent .inserted)) (lent .spans) (lent .keys)) os)
+checkedOn lent os = checkedOf (verdictOn lent os) (total (insertedBy (length (lent .inserted)) (lent .spans) (lent .keys)) os) (textLength (length (lent .inserted)) (lent .spans) (lent .keys) os)
 
 -- "All others: the exact length of the answer": rooms of so many numbers and so many code points; a record is three numbers
 unfoldable pub roomFor : List Item → ℕ → ℕ → Verdict

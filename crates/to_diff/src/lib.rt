@@ -152,7 +152,7 @@ fn write(
     Sizes { items, text: at }
 }
 
-// Refusals 3, 4, 1 and 2 of a list, or how much text it inserts. There are no cursors, so none is
+// Refusals 3, 4, 1 and 2 of a list, or the lengths of its texts. There are no cursors, so none is
 // refused.
 fn check(
     original: &[u32],
@@ -197,7 +197,10 @@ pub fn to_diff_lengths(
 {
     match check(original, text, spans, keys, operations) {
         checks::Checked::Refused(refusal) => Diffed::Refused(refusal),
-        checks::Checked::Inserted(inserted) => {
+        checks::Checked::Sums {
+            first: inserted,
+            second: _,
+        } => {
             let sizes = measure(text, spans, keys, operations);
             Diffed::Counts {
                 items: sizes.items,
@@ -222,7 +225,10 @@ pub fn to_diff(
 {
     match check(original, text, spans, keys, operations) {
         checks::Checked::Refused(refusal) => Diffed::Refused(refusal),
-        checks::Checked::Inserted(inserted) => {
+        checks::Checked::Sums {
+            first: inserted,
+            second: _,
+        } => {
             if ample(operations.len() / 6, inserted, room.len(), out.len()) {
                 let written = write(text, spans, keys, operations, room, out);
                 return Diffed::Counts {

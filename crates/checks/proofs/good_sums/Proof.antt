@@ -56,9 +56,10 @@ returns-4 c =
     let c6 = c4 .before .before in
     let c7 = c6 .before in
     let c9 = c7 .before .before in
-    let a = c9 .before .before .before .before .before .before .args in
+    let c15 = c9 .before .before .before .before .before .before in
+    let a = c15 .args in
     λ e.
-    good-list (a .limits) (a .n) (a .m) (a .spans .now) (a .keys .now) (a .operations .now) (a .cursors .now) (c6 .pass-list .result) _
+    good-list (a .limits) (a .n) (a .m) (a .spans .now) (a .keys .now) (a .operations .now) (a .cursors .now) (c6 .pass-list .result) _ (c15 .pre .0) (c15 .pre .1)
     (c9 .if1 .left) (c7 .if2 .left) (c6 .pass-list .ensures (not-false _ (c4 .if3 .left))) (c2 .check-cursors .ensures) (c .enum-told .given .1)
 
 returns-5 : tie.Need-returns-5

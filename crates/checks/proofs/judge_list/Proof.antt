@@ -1,7 +1,7 @@
 -- `judge_list` gives the verdict on one list.
 -- A chain of checks, by Judging; the sizes and the tiling keep the text below the cap. Assumes nothing.
 use Rattle.shapes.proofs.Accepted.{text-small}
-use Rattle.checks.proofs.Judging.{size-refused, size-passed, check-refused, check-passed}
+use Rattle.checks.proofs.Judging.{sizes-refuse, sizes-pass, check-refuses, check-passes}
 use Rattle.checks.specs.Lists.{listVerdict}
 use Rattle.records.specs.Operations.{operationsOf}
 use Rattle.records.specs.Cursors.{cursorsOf}
@@ -16,7 +16,7 @@ list-fits-requires c κs = search needs
 
 returns : tie.Need-returns
 unfolding listVerdict
-returns c = size-refused _ (c .before .before .before .before .before .before .before .before .pre .1) (c .before .list-fits .ensures) (c .if1 .taken)
+returns c = sizes-refuse _ (c .before .before .before .before .before .before .before .before .pre .1) (c .before .list-fits .ensures) (c .if1 .taken)
 
 check-texts-requires : tie.Need-check-texts-requires
 check-texts-requires c κs = search needs
@@ -57,17 +57,17 @@ returns-2 : tie.Need-returns-2
 unfolding listVerdict
 returns-2 c =
     let c4 = c .before .before .before .before in
-    size-passed (c4 .before .before .before .before .before .before .before .before .pre .1) (c4 .before .list-fits .ensures) (c4 .if1 .left)
-    (check-refused _ (c .before .before .before .check-texts .ensures) (c .before .refusal .given .1))
+    sizes-pass (c4 .before .before .before .before .before .before .before .before .pre .1) (c4 .before .list-fits .ensures) (c4 .if1 .left)
+    (check-refuses _ (c .before .before .before .check-texts .ensures) (c .before .refusal .given .1))
 
 returns-3 : tie.Need-returns-3
 unfolding listVerdict
 returns-3 c =
     let c4 = c .before .before .before .before in
     let c7 = c4 .before .before .before in
-    size-passed (c7 .before .before .before .before .before .before .before .before .pre .1) (c7 .before .list-fits .ensures) (c7 .if1 .left)
-    (check-passed (c4 .before .before .check-texts .ensures) (c4 .enum-told .given .1)
-    (check-refused _ (c .before .before .before .check-records .ensures) (c .before .refusal2 .given .1)))
+    sizes-pass (c7 .before .before .before .before .before .before .before .before .pre .1) (c7 .before .list-fits .ensures) (c7 .if1 .left)
+    (check-passes (c4 .before .before .check-texts .ensures) (c4 .enum-told .given .1)
+    (check-refuses _ (c .before .before .before .check-records .ensures) (c .before .refusal2 .given .1)))
 
 returns-4 : tie.Need-returns-4
 unfolding listVerdict
@@ -75,10 +75,10 @@ returns-4 c =
     let c4 = c .before .before .before .before in
     let c7 = c4 .before .before .before in
     let c10 = c7 .before .before .before in
-    size-passed (c10 .before .before .before .before .before .before .before .before .pre .1) (c10 .before .list-fits .ensures) (c10 .if1 .left)
-    (check-passed (c7 .before .before .check-texts .ensures) (c7 .enum-told .given .1)
-    (check-passed (c4 .before .before .check-records .ensures) (c4 .enum-told2 .given .1)
-    (check-refused _ (c .before .before .before .check-tiling .ensures) (c .before .refusal3 .given .1))))
+    sizes-pass (c10 .before .before .before .before .before .before .before .before .pre .1) (c10 .before .list-fits .ensures) (c10 .if1 .left)
+    (check-passes (c7 .before .before .check-texts .ensures) (c7 .enum-told .given .1)
+    (check-passes (c4 .before .before .check-records .ensures) (c4 .enum-told2 .given .1)
+    (check-refuses _ (c .before .before .before .check-tiling .ensures) (c .before .refusal3 .given .1))))
 
 returns-5 : tie.Need-returns-5
 unfolding listVerdict
@@ -87,10 +87,10 @@ returns-5 c =
     let c4 = c1 .before .before .before in
     let c7 = c4 .before .before .before in
     let c10 = c7 .before .before .before in
-    size-passed (c10 .before .before .before .before .before .before .before .before .pre .1) (c10 .before .list-fits .ensures) (c10 .if1 .left)
-    (check-passed (c7 .before .before .check-texts .ensures) (c7 .enum-told .given .1)
-    (check-passed (c4 .before .before .check-records .ensures) (c4 .enum-told2 .given .1)
-    (check-passed (c1 .before .before .check-tiling .ensures) (c1 .enum-told3 .given .1) (c .check-within .ensures))))
+    sizes-pass (c10 .before .before .before .before .before .before .before .before .pre .1) (c10 .before .list-fits .ensures) (c10 .if1 .left)
+    (check-passes (c7 .before .before .check-texts .ensures) (c7 .enum-told .given .1)
+    (check-passes (c4 .before .before .check-records .ensures) (c4 .enum-told2 .given .1)
+    (check-passes (c1 .before .before .check-tiling .ensures) (c1 .enum-told3 .given .1) (c .check-within .ensures))))
 
 pub judge-list-spec : {M : Type 1} → statement M
 judge-list-spec =

@@ -1,6 +1,6 @@
 -- `judge_lists` gives the verdict on the two lists of a merge.
 -- A chain of checks, by Judging; the sizes and the tilings keep the texts below the cap. Assumes nothing.
-use Rattle.checks.proofs.Judging.{size-refused, size-passed, check-refused, check-passed, left-small, right-small}
+use Rattle.checks.proofs.Judging.{sizes-refuse, sizes-pass, check-refuses, check-passes, left-small, right-small}
 use Rattle.checks.specs.Lists.{listsVerdict}
 use Rattle.records.specs.Operations.{operationsOf}
 use Rattle.records.specs.Cursors.{cursorsOf}
@@ -15,7 +15,7 @@ lists-fit-requires c κs = search needs
 
 returns : tie.Need-returns
 unfolding listsVerdict
-returns c = size-refused _ (c .before .before .before .before .before .before .before .before .before .before .pre .1) (c .before .lists-fit .ensures) (c .if1 .taken)
+returns c = sizes-refuse _ (c .before .before .before .before .before .before .before .before .before .before .pre .1) (c .before .lists-fit .ensures) (c .if1 .taken)
 
 check-texts-requires : tie.Need-check-texts-requires
 check-texts-requires c κs = search needs
@@ -71,17 +71,17 @@ returns-2 : tie.Need-returns-2
 unfolding listsVerdict
 returns-2 c =
     let c4 = c .before .before .before .before in
-    size-passed (c4 .before .before .before .before .before .before .before .before .before .before .pre .1) (c4 .before .lists-fit .ensures) (c4 .if1 .left)
-    (check-refused _ (c .before .before .before .check-texts .ensures) (c .before .refusal .given .1))
+    sizes-pass (c4 .before .before .before .before .before .before .before .before .before .before .pre .1) (c4 .before .lists-fit .ensures) (c4 .if1 .left)
+    (check-refuses _ (c .before .before .before .check-texts .ensures) (c .before .refusal .given .1))
 
 returns-3 : tie.Need-returns-3
 unfolding listsVerdict
 returns-3 c =
     let c4 = c .before .before .before .before in
     let c7 = c4 .before .before .before in
-    size-passed (c7 .before .before .before .before .before .before .before .before .before .before .pre .1) (c7 .before .lists-fit .ensures) (c7 .if1 .left)
-    (check-passed (c4 .before .before .check-texts .ensures) (c4 .enum-told .given .1)
-    (check-refused _ (c .before .before .before .check-both-records .ensures) (c .before .refusal2 .given .1)))
+    sizes-pass (c7 .before .before .before .before .before .before .before .before .before .before .pre .1) (c7 .before .lists-fit .ensures) (c7 .if1 .left)
+    (check-passes (c4 .before .before .check-texts .ensures) (c4 .enum-told .given .1)
+    (check-refuses _ (c .before .before .before .check-both-records .ensures) (c .before .refusal2 .given .1)))
 
 returns-4 : tie.Need-returns-4
 unfolding listsVerdict
@@ -89,10 +89,10 @@ returns-4 c =
     let c4 = c .before .before .before .before in
     let c7 = c4 .before .before .before in
     let c10 = c7 .before .before .before in
-    size-passed (c10 .before .before .before .before .before .before .before .before .before .before .pre .1) (c10 .before .lists-fit .ensures) (c10 .if1 .left)
-    (check-passed (c7 .before .before .check-texts .ensures) (c7 .enum-told .given .1)
-    (check-passed (c4 .before .before .check-both-records .ensures) (c4 .enum-told2 .given .1)
-    (check-refused _ (c .before .before .before .check-both-tilings .ensures) (c .before .refusal3 .given .1))))
+    sizes-pass (c10 .before .before .before .before .before .before .before .before .before .before .pre .1) (c10 .before .lists-fit .ensures) (c10 .if1 .left)
+    (check-passes (c7 .before .before .check-texts .ensures) (c7 .enum-told .given .1)
+    (check-passes (c4 .before .before .check-both-records .ensures) (c4 .enum-told2 .given .1)
+    (check-refuses _ (c .before .before .before .check-both-tilings .ensures) (c .before .refusal3 .given .1))))
 
 returns-5 : tie.Need-returns-5
 unfolding listsVerdict
@@ -101,11 +101,11 @@ returns-5 c =
     let c7 = c4 .before .before .before in
     let c10 = c7 .before .before .before in
     let c13 = c10 .before .before .before in
-    size-passed (c13 .before .before .before .before .before .before .before .before .before .before .pre .1) (c13 .before .lists-fit .ensures) (c13 .if1 .left)
-    (check-passed (c10 .before .before .check-texts .ensures) (c10 .enum-told .given .1)
-    (check-passed (c7 .before .before .check-both-records .ensures) (c7 .enum-told2 .given .1)
-    (check-passed (c4 .before .before .check-both-tilings .ensures) (c4 .enum-told3 .given .1)
-    (check-refused _ (c .before .before .before .check-within .ensures) (c .before .refusal4 .given .1)))))
+    sizes-pass (c13 .before .before .before .before .before .before .before .before .before .before .pre .1) (c13 .before .lists-fit .ensures) (c13 .if1 .left)
+    (check-passes (c10 .before .before .check-texts .ensures) (c10 .enum-told .given .1)
+    (check-passes (c7 .before .before .check-both-records .ensures) (c7 .enum-told2 .given .1)
+    (check-passes (c4 .before .before .check-both-tilings .ensures) (c4 .enum-told3 .given .1)
+    (check-refuses _ (c .before .before .before .check-within .ensures) (c .before .refusal4 .given .1)))))
 
 returns-6 : tie.Need-returns-6
 unfolding listsVerdict
@@ -115,11 +115,11 @@ returns-6 c =
     let c7 = c4 .before .before .before in
     let c10 = c7 .before .before .before in
     let c13 = c10 .before .before .before in
-    size-passed (c13 .before .before .before .before .before .before .before .before .before .before .pre .1) (c13 .before .lists-fit .ensures) (c13 .if1 .left)
-    (check-passed (c10 .before .before .check-texts .ensures) (c10 .enum-told .given .1)
-    (check-passed (c7 .before .before .check-both-records .ensures) (c7 .enum-told2 .given .1)
-    (check-passed (c4 .before .before .check-both-tilings .ensures) (c4 .enum-told3 .given .1)
-    (check-passed (c1 .before .before .check-within .ensures) (c1 .enum-told4 .given .1) (c .check-within2 .ensures)))))
+    sizes-pass (c13 .before .before .before .before .before .before .before .before .before .before .pre .1) (c13 .before .lists-fit .ensures) (c13 .if1 .left)
+    (check-passes (c10 .before .before .check-texts .ensures) (c10 .enum-told .given .1)
+    (check-passes (c7 .before .before .check-both-records .ensures) (c7 .enum-told2 .given .1)
+    (check-passes (c4 .before .before .check-both-tilings .ensures) (c4 .enum-told3 .given .1)
+    (check-passes (c1 .before .before .check-within .ensures) (c1 .enum-told4 .given .1) (c .check-within2 .ensures)))))
 
 pub judge-lists-spec : {M : Type 1} → statement M
 judge-lists-spec =

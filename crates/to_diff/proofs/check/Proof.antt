@@ -1,4 +1,4 @@
--- Shown: `check` gives refusals 3, 4, 1 and 2 of a list, or the text that it inserts.
+-- Shown: `check` gives refusals 3, 4, 1 and 2 of a list, or the lengths of its texts.
 -- How: the check of lists, with the sizes for diffs and no cursors.
 use Rattle.sizes.proofs.Fits.{other-small}
 use Rattle.to_diff.proofs.Answering.{checked}
