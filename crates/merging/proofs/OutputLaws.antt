@@ -6,9 +6,9 @@ use mathlib.Core.List.{List, [], _∷_, _++_, append-assoc}
 use native.Mathlib.Omega.{arith}
 use lib.ListN.{length, take, drop, take-append-drop, drop-of-length-le}
 use lib.Seq.{drop-drop, take-add}
-use borrow.Author.Tests.{le-ltb}
 use Rattle.diff.specs.Replay.{Edit, retain, delete, insert, replayed, mentioned, left, added}
 use Rattle.diff.specs.Checks.{fine, numbers, covers}
+use Rattle.diff.proofs.Laws.{enough-numbers}
 use Rattle.merging.specs.declared.Op.{Op}
 use Rattle.merging.specs.declared.Op.the-variants.{Delete, Insert, Retain}
 use Rattle.merging.specs.Lent.{Lent, spellingOf}
@@ -96,14 +96,6 @@ diff-mentioned lent (Delete o l ∷ ls) at n t = omega (arith, diff-mentioned le
 diff-mentioned lent (Insert o f k ∷ ls) at n t = diff-mentioned lent ls at n (t .2)
 diff-mentioned lent (Retain o l ∷ ls) at n t = omega (arith, joined-mentioned l (toDiff lent ls), diff-mentioned lent ls (o + l) n (t .2))
 
--- edits that speak of no more than is left ask no more than is left
-numbers-fine : (es : List Edit) (at rest : ℕ) → mentioned es ≤ rest → numbers at rest es ≡ fine
-unfolding numbers mentioned
-numbers-fine [] at rest h = refl
-numbers-fine (retain n ∷ es) at rest h = rw (le-ltb rest n (omega arith)) (numbers-fine es (at + n) (rest - n) (omega arith))
-numbers-fine (delete n ∷ es) at rest h = rw (le-ltb rest n (omega arith)) (numbers-fine es (at + n) (rest - n) (omega arith))
-numbers-fine (insert s ∷ es) at rest h = numbers-fine es at rest h
-
 covers-fine : (len : ℕ) (es : List Edit) → mentioned es ≡ len → covers len es ≡ fine
 unfolding covers left
 covers-fine len es h = let z : len - mentioned es ≡ 0 = omega arith in rw z
@@ -121,7 +113,7 @@ replays lent ls t =
     let m : mentioned (toDiff lent ls) ≡ length (lent .original) = omega (arith, diff-mentioned lent ls 0 (length (lent .original)) t) in
     record {
       text = diff-replayed lent ls 0 (length (lent .original)) t;
-      asks = numbers-fine (toDiff lent ls) 0 (length (lent .original)) (omega arith);
+      asks = enough-numbers 0 (length (lent .original)) (toDiff lent ls) (omega arith);
       covers-all = covers-fine (length (lent .original)) (toDiff lent ls) m;
       nothing-left = omega arith;
     }
