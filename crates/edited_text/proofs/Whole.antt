@@ -90,7 +90,7 @@ module _ (original text spans keys : List ℕ) (ops : List ℕ) (cs : List Curso
         );
       }
 
-module _ (original text spans keys left right lcs rcs : List ℕ) (mid half : ℕ) (o c w : List ℕ)
+module _ {original text spans keys left right lcs rcs : List ℕ} {mid half : ℕ} {o c w : List ℕ}
     (K : Mergeable original text spans keys left right lcs rcs mid half o c w) (lefts rights : List ℕ)
     (el : cursorsOf lefts ≡ sorted (cursorsOf lcs)) (er : cursorsOf rights ≡ sorted (cursorsOf rcs)) (priority : Order)
     (ep : priority ≡ priorityOf (ofText text spans keys) (listOf left) (listOf right)) where
@@ -150,16 +150,16 @@ module _ (original text spans keys left right lcs rcs : List ℕ) (mid half : �
       ∙ merged-cursors-all L (operationsOf left) (operationsOf right) (cursorsOf lcs) (cursorsOf rcs) (K .left-accepted) (K .right-accepted))
 
   -- the cursors that came out are in their room
-  pub in-room : (o′ c′ : List ℕ) (t : Totals) → Ran original text spans keys left right lefts rights priority o o′ c c′ t → t .cursors * 2 ≤ length c′
-  in-room o′ c′ t R =
+  pub in-room : {o′ c′ : List ℕ} {t : Totals} → Ran original text spans keys left right lefts rights priority o o′ c c′ t → t .cursors * 2 ≤ length c′
+  in-room R =
       let n : length (outcome L priority left right lefts rights .cursors) * 2 ≤ length c = omega (arith, all-cursors, K .cursors-fit) in
       omega (arith, R .cursors, ap length (R .moved-is), length-answered (outcome L priority left right lefts rights .cursors) c n)
 
   -- what the turns left, the cursors sorted where they stand
-  pub merges : (o′ c′ c″ : List ℕ) (t : Totals) → Ran original text spans keys left right lefts rights priority o o′ c c′ t
+  pub merges : {o′ c′ c″ : List ℕ} {t : Totals} → Ran original text spans keys left right lefts rights priority o o′ c c′ t
       → c″ ≡ answered (flatCursors (sorted (cursorsFrom c′ 0 (t .cursors)))) c′
       → Merges original text spans keys left right lcs rcs o o′ c c″ (record { operations = t .operations; cursors = t .cursors })
-  merges o′ c′ c″ t R s =
+  merges {c′ = c′} {c″} {t} R s =
       record {
         many-operations = R .operations ∙ many;
         many-cursors = R .cursors ∙ (sym (length-sorted (outcome L priority left right lefts rights .cursors)) ∙ ap length same-cursors);

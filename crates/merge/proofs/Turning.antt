@@ -40,6 +40,7 @@ use Rattle.cursor_position.proofs.Waiting.{none-moves, all-stay}
 use Rattle.merge.specs.declared.Meeting.{Meeting}
 use Rattle.merge.specs.declared.Side.{Side}
 use Rattle.merge.specs.declared.Totals.{Totals}
+use Rattle.merge.specs.declared.Turned.{Turned}
 use Rattle.merge.specs.Meetings.{placedIf, Facing, Meets}
 use Rattle.merge.specs.Turning.{Sound, memoryOf, cursorsLeft, taken, result, shiftBy, Turnable, Made, Turns}
 
@@ -157,6 +158,21 @@ pub record Parts (spans keys ops cs w w₁ w₂ : List ℕ) (half : ℕ) (own ot
   pub looks : Looks ops tail (own .ahead .behind) (own .ahead .at) coming
   pub spans-is : span ≡ spanOf m
 
+-- what the code makes of them
+abbrev resulting : Side → Side → Totals → Meeting → Progress → Memory → ℕ → ℕ → Ahead → Turned
+resulting own other totals r p kept place span coming =
+    record {
+      own = record { ahead = coming; memory = kept; seen = own .seen + r .shift .length; cursor = p .next };
+      other = record { ahead = other .ahead; memory = record { last = r .last; fill = other .memory .fill }; seen = other .seen; cursor = other .cursor };
+      totals =
+          record {
+            merged = totals .merged + (r .shift .length - r .shift .removed);
+            consumed = totals .consumed + span;
+            operations = place;
+            cursors = p .count;
+          };
+    }
+
 module _ {spans keys ops cs w : List ℕ} {half : ℕ} {a : Op} {own other : Side} {totals : Totals} {number : ℕ} {out moved : List ℕ}
     (T : Turnable spans keys ops cs w half a own other totals number out moved) where
   pub facing : Facing spans keys w half (other .memory .fill) (own .memory .fill) (taken a other) (other .memory .last)
@@ -273,17 +289,7 @@ module _ {spans keys ops cs w : List ℕ} {half : ℕ} {a : Op} {own other : Sid
       → Parts spans keys ops cs w w₁ w₂ half own other totals number out out′ moved moved′ (taken a other) tail awaited r p m kept place span coming
       → tail ≡ tailBy a (heads (other .ahead .next) [])
       → Turns spans keys ops cs w w₂ half a own other totals number out out′ moved moved′
-      (record {
-        own = record { ahead = coming; memory = kept; seen = own .seen + r .shift .length; cursor = p .next };
-        other = record { ahead = other .ahead; memory = record { last = r .last; fill = other .memory .fill }; seen = other .seen; cursor = other .cursor };
-        totals =
-            record {
-              merged = totals .merged + (r .shift .length - r .shift .removed);
-              consumed = totals .consumed + span;
-              operations = place;
-              cursors = p .count;
-            };
-      })
+      (resulting own other totals r p kept place span coming)
   assembled {w₁} {w₂} {out′} {moved′} {tail} {awaited} {r} {p} {m} {kept} {place} {span} {coming} P et =
       record {
         looks = subst (λ (x : Next). Looks ops x (own .ahead .behind) (own .ahead .at) coming) et (P .looks);
@@ -330,18 +336,8 @@ module _ {spans keys ops cs w : List ℕ} {half : ℕ} {a : Op} {own other : Sid
       is : (lent : Lent) → lent .spans ≡ spans → lent .keys ≡ keys → m ≡ result lent w half a other
       is lent es ek = P .rest ∙ result-of M lent es ek
 
-      made : (lent : Lent) → lent .spans ≡ spans → lent .keys ≡ keys → Made lent cs w w₂ half a own other totals number out out′ moved moved′
-          (record {
-            own = record { ahead = coming; memory = kept; seen = own .seen + r .shift .length; cursor = p .next };
-            other = record { ahead = other .ahead; memory = record { last = r .last; fill = other .memory .fill }; seen = other .seen; cursor = other .cursor };
-            totals =
-                record {
-                  merged = totals .merged + (r .shift .length - r .shift .removed);
-                  consumed = totals .consumed + span;
-                  operations = place;
-                  cursors = p .count;
-                };
-          })
+      made : (lent : Lent) → lent .spans ≡ spans → lent .keys ≡ keys
+          → Made lent cs w w₂ half a own other totals number out out′ moved moved′ (resulting own other totals r p kept place span coming)
       made lent es ek =
           record {
             last = P .remembers .last lent es ek ∙ ap₂ (rememberOf lent) own-same (is lent es ek);

@@ -53,7 +53,6 @@ put-points-requires c κs =
 add-result : tie.Need-add-result
 add-result c =
     let c12 = c .before .before .before .before .before .before .before .before .before .before .before .before in
-    let c12 = c12 in
     let c14 = c12 .before .before in
     let c19 = c14 .before .before .before .before .before in
     record {

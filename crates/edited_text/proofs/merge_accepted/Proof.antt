@@ -59,11 +59,10 @@ run-requires c κs =
     let c5 = c .before .before .before .before .before in
     let c7 = c5 .before .before in
     let c10 = c7 .before .before .before in
-    let s = c .before .before .before .before .before .before .before .before .before .before .before .before .before .before .before .before .before .before .before .before .before .before .before in
-    runnable (s .args .original .now) (s .args .text .now) (s .args .spans .now) (s .args .keys .now) (s .args .left .now) (s .args .right .now) (s .args .left-cursors .now) (s .args .right-cursors .now) (s .args .mid) (s .args .half) (s .args .operations .now) (s .args .cursors .now) (s .args .work .now) (s .pre) _ _
-    (part-sorted (s .args .left-cursors .now) _ _ (c10 .sort-into .ensures) (short (s .args .left-cursors .now) (s .pre .left-accepted .cursors-most)))
-    (part-sorted (s .args .right-cursors .now) _ _ (c7 .sort-into2 .ensures) (short (s .args .right-cursors .now) (s .pre .right-accepted .cursors-most))) _
-    (c5 .stream-priority .ensures)
+    let s = c10 .before .before .before .before .before .before .before .before .before .before .before .before .before in
+    let l = part-sorted (s .args .left-cursors .now) _ _ (c10 .sort-into .ensures) (short (s .args .left-cursors .now) (s .pre .left-accepted .cursors-most)) in
+    let r = part-sorted (s .args .right-cursors .now) _ _ (c7 .sort-into2 .ensures) (short (s .args .right-cursors .now) (s .pre .right-accepted .cursors-most)) in
+    runnable (s .pre) _ _ l r _ (c5 .stream-priority .ensures)
     (part-many (s .args .left-cursors .now) _ _ (c10 .sort-into .ensures) (short (s .args .left-cursors .now) (s .pre .left-accepted .cursors-most)))
     (part-many (s .args .right-cursors .now) _ _ (c7 .sort-into2 .ensures) (short (s .args .right-cursors .now) (s .pre .right-accepted .cursors-most)))
     (omega (arith, s .good .1 .1 .0))
@@ -71,14 +70,13 @@ run-requires c κs =
 sort-room-requires : tie.Need-sort-room-requires
 sort-room-requires c κs =
     let c7 = c .before .before .before .before .before .before .before in
-    let c13 = c .before .before .before .before .before .before .before .before .before .before .before .before .before in
+    let c13 = c7 .before .before .before .before .before .before in
     let c15 = c13 .before .before in
     let c18 = c15 .before .before .before in
-    let s = c .before .before .before .before .before .before .before .before .before .before .before .before .before .before .before .before .before .before .before .before .before .before .before .before .before .before .before .before .before .before .before in
-    in-room (s .args .original .now) (s .args .text .now) (s .args .spans .now) (s .args .keys .now) (s .args .left .now) (s .args .right .now) (s .args .left-cursors .now) (s .args .right-cursors .now) (s .args .mid) (s .args .half) (s .args .operations .now) (s .args .cursors .now) (s .args .work .now) (s .pre) _ _
-    (part-sorted (s .args .left-cursors .now) _ _ (c18 .sort-into .ensures) (short (s .args .left-cursors .now) (s .pre .left-accepted .cursors-most)))
-    (part-sorted (s .args .right-cursors .now) _ _ (c15 .sort-into2 .ensures) (short (s .args .right-cursors .now) (s .pre .right-accepted .cursors-most))) _
-    (c13 .stream-priority .ensures) _ _ _ (c7 .run .ensures)
+    let s = c18 .before .before .before .before .before .before .before .before .before .before .before .before .before in
+    let l = part-sorted (s .args .left-cursors .now) _ _ (c18 .sort-into .ensures) (short (s .args .left-cursors .now) (s .pre .left-accepted .cursors-most)) in
+    let r = part-sorted (s .args .right-cursors .now) _ _ (c15 .sort-into2 .ensures) (short (s .args .right-cursors .now) (s .pre .right-accepted .cursors-most)) in
+    in-room (s .pre) _ _ l r _ (c13 .stream-priority .ensures) (c7 .run .ensures)
 
 same-length : tie.Need-same-length
 same-length c = search needs
@@ -92,15 +90,14 @@ same-length-3 c = search needs
 returns : tie.Need-returns
 returns c =
     let c2 = c .before .before in
-    let c10 = c .before .before .before .before .before .before .before .before .before .before in
-    let c16 = c .before .before .before .before .before .before .before .before .before .before .before .before .before .before .before .before in
+    let c10 = c2 .before .before .before .before .before .before .before .before in
+    let c16 = c10 .before .before .before .before .before .before in
     let c18 = c16 .before .before in
     let c21 = c18 .before .before .before in
-    let s = c .before .before .before .before .before .before .before .before .before .before .before .before .before .before .before .before .before .before .before .before .before .before .before .before .before .before .before .before .before .before .before .before .before .before in
-    merges (s .args .original .now) (s .args .text .now) (s .args .spans .now) (s .args .keys .now) (s .args .left .now) (s .args .right .now) (s .args .left-cursors .now) (s .args .right-cursors .now) (s .args .mid) (s .args .half) (s .args .operations .now) (s .args .cursors .now) (s .args .work .now) (s .pre) _ _
-    (part-sorted (s .args .left-cursors .now) _ _ (c21 .sort-into .ensures) (short (s .args .left-cursors .now) (s .pre .left-accepted .cursors-most)))
-    (part-sorted (s .args .right-cursors .now) _ _ (c18 .sort-into2 .ensures) (short (s .args .right-cursors .now) (s .pre .right-accepted .cursors-most))) _
-    (c16 .stream-priority .ensures) _ _ _ (c10 .run .result) (c10 .run .ensures) (c2 .sort-room .ensures)
+    let s = c21 .before .before .before .before .before .before .before .before .before .before .before .before .before in
+    let l = part-sorted (s .args .left-cursors .now) _ _ (c21 .sort-into .ensures) (short (s .args .left-cursors .now) (s .pre .left-accepted .cursors-most)) in
+    let r = part-sorted (s .args .right-cursors .now) _ _ (c18 .sort-into2 .ensures) (short (s .args .right-cursors .now) (s .pre .right-accepted .cursors-most)) in
+    merges (s .pre) _ _ l r _ (c16 .stream-priority .ensures) (c10 .run .ensures) (c2 .sort-room .ensures)
 
 pub merge-accepted-spec : {M : Type 1} → statement M
 merge-accepted-spec =
