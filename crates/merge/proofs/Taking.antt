@@ -24,7 +24,7 @@ use Rattle.merge.specs.Choosing.{choiceOf, isNone, takenBy, ofSide}
 use Rattle.merge.specs.Sides.{ofNumber}
 use Rattle.merge.specs.Turning.{Turnable, Turns}
 use Rattle.merge.proofs.OneTurn.{stateOf}
-use Rattle.merge.proofs.Running.{frame, exchanged, Going, exchange, Taking, goes-left, goes-right, side-turnable, side-less, side-step}
+use Rattle.merge.proofs.Running.{Frame, frame, exchanged, Going, exchange, Taking, goes-left, goes-right, side-turnable, side-less, side-step}
 use Rattle.merge.proofs.Ends.{Chosen, chosen}
 
 -- what the code hands to a turn, as the choice x says
@@ -38,6 +38,9 @@ pub record Seated (x : Choice) (left right : Side) (a : Op) (own other : Side) (
 module _ (priority : Order) {original text spans keys lops rops lcs rcs : List ℕ} {mid half : ℕ} {w₀ out₀ moved₀ w out moved : List ℕ} {left right : Side} {totals : Totals}
     (G : Going (frame original text spans keys lops rops lcs rcs priority mid half w₀ out₀ moved₀) w out moved left right totals) (x : Choice)
     (chose : x ≡ choiceOf (ofText text spans keys) priority (left .ahead .next) (right .ahead .next)) where
+  abbrev F : Frame
+  F = frame original text spans keys lops rops lcs rcs priority mid half w₀ out₀ moved₀
+
   abbrev L : Lent
   L = lentOf original text spans keys
 
@@ -66,7 +69,7 @@ module _ (priority : Order) {original text spans keys lops rops lcs rcs : List �
   pub none-taken : isNone x ≡ true → takenOf L priority (S .left .next) (S .right .next) ≡ none
   none-taken n = taking-none x n takes
 
-  takes-left : (a : Op) → Takes (Left a) → Taking (frame original text spans keys lops rops lcs rcs priority mid half w₀ out₀ moved₀) w left right totals (G .p) (G .q) 0 a
+  takes-left : (a : Op) → Takes (Left a) → Taking F w left right totals (G .p) (G .q) 0 a
   takes-left a k =
       record {
         next = k .0;
@@ -74,7 +77,7 @@ module _ (priority : Order) {original text spans keys lops rops lcs rcs : List �
         goes = goes-left (rulesOf L) priority S a xs (k .1);
       }
 
-  takes-right : (b : Op) → Takes (Right b) → Taking (exchanged (frame original text spans keys lops rops lcs rcs priority mid half w₀ out₀ moved₀)) w right left totals (exchange G .p) (exchange G .q) 1 b
+  takes-right : (b : Op) → Takes (Right b) → Taking (exchanged F) w right left totals (exchange G .p) (exchange G .q) 1 b
   unfolding exchange
   takes-right b k =
       record {
@@ -105,7 +108,7 @@ module _ (priority : Order) {original text spans keys lops rops lcs rcs : List �
     taking-less (Right b) n k T = omega (arith, side-less (exchange G) (takes-right b k) T)
 
     taking-step : (y : Choice) → isNone y ≡ false → Takes y → Turned-by y w′ out′ moved′ r → length out′ ≡ length out → length moved′ ≡ length moved
-        → Going (frame original text spans keys lops rops lcs rcs priority mid half w₀ out₀ moved₀) w′ out′ moved′ (ofSide y (r .own) (r .other)) (ofSide y (r .other) (r .own)) (r .totals)
+        → Going F w′ out′ moved′ (ofSide y (r .own) (r .other)) (ofSide y (r .other) (r .own)) (r .totals)
     unfolding isNone takenBy ofSide
     taking-step Nothing n k T eo em = no-way n
     taking-step (Left a) n k T eo em = side-step G (takes-left a k) T eo em
@@ -124,5 +127,5 @@ module _ (priority : Order) {original text spans keys lops rops lcs rcs : List �
       seat-less = rw (el, er) (taking-less x (s .some) takes taking)
 
       pub seat-step : length out′ ≡ length out → length moved′ ≡ length moved
-          → Going (frame original text spans keys lops rops lcs rcs priority mid half w₀ out₀ moved₀) w′ out′ moved′ l′ r′ (r .totals)
+          → Going F w′ out′ moved′ l′ r′ (r .totals)
       seat-step eo em = rw (el, er) (taking-step x (s .some) takes taking eo em)
