@@ -1,6 +1,6 @@
 -- What the reader's leaves find at a place of the bytes: a number, a line of one number, a code point. Assumes nothing.
 use mathlib.Core.Path.{_≡_}
-use Prim.Native.Nat.{ℕ, _+_, _*_, min}
+use Prim.Native.Nat.{ℕ, _+_, _*_, _≤_, min}
 use mathlib.Core.List.{List, [], _∷_}
 use lib.ListN.{length, getD, drop}
 use lib.Dec.{eqb}
@@ -37,6 +37,13 @@ closedAt p Bad = Bad
 unfoldable pub lineAt : List ℕ → List ℕ → ℕ → Number
 unfolding scan closedAt
 lineAt k p at = pick (begins k (drop at p)) (closedAt p (scan 10 (at + length k) (drop (at + length k) p))) Bad
+
+-- a line's number stands at a place of p, no larger than any original, and LF after it
+pub record Closes (p : List ℕ) (at : ℕ) : Type 0 where
+  pub value : ℕ
+  pub next : ℕ
+  pub small : value ≤ 65535
+  pub number : closedAt p (scan 10 at (drop at p)) ≡ Value value next
 
 -- after a number: LF ends the line, a space says that one more follows
 unfoldable pub endedAt : List ℕ → Number → Point

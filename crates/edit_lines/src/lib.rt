@@ -1,9 +1,10 @@
 // The leaves of an edit file's lines, at a place of any bytes: a number, a line of one number, a code point. Line keys are byte strings.
+use numbers::bytes::wide;
 ghost use mathlib.Core.Path.{_≡_};
 ghost use Prim.Native.Nat.{_+_, _*_, _≤_, _<_};
 ghost use lib.ListN.{length, drop};
 ghost use Rattle.edit_format.specs.Tests.{begins};
-ghost use Rattle.edit_lines.specs.Scan.{cap, scan, closedAt, lineAt, endedAt, pointAt, Stands};
+ghost use Rattle.edit_lines.specs.Scan.{cap, scan, closedAt, lineAt, endedAt, pointAt, Stands, Closes};
 
 // A number and the place after it. A number above every size is held as CAP.
 pub enum Number {
@@ -11,7 +12,7 @@ pub enum Number {
     Bad,
 }
 
-// The number of a code point that was judged, and the place after it.
+// A number that was judged, and the place after it.
 pub struct Judged {
     pub value: u32,
     pub next: usize,
@@ -110,6 +111,23 @@ pub fn number_line(bytes: &[u8], at: usize, key: &[u8]) -> Number
         return closed(bytes, number_at(bytes, at + key.len(), 10));
     }
     Number::Bad
+}
+
+// The number of a line that was judged: every byte from 0 on is a digit, and the first other is LF.
+pub fn judged_line(bytes: &[u8], at: usize) -> Judged
+    requires { ⌜ Closes (now bytes) at ⌝ }
+    ensures { λ r. ⌜ closedAt (now (bytes .entry)) (scan 10 at (drop at (now (bytes .entry)))) ≡ Number.Value (r .value) (r .next) ⌝ }
+{
+    let mut n = wide(bytes[at]) - 48;
+    let mut i = at + 1;
+    'digits: while b'0' <= bytes[i] {
+        n = n * 10 + (wide(bytes[i]) - 48);
+        i += 1;
+    }
+    Judged {
+        value: n,
+        next: i + 1,
+    }
 }
 
 // What follows a number of an add line.

@@ -46,7 +46,6 @@ pub record Filling (p : List ℕ) (count : ℕ) (d₀ : List ℤ) (e₀ : List �
   pub text : added items ≤ length e₀
   pub here : i ≡ length done
   pub most : i ≤ count
-  pub next : at ≤ length p
   pub place : start ≡ added done
   pub items-room : d ≡ answered (recordsOf done) d₀
   pub text-room : e ≡ answered (texts done) e₀
@@ -65,7 +64,6 @@ begins f = record {
   text = f .text;
   here = refl;
   most = zero-le;
-  next = f .starts;
   place = refl;
   items-room = refl;
   text-room = refl;
@@ -127,11 +125,10 @@ module _ {p : List ℕ} {count : ℕ} {d₀ : List ℤ} {e₀ : List ℕ} {d : L
         text = f .text;
         here = rw (length-append (f .done) (x ∷ [])) (ap (λ (n : ℕ). n + 1) (f .here));
         most = omega arith;
-        next = r .2;
         place = w ∙ ap (λ (n : ℕ). n + size x) (f .place) ∙ sym (added-snoc (f .done) x);
-        items-room = room-more (recordsOf (f .done)) (recordOf start x) d₀ (f .items-room) l (r .3) (ap (λ (n : ℕ). recordsOf (f .done) ++ recordOf n x) (f .place) ∙ sym (records-snoc (f .done) x));
-        text-room = room-more (texts (f .done)) (texts (x ∷ [])) e₀ (f .text-room) m (r .4) (sym (texts-append (f .done) (x ∷ [])));
-        left = r .5;
+        items-room = room-more (recordsOf (f .done)) (recordOf start x) d₀ (f .items-room) l (r .2) (ap (λ (n : ℕ). recordsOf (f .done) ++ recordOf n x) (f .place) ∙ sym (records-snoc (f .done) x));
+        text-room = room-more (texts (f .done)) (texts (x ∷ [])) e₀ (f .text-room) m (r .3) (sym (texts-append (f .done) (x ∷ [])));
+        left = r .4;
       }
 
   all-done : count ≤ i → f .items ≡ f .done
@@ -151,11 +148,10 @@ fillable a b r g h = record {
   head = r .says .1;
   accepted = r .says .2;
   many = r .says .3;
-  counted = r .says .7;
-  starts = r .says .6;
+  counted = r .says .6;
   records = omega (arith, r .says .3);
   text = omega (arith, r .says .4);
-  left = r .says .8;
+  left = r .says .7;
 }
 
 -- the public call

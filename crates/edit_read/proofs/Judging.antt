@@ -45,7 +45,6 @@ begins r = record {
   most = zero-le;
   holds = record { used = refl; keeps = refl; text = refl; joined = refl };
   within = record { next = r .says .5; used = zero-le; keeps = zero-le; text = zero-le };
-  starts = r .says .5;
   first = r .says .6;
   left = r .says .6;
 }
@@ -78,7 +77,6 @@ module _ {p : List ℕ} {t : Header} {s : Sums} {i : ℕ} (j : Judging p t s i) 
         most = omega arith;
         holds = q .1;
         within = q .2;
-        starts = j .starts;
         first = j .first;
         left = here g ∙ q .3;
       }
@@ -157,7 +155,7 @@ module _ {p : List ℕ} {t : Header} {s : Sums} (j : Judging p t s (t .count)) w
         let f : readFile p ≡ Accepted (j .items) =
         summed g
         ∙ rw (eq-eqb (kept (j .items) + dropped (j .items)) (j .head .original) (sym (j .holds .used) ∙ a ∙ j .original), eq-eqb (kept (j .items) + added (j .items)) (j .head .result) (omega (arith, j .holds .keeps, j .holds .text, j .result, j .within .used, j .within .keeps, j .within .text))) in
-        record { says = (j .items, j .head, f, sym (j .many), j .holds .text, j .holds .used, j .starts, sym all-read, sym (j .first) ∙ f) }
+        record { says = (j .items, j .head, f, sym (j .many), j .holds .text, j .holds .used, sym all-read, sym (j .first) ∙ f) }
 
 -- a header's bad line is the file's
 pub bad-header : {p : List ℕ} {l : ℕ} → HeadRead p (BadHead l) → Judged p (No l)

@@ -82,14 +82,13 @@ pub record Judging (p : List ℕ) (t : Header) (s : Sums) (i : ℕ) : Type 0 whe
   pub most : i ≤ t .count
   pub holds : Holds s items
   pub within : Within p s
-  pub starts : t .next ≤ length p
   pub first : readFile p ≡ found (opened head []) (drop (t .next) p)
   pub left : readFile p ≡ found (opened head items) (drop (s .next) p)
 
 -- what is found in all of the bytes, and where the first item's line begins
 abbrev pub Verdicts : List ℕ → Verdict → Type 0
 Verdicts p (Yes n m o f) =
-    (is : List Item) × (h : Head) × (readFile p ≡ Accepted is) × (n ≡ length is) × (m ≡ added is) × (o ≡ kept is + dropped is) × (f ≤ length p)
+    (is : List Item) × (h : Head) × (readFile p ≡ Accepted is) × (n ≡ length is) × (m ≡ added is) × (o ≡ kept is + dropped is)
     × (h .count ≡ length is) × (found (opened h []) (drop f p) ≡ Accepted is)
 Verdicts p (No l) = readFile p ≡ Refused l
 

@@ -9,7 +9,7 @@ ghost use Rattle.edit_format.specs.Items.{Item};
 ghost use Rattle.edit_format.specs.Written.{Head};
 ghost use Rattle.edit_format.specs.Reading.{key, gap, item, keeping, dropping, adding, open′, readFile, believes};
 ghost use Rattle.edit_read.specs.Judged.{HeadRead, PointsRead, Within, ItemRead, Judging, Judged};
-ghost use Rattle.edit_read.specs.Filled.{recordsFound, textFound, PointsPut, NumberPut, ItemPut, Accepting, Fillable};
+ghost use Rattle.edit_read.specs.Filled.{recordsFound, textFound, PointsPut, Numbered, NumberPut, ItemPut, Accepting, Fillable};
 ghost use Rattle.edit_read.specs.Answer.{lengthsOf, ReadInto};
 use edit_lines::Number;
 use edit_lines::Point;
@@ -352,7 +352,7 @@ pub fn believed(bytes: &[u8], original: usize) -> bool
 
 // The code points of an add line into the text's room, from a place on. All was judged, so that no digit is tested again.
 fn put_points(bytes: &[u8], at: usize, text: &mut [u32], start: usize) -> Spot
-    requires { ⌜ (at ≤ length (now bytes)) × (start ≤ length (now text)) × Accepting (λ (h : Head). λ (is : List Item). gap (item h is adding) []) (now bytes) at start (length (now text)) ⌝ }
+    requires { ⌜ (start ≤ length (now text)) × Accepting (λ (h : Head). λ (is : List Item). gap (item h is adding) []) (now bytes) at start (length (now text)) ⌝ }
     ensures { λ r. ⌜ PointsPut (now (bytes .entry)) at start (now (text .entry)) (now (text .exit)) r ⌝ }
 {
     let mut i = at;
@@ -379,33 +379,27 @@ fn put_points(bytes: &[u8], at: usize, text: &mut [u32], start: usize) -> Spot
     Spot::Bad
 }
 
-// One item line of each kind into the rooms.
+// One item line of each kind into the rooms. All was judged, so that neither key nor number is tested again.
 fn put_keep(bytes: &[u8], at: usize, items: &mut [i64], place: usize, start: usize) -> Spot
-    requires { ⌜ (at ≤ length (now bytes)) × (place + 3 ≤ length (now items)) ⌝ }
+    requires { ⌜ (place + 3 ≤ length (now items)) × Numbered keeping (now bytes) at ⌝ }
     ensures { λ r. ⌜ NumberPut (now (bytes .entry)) keeping at start place (now (items .entry)) (now (items .exit)) r ⌝ }
 {
-    match edit_lines::number_line(bytes, at, b"keep=") {
-        Number::Value { value, next } => {
-            let n = value as usize;
-            put_record(items, place, 0, plain_number(n), 0);
-            Spot::Good { start, next }
-        }
-        Number::Bad => Spot::Bad,
-    }
+    let line = edit_lines::judged_line(bytes, at + 5);
+    let next = line.next;
+    let n = line.value as usize;
+    put_record(items, place, 0, plain_number(n), 0);
+    Spot::Good { start, next }
 }
 
 fn put_drop(bytes: &[u8], at: usize, items: &mut [i64], place: usize, start: usize) -> Spot
-    requires { ⌜ (at ≤ length (now bytes)) × (place + 3 ≤ length (now items)) ⌝ }
+    requires { ⌜ (place + 3 ≤ length (now items)) × Numbered dropping (now bytes) at ⌝ }
     ensures { λ r. ⌜ NumberPut (now (bytes .entry)) dropping at start place (now (items .entry)) (now (items .exit)) r ⌝ }
 {
-    match edit_lines::number_line(bytes, at, b"drop=") {
-        Number::Value { value, next } => {
-            let n = value as usize;
-            put_record(items, place, 0, dropped_number(n), 0);
-            Spot::Good { start, next }
-        }
-        Number::Bad => Spot::Bad,
-    }
+    let line = edit_lines::judged_line(bytes, at + 5);
+    let next = line.next;
+    let n = line.value as usize;
+    put_record(items, place, 0, dropped_number(n), 0);
+    Spot::Good { start, next }
 }
 
 fn put_add(
@@ -416,30 +410,25 @@ fn put_add(
     text: &mut [u32],
     start: usize,
 ) -> Spot
-    requires { ⌜ (at ≤ length (now bytes)) × (place + 3 ≤ length (now items)) × (start ≤ length (now text)) × Accepting (λ (h : Head). λ (is : List Item). key (item h is adding) 0) (now bytes) at start (length (now text)) ⌝ }
+    requires { ⌜ (place + 3 ≤ length (now items)) × (start ≤ length (now text)) × Accepting (λ (h : Head). λ (is : List Item). key (item h is adding) 0) (now bytes) at start (length (now text)) ⌝ }
     ensures { λ r. ⌜ ItemPut (λ (h : Head). λ (is : List Item). key (item h is adding) 0) (now (bytes .entry)) at start place (now (items .entry)) (now (items .exit)) (now (text .entry)) (now (text .exit)) r ⌝ }
 {
-    if edit_lines::has_key(bytes, at, b"add=") {
-        match put_points(bytes, at + 4, text, start) {
-            Spot::Good { start: end, next } => {
-                put_record(
-                    items,
-                    place,
-                    1,
-                    plain_number(start),
-                    plain_number(end - start),
-                );
-                return Spot::Good { start: end, next };
-            }
-            Spot::Bad => {
-                return Spot::Bad;
-            }
+    match put_points(bytes, at + 4, text, start) {
+        Spot::Good { start: end, next } => {
+            put_record(
+                items,
+                place,
+                1,
+                plain_number(start),
+                plain_number(end - start),
+            );
+            Spot::Good { start: end, next }
         }
+        Spot::Bad => Spot::Bad,
     }
-    Spot::Bad
 }
 
-// The next item line into the rooms.
+// The next item line into the rooms: its first byte says its kind.
 fn put_item(
     bytes: &[u8],
     at: usize,
@@ -448,12 +437,9 @@ fn put_item(
     text: &mut [u32],
     start: usize,
 ) -> Spot
-    requires { ⌜ (at ≤ length (now bytes)) × (place + 3 ≤ length (now items)) × (start ≤ length (now text)) × Accepting open′ (now bytes) at start (length (now text)) ⌝ }
+    requires { ⌜ (place + 3 ≤ length (now items)) × (start ≤ length (now text)) × Accepting open′ (now bytes) at start (length (now text)) ⌝ }
     ensures { λ r. ⌜ ItemPut open′ (now (bytes .entry)) at start place (now (items .entry)) (now (items .exit)) (now (text .entry)) (now (text .exit)) r ⌝ }
 {
-    if bytes.len() <= at {
-        return Spot::Bad;
-    }
     let b = bytes[at];
     if b == b'k' {
         return put_keep(bytes, at, items, place, start);

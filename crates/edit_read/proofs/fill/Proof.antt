@@ -20,7 +20,7 @@ mul-put-item : tie.Need-mul-put-item Inv-items μ-items
 mul-put-item c = omega (arith, record-fits (c .before .before .items .inv) (c .before .items-test .taken))
 
 put-item-requires : tie.Need-put-item-requires Inv-items μ-items
-put-item-requires c κs = (c .before .before .before .items .inv .next, record-fits (c .before .before .before .items .inv) (c .before .before .items-test .taken), text-fits (c .before .before .before .items .inv), accepting (c .before .before .before .items .inv) (c .before .before .items-test .taken))
+put-item-requires c κs = (record-fits (c .before .before .before .items .inv) (c .before .before .items-test .taken), text-fits (c .before .before .before .items .inv), accepting (c .before .before .before .items .inv) (c .before .before .items-test .taken))
 
 enum-known-end : tie.Need-enum-known-end Inv-items μ-items
 enum-known-end c = search needs

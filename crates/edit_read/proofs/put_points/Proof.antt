@@ -16,10 +16,10 @@ abbrev μ-points : tie.MeasureT-points
 μ-points bytes at text₀ start i₀ place₀ text i place = length text₀ - place
 
 points-holds : tie.Need-points-holds Inv-points μ-points
-points-holds c = starts _ _ _ _ (c .before .before .pre .0) (c .before .before .pre .1)
+points-holds c = starts _ _ _ _ (c .before .before .pre .0)
 
 judged-at-requires : tie.Need-judged-at-requires Inv-points μ-points
-judged-at-requires c κs = stands (c .before .points .inv) (c .before .before .before .before .pre .2)
+judged-at-requires c κs = stands (c .before .points .inv) (c .before .before .before .before .pre .1)
 
 enum-known-point : tie.Need-enum-known-point Inv-points μ-points
 enum-known-point c = search needs
