@@ -15,7 +15,7 @@ use Rattle.records.specs.Cursors.{flatCursors}
 use Rattle.cursors.specs.Sorted.{sorted}
 use Rattle.verdict.specs.declared.Verdict.{Verdict}
 use Rattle.verdict.specs.declared.Verdict.the-variants.{Accepted, Refused}
-use Rattle.verdict.proofs.Bools.{first-no, second-no, both-yes}
+use Rattle.room.proofs.Bools.{first-no, second-no, both-yes}
 use Rattle.verdict.proofs.Chains.{stops, has-room, lacks-room}
 use Rattle.merging.specs.Lent.{Lent}
 use Rattle.merging.specs.Outputs.{historyText, flatSpans}

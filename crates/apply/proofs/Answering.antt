@@ -26,7 +26,7 @@ use Rattle.shapes.specs.Accepted.{AcceptedList}
 use Rattle.shapes.proofs.Accepted.{text-most}
 use Rattle.checks.proofs.Accepted.{accepted-list}
 use Rattle.checks.proofs.Telling.{says-no, says-yes, says-second}
-use Rattle.verdict.proofs.Bools.{and-left, and-right}
+use Rattle.room.proofs.Bools.{and-left, and-right}
 use Rattle.merging.specs.Lent.{Lent}
 use Rattle.merging.specs.Outputs.{historyText, flatSpans}
 use Rattle.apply.specs.declared.Applied.the-variants as A

@@ -12,7 +12,7 @@ use Rattle.records.specs.declared.Cursor.{Cursor}
 use Rattle.verdict.specs.declared.Verdict.the-variants.{Accepted}
 use Rattle.verdict.specs.Verdicts.{andThen, sized}
 use Rattle.verdict.specs.Points.{pointsVerdict}
-use Rattle.verdict.proofs.Bools.{and-left, and-right}
+use Rattle.room.proofs.Bools.{and-left, and-right}
 use Rattle.verdict.proofs.Chains.{first-passed, rest-passed, size-passed}
 use Rattle.sizes.specs.declared.Limits.{Limits}
 use Rattle.sizes.specs.Texts.{total, claimedBy, insertedBy, textLength}

@@ -13,7 +13,7 @@ use Rattle.records.specs.declared.Cursor.{Cursor}
 use Rattle.verdict.specs.declared.Verdict.{Verdict}
 use Rattle.verdict.specs.declared.Verdict.the-variants.{Accepted, Refused}
 use Rattle.verdict.specs.Verdicts.{andThen, sized}
-use Rattle.verdict.proofs.Bools.{and-left, and-right, second-no, both-yes}
+use Rattle.room.proofs.Bools.{and-left, and-right, second-no, both-yes}
 use Rattle.verdict.proofs.Chains.{stops, goes-on, too-big, fits, first-passed, rest-passed}
 use Rattle.sizes.specs.declared.Limits.{Limits}
 use Rattle.sizes.specs.Texts.{textLength}

@@ -30,7 +30,7 @@ use Rattle.sizes.specs.Sizes.{Small, lentFits}
 use Rattle.shapes.specs.Tiling.{withinFrom}
 use Rattle.checks.specs.Lists.{listVerdict, listsVerdict}
 use Rattle.checks.specs.Passing.{Whole, Inserts, Summed, Good}
-use Rattle.verdict.proofs.Bools.{and-left, first-no}
+use Rattle.room.proofs.Bools.{and-left, first-no}
 use Rattle.verdict.proofs.Chains.{too-big}
 use Rattle.sizes.proofs.Sums.{cap, cap-cap, Adding, adding-begins, adding-in, adding-ends, inserted-other, inserted-run, Totals, totals-begin, totals-on, totals-end}
 use Rattle.shapes.proofs.Shapely.{Looking, looks-begin, looks-on, looks-end, run-is, record-insert, record-part, Recording, records-begin, records-on, records-end}

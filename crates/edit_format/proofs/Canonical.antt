@@ -1,7 +1,7 @@
 -- An accepted file is the written form of its items.
 -- Each step of the reader keeps that the bytes read are those its state is written as. Assumes nothing.
 use mathlib.Core.Path.{_≡_, refl, sym, _∙_}
-use mathlib.Core.Bool.{true, false}
+use mathlib.Core.Bool.{true, false, _&&_}
 use mathlib.Core.List.{List, [], _∷_, _++_, append-assoc, append-nil}
 use Prim.Native.Nat.{ℕ, zero, suc, _+_, _<_}
 use native.Mathlib.Omega.{arith}
@@ -9,13 +9,12 @@ use lib.ListN.{length, take, getD}
 use lib.Seq.{take-suc, take-all}
 use lib.Dec.{ltb, eqb}
 use borrow.Author.Tests.{ltb-true, ltb-false, eqb-true, eqb-false}
-use Rattle.edit_format.specs.Tests.{both}
 use Rattle.edit_format.specs.Digits.{digitOf, isDigit, digits}
 use Rattle.edit_format.specs.Items.{Item, Keep, Drop, Add, kept, dropped, added}
 use Rattle.edit_format.specs.Written.{Head, formKey, originalKey, resultKey, itemsKey, endKey, addKey, keepKey, dropKey, numberLine, itemLine, itemLines, headLines, headOf, written}
 use Rattle.edit_format.specs.Reading.{Line, form, original, result, items, item, ending, keeping, dropping, adding, State, bad, key, gap, num, open′, after, kindKey, keyOf, base, several, hexes, fits, itemOf, opened, next, begun, keyed, numbered, kindOf, step, run, Found, Accepted, finish, readFile}
-use Rattle.room.proofs.Choices.{pick-elim}
-use Rattle.edit_format.proofs.Picks.{both-0, both-1, apart}
+use Rattle.room.proofs.Choices.{pick-elim, no-way}
+use Rattle.room.proofs.Bools.{and-left, and-right}
 use Rattle.edit_format.proofs.NoBeginning.{never}
 use Rattle.edit_format.proofs.DigitLaws.{digit-writes, digit-below, digits-one, digits-more}
 use Rattle.edit_format.proofs.Texts.{before, spaced, Sound, Reads, spaced-snoc, points-snoc, items-snoc, line-ends}
@@ -91,7 +90,7 @@ numbered-reads l cs n b p q s v =
     pick-elim R (fits l cs n)
     (λ f.
     pick-elim R (eqb b 10) (λ e. rw (eqb-true b 10 e) (next-reads l cs n p q s v f))
-    (λ e. pick-elim R (both (several l) (eqb b 32)) (λ t. spaced-on t) (λ t. tt)))
+    (λ e. pick-elim R (several l && eqb b 32) (λ t. spaced-on t) (λ t. tt)))
     (λ f. tt))
   where
     R : State → Type 0
@@ -101,8 +100,8 @@ numbered-reads l cs n b p q s v =
     positive zero f = absurd (f refl)
     positive (suc k) f = omega arith
 
-    spaced-on : both (several l) (eqb b 32) ≡ true → Reads (gap l (cs ++ n ∷ [])) (p ++ b ∷ [])
-    spaced-on e = (rw (q, eqb-true b 32 (both-1 (several l) (eqb b 32) e), spaced-snoc cs n, base-several l (both-0 (several l) (eqb b 32) e)) (simp append-assoc), s, λ f. absurd (apart (sym (both-0 (several l) (eqb b 32) e) ∙ f)))
+    spaced-on : several l && eqb b 32 ≡ true → Reads (gap l (cs ++ n ∷ [])) (p ++ b ∷ [])
+    spaced-on e = (rw (q, eqb-true b 32 (and-right (several l) (eqb b 32) e), spaced-snoc cs n, base-several l (and-left (several l) (eqb b 32) e)) (simp append-assoc), s, λ f. no-way (sym f ∙ and-left (several l) (eqb b 32) e))
 
 step-reads : (s : State) (b : ℕ) (p : List ℕ) → Reads s p → Reads (step s b) (p ++ b ∷ [])
 unfolding step

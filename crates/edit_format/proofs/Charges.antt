@@ -2,7 +2,7 @@
 -- A step stays in its line or, at LF, begins the next one; so wherever the reader stands, every line up to its own has a start. Assumes nothing.
 use mathlib.Core.Path.{_≡_, refl, sym, ap, _∙_, subst}
 use mathlib.Core.Logic.{_⊎_, inl, inr, ⊎-elim}
-use mathlib.Core.Bool.{Bool, true, false}
+use mathlib.Core.Bool.{Bool, true, false, _&&_}
 use mathlib.Core.List.{List, [], _∷_, _++_, append-assoc, append-nil}
 use Prim.Native.Nat.{ℕ, zero, suc, _+_, _≤_}
 use native.Mathlib.Omega.{arith}
@@ -11,14 +11,12 @@ use lib.ListN.{length, getD, length-append}
 use lib.Dec.{ltb, eqb}
 use borrow.Author.Tests.{eqb-true}
 use Rattle.room.specs.Choice.{pick}
-use Rattle.edit_format.specs.Tests.{both}
 use Rattle.edit_format.specs.Digits.{isDigit}
 use Rattle.edit_format.specs.Items.{Item, kept, dropped, added}
 use Rattle.edit_format.specs.Written.{Head}
 use Rattle.edit_format.specs.Reading.{Kind, keeping, dropping, adding, Line, form, original, result, items, item, ending, State, bad, key, gap, num, open′, after, lineNo, kindKey, keyOf, base, several, fits, kindOf, itemOf, opened, next, begun, keyed, numbered, step, run, Found, Accepted, Refused, finish, readFile}
 use Rattle.edit_format.specs.Charge.{ends, Starts, Charged}
-use Rattle.room.proofs.Choices.{pick-elim}
-use Rattle.edit_format.proofs.Picks.{apart}
+use Rattle.room.proofs.Choices.{pick-elim, no-way}
 use Rattle.edit_format.proofs.DigitLaws.{no-digit-lf}
 use Rattle.edit_format.proofs.NoBeginning.{run-append}
 
@@ -79,12 +77,12 @@ plain-at [] i e = refl
 plain-at (k ∷ ks) zero e = go (eqb k 10) refl e
   where
     go : (t : Bool) → eqb k 10 ≡ t → pick t false (plain ks) ≡ true → eqb k 10 ≡ false
-    go true f g = absurd (apart (sym g))
+    go true f g = no-way g
     go false f g = f
 plain-at (k ∷ ks) (suc i) e = plain-at ks i (go (eqb k 10) e)
   where
     go : (t : Bool) → pick t false (plain ks) ≡ true → plain ks ≡ true
-    go true g = absurd (apart (sym g))
+    go true g = no-way g
     go false g = g
 
 plain-key : (l : Line) → plain (keyOf l) ≡ true
@@ -102,7 +100,7 @@ digit-plain : (m b : ℕ) → isDigit m b ≡ true → eqb b 10 ≡ false
 digit-plain m b e = go (eqb b 10) refl
   where
     go : (t : Bool) → eqb b 10 ≡ t → eqb b 10 ≡ false
-    go true f = absurd (apart (sym e ∙ ap (isDigit m) (eqb-true b 10 f) ∙ no-digit-lf m))
+    go true f = no-way (sym (ap (isDigit m) (eqb-true b 10 f) ∙ no-digit-lf m) ∙ e)
     go false f = f
 
 bad-moves : (n b : ℕ) → Moves n b (bad n)
@@ -141,7 +139,7 @@ numbered-moves l cs n b =
     pick-elim (Moves (lineNo l) b) (fits l cs n)
     (λ f.
     pick-elim (Moves (lineNo l) b) (eqb b 10) (λ g. inr (g, next-starts l cs n))
-    (λ g. pick-elim (Moves (lineNo l) b) (both (several l) (eqb b 32)) (λ k. inl (refl, λ a. g)) (λ k. bad-moves (lineNo l) b)))
+    (λ g. pick-elim (Moves (lineNo l) b) (several l && eqb b 32) (λ k. inl (refl, λ a. g)) (λ k. bad-moves (lineNo l) b)))
     (λ f. bad-moves (lineNo l) b))
 
 item-line : (h : Head) (is : List Item) (k : Kind) → lineNo (item h is k) ≡ length is + 5

@@ -1,7 +1,7 @@
 -- Digits written and read back.
 -- By the digit that a byte writes, and by recursion on the number without its last digit. Assumes nothing.
 use mathlib.Core.Path.{_≡_, refl, sym, ap, _∙_}
-use mathlib.Core.Bool.{Bool, true, false}
+use mathlib.Core.Bool.{Bool, true, false, _&&_}
 use mathlib.Core.List.{List, [], _∷_, _++_}
 use Prim.Native.Nat.{ℕ, zero, suc, _+_, _-_, _*_, _/_, _%_, _≤_, _<_, zero-le}
 use native.Mathlib.Nat.{div-lt-self, zero-div, div-eq-of-lt, mul-add-div-right, mul-add-mod-self-right, mod-eq-of-lt, mul-le-mul-right, add-zero}
@@ -10,10 +10,9 @@ use native.Mathlib.Decide.{decLt}
 use lib.Dec.{ltb, eqb}
 use borrow.Author.Tests.{ltb-true, ltb-false, eqb-true, lt-ltb, le-ltb, eq-eqb, ne-eqb}
 use Rattle.room.specs.Choice.{pick}
-use Rattle.edit_format.specs.Tests.{both}
+use Rattle.room.proofs.Bools.{and-left, and-right, and-false}
 use Rattle.edit_format.specs.Digits.{digit, digitOf, isDigit, valueOf, digits, digitsIn}
 use Rattle.room.proofs.Choices.{pick-elim}
-use Rattle.edit_format.proofs.Picks.{both-0, both-1, both-false}
 
 pub digit-back : (d : ℕ) → digitOf (digit d) ≡ d
 unfolding digit digitOf
@@ -29,11 +28,11 @@ is-digit m d h = rw (digit-back d, eq-eqb (digit d) (digit d) refl, lt-ltb d m h
 -- what a digit's byte says
 pub digit-writes : (m b : ℕ) → isDigit m b ≡ true → digit (digitOf b) ≡ b
 unfolding isDigit
-digit-writes m b e = eqb-true (digit (digitOf b)) b (both-0 (eqb (digit (digitOf b)) b) (ltb (digitOf b) m) e)
+digit-writes m b e = eqb-true (digit (digitOf b)) b (and-left (eqb (digit (digitOf b)) b) (ltb (digitOf b) m) e)
 
 pub digit-below : (m b : ℕ) → isDigit m b ≡ true → digitOf b < m
 unfolding isDigit
-digit-below m b e = ltb-true (digitOf b) m (both-1 (eqb (digit (digitOf b)) b) (ltb (digitOf b) m) e)
+digit-below m b e = ltb-true (digitOf b) m (and-right (eqb (digit (digitOf b)) b) (ltb (digitOf b) m) e)
 
 pub no-digit-lf : (m : ℕ) → isDigit m 10 ≡ false
 unfolding isDigit digit digitOf
@@ -106,7 +105,7 @@ value-six b g h =
 
 pub value-high : (b : ℕ) → 103 ≤ b → valueOf b ≡ 16
 unfolding valueOf isDigit digitOf
-value-high b h = rw (le-ltb b 58 (omega arith), le-ltb (b - 87) 16 (omega arith), both-false (eqb (digit (b - 87)) b))
+value-high b h = rw (le-ltb b 58 (omega arith), le-ltb (b - 87) 16 (omega arith), and-false (eqb (digit (b - 87)) b))
 
 -- what the code finds with no branch: a letter's last four bits are 9 less than its digit
 pub value-bits : (b : ℕ) → valueOf b < 16 → b % 16 + 9 * (b / 64) ≡ valueOf b
@@ -139,11 +138,11 @@ pub value-test : (m b : ℕ) → m ≤ 16 → ltb (valueOf b) m ≡ isDigit m b
 unfolding valueOf isDigit
 value-test m b h = go (eqb (digit (digitOf b)) b) (ltb (digitOf b) 16) refl
   where
-    go : (t u : Bool) → ltb (digitOf b) 16 ≡ u → ltb (pick (both t u) (digitOf b) 16) m ≡ both t (ltb (digitOf b) m)
+    go : (t u : Bool) → ltb (digitOf b) 16 ≡ u → ltb (pick (t && u) (digitOf b) 16) m ≡ t && ltb (digitOf b) m
     go true true e = refl
     go true false e = rw (le-ltb 16 m h) (sym (le-ltb (digitOf b) m (let w : 16 ≤ digitOf b = ltb-false (digitOf b) 16 e in omega arith)))
     go false u e = le-ltb 16 m h
 
 pub value-of : (m b : ℕ) → m ≤ 16 → isDigit m b ≡ true → valueOf b ≡ digitOf b
 unfolding valueOf isDigit
-value-of m b h e = rw (both-0 (eqb (digit (digitOf b)) b) (ltb (digitOf b) m) e, lt-ltb (digitOf b) 16 (let w : digitOf b < m = digit-below m b e in omega arith))
+value-of m b h e = rw (and-left (eqb (digit (digitOf b)) b) (ltb (digitOf b) m) e, lt-ltb (digitOf b) 16 (let w : digitOf b < m = digit-below m b e in omega arith))

@@ -1,7 +1,7 @@
 -- What a state finds in the bytes that are left, key by key and number by number: the facts by which code that reads line by line is tied to the reader's steps.
 -- Each is a case of `step` followed by the run of what is left. Assumes nothing.
 use mathlib.Core.Path.{_≡_, refl, sym, ap, _∙_}
-use mathlib.Core.Bool.{Bool, true, false}
+use mathlib.Core.Bool.{Bool, true, false, _&&_}
 use mathlib.Core.List.{List, [], _∷_, _++_}
 use Prim.Native.Nat.{ℕ, suc, _+_, _-_, _*_, _≤_, _<_}
 use native.Mathlib.Nat.{sub-zero}
@@ -12,12 +12,13 @@ use lib.Seq.{drop-cons, drop-nil}
 use lib.Dec.{eqb}
 use borrow.Author.Tests.{lt-ltb, le-ltb}
 use Rattle.room.specs.Choice.{pick}
-use Rattle.edit_format.specs.Tests.{both, begins}
+use Rattle.room.proofs.Bools.{and-left, and-right}
+use Rattle.room.proofs.Choices.{never}
+use Rattle.edit_format.specs.Tests.{begins}
 use Rattle.edit_format.specs.Digits.{digitOf, isDigit}
 use Rattle.edit_format.specs.Reading.{Line, bad, key, gap, num, open′, item, lineNo, keyOf, base, several, fits, next, begun, keyed, numbered, kindOf, step, run, Refused, finish, found}
 use Rattle.edit_format.specs.Items.{Item}
 use Rattle.edit_format.specs.Written.{Head}
-use Rattle.edit_format.proofs.Picks.{both-0, both-1, apart}
 use Rattle.edit_format.proofs.DigitLaws.{no-digit-lf, no-digit-space}
 use Rattle.edit_format.proofs.NoBeginning.{run-bad}
 
@@ -40,7 +41,7 @@ unfolding step keyed
 key-other l i b h e = rw (lt-ltb i (length (keyOf l)) h, e)
 
 -- what `begins` says of the key from its byte i on
-begins-at : (l : Line) (i b : ℕ) (bs : List ℕ) → i < length (keyOf l) → begins (drop i (keyOf l)) (b ∷ bs) ≡ both (eqb b (getD (keyOf l) i 0)) (begins (drop (suc i) (keyOf l)) bs)
+begins-at : (l : Line) (i b : ℕ) (bs : List ℕ) → i < length (keyOf l) → begins (drop i (keyOf l)) (b ∷ bs) ≡ eqb b (getD (keyOf l) i 0) && begins (drop (suc i) (keyOf l)) bs
 unfolding begins
 begins-at l i b bs h = rw (drop-cons (keyOf l) i 0 h)
 
@@ -56,9 +57,9 @@ unfolding finish run
 key-more l i [] h = rw (drop-nil (length (keyOf l) - i))
 key-more l i (b ∷ bs) h = elim (decLt i (length (keyOf l))) [
   | yes g ↦
-      let w : both (eqb b (getD (keyOf l) i 0)) (begins (drop (suc i) (keyOf l)) bs) ≡ true = rw (begins-at l i b bs g) at h in
-      rw (key-same l i b g (both-0 (eqb b (getD (keyOf l) i 0)) _ w), drop-rest (length (keyOf l)) i b bs g)
-      (key-more l (suc i) bs (both-1 (eqb b (getD (keyOf l) i 0)) _ w))
+      let w : eqb b (getD (keyOf l) i 0) && begins (drop (suc i) (keyOf l)) bs ≡ true = rw (begins-at l i b bs g) at h in
+      rw (key-same l i b g (and-left (eqb b (getD (keyOf l) i 0)) _ w), drop-rest (length (keyOf l)) i b bs g)
+      (key-more l (suc i) bs (and-right (eqb b (getD (keyOf l) i 0)) _ w))
   | no g ↦ let e : length (keyOf l) - i ≡ 0 = omega arith in key-past l i (b ∷ bs) (omega arith) ∙ rw e
 ]
 
@@ -67,10 +68,10 @@ unfolding finish run
 key-less l i [] h = refl
 key-less l i (b ∷ bs) h = elim (decLt i (length (keyOf l))) [
   | yes g ↦ go g (eqb b (getD (keyOf l) i 0)) refl (λ w. key-less l (suc i) bs w) (rw (begins-at l i b bs g) at h)
-  | no g ↦ absurd (apart (sym (begins-all l i (b ∷ bs) (omega arith)) ∙ h))
+  | no g ↦ never (sym (begins-all l i (b ∷ bs) (omega arith)) ∙ h)
 ]
   where
-    go : i < length (keyOf l) → (t : Bool) → eqb b (getD (keyOf l) i 0) ≡ t → (begins (drop (suc i) (keyOf l)) bs ≡ false → found (key l (suc i)) bs ≡ Refused (lineNo l)) → both t (begins (drop (suc i) (keyOf l)) bs) ≡ false → found (step (key l i) b) bs ≡ Refused (lineNo l)
+    go : i < length (keyOf l) → (t : Bool) → eqb b (getD (keyOf l) i 0) ≡ t → (begins (drop (suc i) (keyOf l)) bs ≡ false → found (key l (suc i)) bs ≡ Refused (lineNo l)) → t && begins (drop (suc i) (keyOf l)) bs ≡ false → found (step (key l i) b) bs ≡ Refused (lineNo l)
     go g true e f w = rw (key-same l i b g e) (f w)
     go g false e f w = rw (key-other l i b g e) (found-bad (lineNo l) bs)
 
@@ -117,7 +118,7 @@ pub num-unfit : (l : Line) (cs : List ℕ) (n b : ℕ) (bs : List ℕ) → isDig
 unfolding run step numbered
 num-unfit l cs n b bs e f = rw (e, f) (found-bad (lineNo l) bs)
 
-pub num-other : (l : Line) (cs : List ℕ) (n b : ℕ) (bs : List ℕ) → isDigit (base l) b ≡ false → eqb b 10 ≡ false → both (several l) (eqb b 32) ≡ false → found (num l cs n) (b ∷ bs) ≡ Refused (lineNo l)
+pub num-other : (l : Line) (cs : List ℕ) (n b : ℕ) (bs : List ℕ) → isDigit (base l) b ≡ false → eqb b 10 ≡ false → several l && eqb b 32 ≡ false → found (num l cs n) (b ∷ bs) ≡ Refused (lineNo l)
 unfolding run step numbered
 num-other l cs n b bs e f g = rw (e, f, g) (go (fits l cs n))
   where

@@ -1,4 +1,3 @@
-pub mod Picks
 pub mod DigitLaws
 pub mod Texts
 pub mod NoBeginning

@@ -1,7 +1,7 @@
 -- The written form of good items reads back as these items.
 -- Line by line, each line read from where the reader stands. Assumes nothing.
 use mathlib.Core.Path.{_≡_, refl, sym, ap, _∙_}
-use mathlib.Core.Bool.{Bool, true, false, not}
+use mathlib.Core.Bool.{Bool, true, false, not, _&&_}
 use mathlib.Core.List.{List, [], _∷_, _++_, append-assoc, append-nil}
 use Prim.Native.Nat.{ℕ, zero, suc, _+_, _*_, _/_, _%_, _≤_, _<_}
 use native.Mathlib.Nat.{div-add-mod', mod-lt}
@@ -9,14 +9,13 @@ use native.Mathlib.Omega.{arith}
 use lib.ListN.{length, length-append}
 use lib.Dec.{ltb, leb}
 use borrow.Author.Tests.{ltb-true, ltb-false, leb-true, lt-ltb, le-ltb, le-leb, eq-eqb, ne-eqb}
-use Rattle.edit_format.specs.Tests.{both}
 use Rattle.edit_format.specs.Digits.{digit, digits, digitsIn}
 use Rattle.numbers.specs.Points.{isPoint}
 use Rattle.edit_format.specs.Items.{Item, Keep, Drop, Add, kept, dropped, added, isKeep, endsKeep, allPoints, itemsGood, Good}
 use Rattle.edit_format.specs.Written.{Head, formKey, originalKey, resultKey, itemsKey, endKey, numberLine, points, itemLine, itemLines, headLines, headOf, written}
 use Rattle.edit_format.specs.Reading.{Line, form, original, result, items, item, ending, keeping, dropping, adding, State, key, gap, num, open′, after, kindKey, keyOf, base, several, hexes, fitsItem, fits, itemOf, opened, next, begun, keyed, numbered, kindOf, step, run, Accepted, finish, readFile}
 use Rattle.room.proofs.Choices.{pick-elim}
-use Rattle.edit_format.proofs.Picks.{both-0, both-1}
+use Rattle.room.proofs.Bools.{and-left, and-right}
 use Rattle.edit_format.proofs.DigitLaws.{digit-back, is-digit, no-digit-lf, no-digit-space, shorter}
 use Rattle.edit_format.proofs.NoBeginning.{run-append}
 
@@ -105,14 +104,14 @@ points-read h p bs s t c [] k g w =
     let l : Line = item h p adding in
     run-append s (digitsIn c 16 c) (10 ∷ [])
     ∙ ap (λ (x : State). step x 10) (number-read l bs s t c c (omega arith))
-    ∙ lf-read l bs c (rw (lt-ltb (length p) 8192 k, both-0 (isPoint c) true g, le-leb (added p + length bs + 1) 131070 (omega arith)))
+    ∙ lf-read l bs c (rw (lt-ltb (length p) 8192 k, and-left (isPoint c) true g, le-leb (added p + length bs + 1) 131070 (omega arith)))
 points-read h p bs s t c (d ∷ cs) k g w =
     let l : Line = item h p adding in
     ap (run s) (append-assoc (digitsIn c 16 c) (32 ∷ points (d ∷ cs)) (10 ∷ []))
     ∙ run-append s (digitsIn c 16 c) (32 ∷ points (d ∷ cs) ++ 10 ∷ [])
     ∙ ap (λ (x : State). run (step x 32) (points (d ∷ cs) ++ 10 ∷ [])) (number-read l bs s t c c (omega arith))
-    ∙ ap (λ (x : State). run x (points (d ∷ cs) ++ 10 ∷ [])) (space-read l bs c refl (rw (lt-ltb (length p) 8192 k, both-0 (isPoint c) (allPoints (d ∷ cs)) g, le-leb (added p + length bs + 1) 131070 (omega arith))))
-    ∙ points-read h p (bs ++ c ∷ []) (gap l (bs ++ c ∷ [])) (gap-past l (bs ++ c ∷ [])) d cs k (both-1 (isPoint c) (allPoints (d ∷ cs)) g) (rw (length-append bs (c ∷ [])) (omega arith))
+    ∙ ap (λ (x : State). run x (points (d ∷ cs) ++ 10 ∷ [])) (space-read l bs c refl (rw (lt-ltb (length p) 8192 k, and-left (isPoint c) (allPoints (d ∷ cs)) g, le-leb (added p + length bs + 1) 131070 (omega arith))))
+    ∙ points-read h p (bs ++ c ∷ []) (gap l (bs ++ c ∷ [])) (gap-past l (bs ++ c ∷ [])) d cs k (and-right (isPoint c) (allPoints (d ∷ cs)) g) (rw (length-append bs (c ∷ [])) (omega arith))
     ∙ ap (λ (x : List ℕ). opened h (p ++ Add x ∷ [])) (append-assoc bs (c ∷ []) (d ∷ cs))
 
 -- an item fits after the items p
@@ -159,23 +158,23 @@ ends-snoc (y ∷ z ∷ p) x = ends-snoc (z ∷ p) x
 fits-of : (p q : List Item) (x : Item) → kept (p ++ x ∷ q) + dropped (p ++ x ∷ q) ≤ 65535 → added (p ++ x ∷ q) ≤ 131070 → itemsGood (endsKeep p) (x ∷ q) ≡ true → Fits p x
 unfolding itemsGood fitsItem kept dropped added
 fits-of p q (Keep n) u a g =
-    let w : both (leb 1 n) (not (endsKeep p)) ≡ true = both-0 (both (leb 1 n) (not (endsKeep p))) (itemsGood true q) g in
-    rw (both-1 (leb 1 n) (not (endsKeep p)) w, both-0 (leb 1 n) (not (endsKeep p)) w, le-leb (kept p + dropped p + n) 65535 (omega (arith, kept-append p (Keep n ∷ q), dropped-append p (Keep n ∷ q))))
+    let w : leb 1 n && not (endsKeep p) ≡ true = and-left (leb 1 n && not (endsKeep p)) (itemsGood true q) g in
+    rw (and-right (leb 1 n) (not (endsKeep p)) w, and-left (leb 1 n) (not (endsKeep p)) w, le-leb (kept p + dropped p + n) 65535 (omega (arith, kept-append p (Keep n ∷ q), dropped-append p (Keep n ∷ q))))
 fits-of p q (Drop n) u a g =
-    rw (both-0 (leb 1 n) (itemsGood false q) g, le-leb (kept p + dropped p + n) 65535 (omega (arith, kept-append p (Drop n ∷ q), dropped-append p (Drop n ∷ q))))
+    rw (and-left (leb 1 n) (itemsGood false q) g, le-leb (kept p + dropped p + n) 65535 (omega (arith, kept-append p (Drop n ∷ q), dropped-append p (Drop n ∷ q))))
 fits-of p q (Add cs) u a g =
-    let w : both (leb 1 (length cs)) (allPoints cs) ≡ true = both-0 (both (leb 1 (length cs)) (allPoints cs)) (itemsGood false q) g in (
-      leb-true 1 (length cs) (both-0 (leb 1 (length cs)) (allPoints cs) w),
-      both-1 (leb 1 (length cs)) (allPoints cs) w,
+    let w : leb 1 (length cs) && allPoints cs ≡ true = and-left (leb 1 (length cs) && allPoints cs) (itemsGood false q) g in (
+      leb-true 1 (length cs) (and-left (leb 1 (length cs)) (allPoints cs) w),
+      and-right (leb 1 (length cs)) (allPoints cs) w,
       omega (arith, added-append p (Add cs ∷ q)),
     )
 
 -- what stands behind a good item is good
 pub good-rest : (k : Bool) (x : Item) (q : List Item) → itemsGood k (x ∷ q) ≡ true → itemsGood (isKeep x) q ≡ true
 unfolding itemsGood isKeep
-good-rest k (Keep n) q g = both-1 (both (leb 1 n) (not k)) (itemsGood true q) g
-good-rest k (Drop n) q g = both-1 (leb 1 n) (itemsGood false q) g
-good-rest k (Add cs) q g = both-1 (both (leb 1 (length cs)) (allPoints cs)) (itemsGood false q) g
+good-rest k (Keep n) q g = and-right (leb 1 n && not k) (itemsGood true q) g
+good-rest k (Drop n) q g = and-right (leb 1 n) (itemsGood false q) g
+good-rest k (Add cs) q g = and-right (leb 1 (length cs) && allPoints cs) (itemsGood false q) g
 
 not-last : (h : Head) (p q : List Item) (x : Item) → h .count ≡ length (p ++ x ∷ q) → opened h p ≡ open′ h p
 unfolding opened

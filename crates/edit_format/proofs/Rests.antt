@@ -1,12 +1,12 @@
 -- What an accepted file's bytes still hold, from any place of it on: at least the text that the line being read needs, and, once the end line is due, no further item.
 -- Each is kept by every step that does not find a bad line. Assumes nothing.
 use mathlib.Core.Path.{_≡_, refl}
+use mathlib.Core.Bool.{_&&_}
 use mathlib.Core.List.{List, [], _∷_, _++_}
 use Prim.Native.Nat.{ℕ, _+_, _≤_}
 use native.Mathlib.Omega.{arith}
 use lib.ListN.{length, getD, length-append}
 use lib.Dec.{ltb, eqb}
-use Rattle.edit_format.specs.Tests.{both}
 use Rattle.edit_format.specs.Digits.{isDigit}
 use Rattle.edit_format.specs.Items.{Item, Keep, Drop, Add, kept, dropped, added}
 use Rattle.edit_format.specs.Written.{Head}
@@ -82,7 +82,7 @@ step-above n (num l cs m) b g =
     pick-elim (Above n) (isDigit (base l) b) (λ e. pick-elim (Above n) (eqb m 0) (λ e. tt) (λ e. g))
     (λ e.
     pick-elim (Above n) (fits l cs m)
-    (λ f. pick-elim (Above n) (eqb b 10) (λ e. next-above n l cs m g) (λ e. pick-elim (Above n) (both (several l) (eqb b 32)) (λ e. gap-above n l cs m g) (λ e. tt)))
+    (λ f. pick-elim (Above n) (eqb b 10) (λ e. next-above n l cs m g) (λ e. pick-elim (Above n) (several l && eqb b 32) (λ e. gap-above n l cs m g) (λ e. tt)))
     (λ f. tt))
 step-above n (open′ h is) b g = keyed-above n (item h is (kindOf b)) 0 b (kind-above n h is (kindOf b) g)
 step-above n (after h is) b g = tt

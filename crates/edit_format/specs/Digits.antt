@@ -1,10 +1,9 @@
 -- Numbers in a base up to 16, as an edit file writes them. Assumes nothing.
 use Prim.Native.Nat.{ℕ, zero, suc, _+_, _-_, _/_, _%_}
-use mathlib.Core.Bool.{Bool}
+use mathlib.Core.Bool.{Bool, _&&_}
 use mathlib.Core.List.{List, [], _∷_, _++_}
 use lib.Dec.{ltb, eqb}
 use Rattle.room.specs.Choice.{pick}
-use Rattle.edit_format.specs.Tests.{both}
 
 -- "Numbers are decimal, `add=` one or more code points in lower-case hex": the byte of a digit, 0 to 9, then a to f
 unfoldable pub digit : ℕ → ℕ
@@ -16,7 +15,7 @@ digitOf b = pick (ltb b 58) (b - 48) (b - 87)
 
 -- "decimal", "lower-case hex": the byte writes a digit of base m
 unfoldable pub isDigit : ℕ → ℕ → Bool
-isDigit m b = both (eqb (digit (digitOf b)) b) (ltb (digitOf b) m)
+isDigit m b = eqb (digit (digitOf b)) b && ltb (digitOf b) m
 
 -- the digit that a byte writes in lower-case hex, and 16 for every other byte
 unfoldable pub valueOf : ℕ → ℕ

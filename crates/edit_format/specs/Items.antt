@@ -1,12 +1,11 @@
 -- The items of an edit file, and which of them a file can hold. Assumes nothing.
 use mathlib.Core.Path.{_≡_}
 use Prim.Native.Nat.{ℕ, _+_, _≤_}
-use mathlib.Core.Bool.{Bool, true, false, not}
+use mathlib.Core.Bool.{Bool, true, false, not, _&&_}
 use mathlib.Core.List.{List, [], _∷_, _++_}
 use lib.ListN.{length}
 use lib.Dec.{leb}
 use Rattle.numbers.specs.Points.{isPoint}
-use Rattle.edit_format.specs.Tests.{both}
 
 -- "`keep=`, `drop=` or `add=`"
 pub data Item : Type 0 where
@@ -58,14 +57,14 @@ endsKeep (i ∷ j ∷ is) = endsKeep (j ∷ is)
 -- "Code points outside refusal 4's rule only": all are code points
 unfoldable pub allPoints : List ℕ → Bool
 allPoints [] = true
-allPoints (c ∷ cs) = both (isPoint c) (allPoints cs)
+allPoints (c ∷ cs) = isPoint c && allPoints cs
 
 -- "keep and drop are at least 1; two keeps never follow each other", "one or more code points"; k: the item before was a keep
 unfoldable pub itemsGood : Bool → List Item → Bool
 itemsGood k [] = true
-itemsGood k (Keep n ∷ is) = both (both (leb 1 n) (not k)) (itemsGood true is)
-itemsGood k (Drop n ∷ is) = both (leb 1 n) (itemsGood false is)
-itemsGood k (Add cs ∷ is) = both (both (leb 1 (length cs)) (allPoints cs)) (itemsGood false is)
+itemsGood k (Keep n ∷ is) = (leb 1 n && not k) && itemsGood true is
+itemsGood k (Drop n ∷ is) = leb 1 n && itemsGood false is
+itemsGood k (Add cs ∷ is) = (leb 1 (length cs) && allPoints cs) && itemsGood false is
 
 -- "Sizes as above": "original 65,535 code points", "diff items 8,192 with 131,070 code points of text"
 pub record Good (is : List Item) : Type 0 where

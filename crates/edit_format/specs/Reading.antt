@@ -1,12 +1,11 @@
 -- What a reader finds in any bytes: the line that is being read, the rules of each line, and one step a byte. Its state holds the items
 -- read, so what is found so far is in plain sight, and a file read in parts takes the same steps. Assumes nothing.
 use Prim.Native.Nat.{ℕ, suc, _+_, _*_}
-use mathlib.Core.Bool.{Bool, true, false, not}
+use mathlib.Core.Bool.{Bool, true, false, not, _&&_}
 use mathlib.Core.List.{List, [], _∷_, _++_}
 use lib.ListN.{length, getD}
 use lib.Dec.{ltb, leb, eqb}
 use Rattle.room.specs.Choice.{pick}
-use Rattle.edit_format.specs.Tests.{both}
 use Rattle.edit_format.specs.Digits.{digitOf, isDigit}
 use Rattle.numbers.specs.Points.{isPoint}
 use Rattle.edit_format.specs.Items.{Item, Keep, Drop, Add, kept, dropped, added, endsKeep}
@@ -72,9 +71,9 @@ base l = pick (several l) 16 10
 
 -- "keep and drop are at least 1; two keeps never follow each other", "a total over its size to the line that passes it"
 unfoldable pub fitsItem : List Item → Kind → List ℕ → ℕ → Bool
-fitsItem is keeping cs n = both (not (endsKeep is)) (both (leb 1 n) (leb (kept is + dropped is + n) 65535))
-fitsItem is dropping cs n = both (leb 1 n) (leb (kept is + dropped is + n) 65535)
-fitsItem is adding cs n = both (isPoint n) (leb (added is + length cs + 1) 131070)
+fitsItem is keeping cs n = not (endsKeep is) && (leb 1 n && leb (kept is + dropped is + n) 65535)
+fitsItem is dropping cs n = leb 1 n && leb (kept is + dropped is + n) 65535
+fitsItem is adding cs n = isPoint n && leb (added is + length cs + 1) 131070
 
 -- the number n, with the numbers cs before it in its line, breaks no rule there: "`form=1`", "Sizes as above", "`result=` has no size",
 -- "`end=` with the item count"
@@ -84,7 +83,7 @@ fits form cs n = eqb n 1
 fits original cs n = leb n 65535
 fits (result o) cs n = true
 fits (items o r) cs n = leb n 8192
-fits (item h is k) cs n = both (ltb (length is) 8192) (fitsItem is k cs n)
+fits (item h is k) cs n = ltb (length is) 8192 && fitsItem is k cs n
 fits (ending h is) cs n = eqb n (h .count)
 
 -- "Lines end in LF, in this order": where the reader stands between two bytes
@@ -143,7 +142,7 @@ numbered l cs n b =
     pick (isDigit (base l) b)
     (pick (eqb n 0) (bad (lineNo l)) (num l cs (n * base l + digitOf b)))
     (pick (fits l cs n)
-    (pick (eqb b 10) (next l cs n) (pick (both (several l) (eqb b 32)) (gap l (cs ++ n ∷ [])) (bad (lineNo l))))
+    (pick (eqb b 10) (next l cs n) (pick (several l && eqb b 32) (gap l (cs ++ n ∷ [])) (bad (lineNo l))))
     (bad (lineNo l)))
 
 -- one byte more; "bytes after the end to the line after"

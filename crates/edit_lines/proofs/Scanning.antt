@@ -1,7 +1,7 @@
 -- The leaves' findings against the reader's steps: what is left after a number, a line or a code point decides what was left before it.
 -- By induction on the bytes; a number is held exactly or as the cap, and no rule tells a number at the cap from a larger one. Assumes nothing.
 use mathlib.Core.Path.{_≡_, refl, sym, ap, _∙_}
-use mathlib.Core.Bool.{Bool, true, false}
+use mathlib.Core.Bool.{Bool, true, false, not, _&&_}
 use mathlib.Core.List.{List, [], _∷_, _++_}
 use Prim.Native.Nat.{ℕ, suc, _+_, _-_, _*_, _≤_, _<_, zero-le}
 use native.Mathlib.Nat.{mul-le-mul-left, mul-one}
@@ -10,9 +10,10 @@ use native.Mathlib.Decide.{decLe, decLt}
 use lib.ListN.{length, getD, drop, length-drop, drop-of-length-le, List·getD-eq-default}
 use lib.Seq.{drop-drop, getD-drop}
 use lib.Dec.{ltb, leb, eqb}
-use borrow.Author.Tests.{lt-ltb, le-leb, lt-leb, eqb-true, eqb-false, eq-eqb, ne-eqb}
+use borrow.Author.Tests.{le-ltb, lt-ltb, le-leb, lt-leb, leb-true, leb-false, eqb-true, eqb-false, eq-eqb, ne-eqb}
 use Rattle.room.specs.Choice.{pick}
-use Rattle.edit_format.specs.Tests.{both, begins}
+use Rattle.room.proofs.Bools.{and-true, and-false}
+use Rattle.edit_format.specs.Tests.{begins}
 use Rattle.edit_format.specs.Digits.{digit, digitOf, isDigit}
 use Rattle.numbers.specs.Points.{isPoint}
 use Rattle.numbers.proofs.Points.{point-most}
@@ -22,7 +23,6 @@ use Rattle.edit_format.specs.Reading.{Line, item, adding, key, gap, num, lineNo
 use Rattle.edit_format.proofs.DigitLaws.{digit-below}
 use Rattle.room.proofs.Choices.{pick-elim}
 use Rattle.numbers.proofs.Orders.{leb-same}
-use Rattle.edit_format.proofs.Picks.{flip, both-true, both-false}
 use Rattle.edit_format.proofs.Finding.{key-on, key-off, gap-digit, gap-other, num-digit, num-zero, num-lf, num-space, num-unfit, num-other}
 use Rattle.edit_format.proofs.ReadBack.{base-ten}
 use Rattle.edit_lines.specs.Scan.{cap, more, scan, closedAt, lineAt, endedAt, pointAt}
@@ -120,7 +120,7 @@ num-stop l cs p m j d f = elim (decLt j (length p)) [
   | no h ↦ num-cut l cs p m j (omega arith)
 ]
 
-num-odd : (l : Line) (cs p : List ℕ) (m j : ℕ) → isDigit (base l) (getD p j 0) ≡ false → eqb (getD p j 0) 10 ≡ false → both (several l) (eqb (getD p j 0) 32) ≡ false → found (num l cs m) (drop j p) ≡ Refused (lineNo l)
+num-odd : (l : Line) (cs p : List ℕ) (m j : ℕ) → isDigit (base l) (getD p j 0) ≡ false → eqb (getD p j 0) 10 ≡ false → several l && eqb (getD p j 0) 32 ≡ false → found (num l cs m) (drop j p) ≡ Refused (lineNo l)
 num-odd l cs p m j d f g = elim (decLt j (length p)) [
   | yes h ↦ ap (found (num l cs m)) (at-byte p j h) ∙ num-other l cs m (getD p j 0) (drop (j + 1) p) d f g
   | no h ↦ num-cut l cs p m j (omega arith)
@@ -182,6 +182,14 @@ cap-le n k h = leb-same (cap n) k n k (λ e. omega arith) (λ e. omega arith)
 cap-ge : (n k : ℕ) → k < 2000000 → leb k (cap n) ≡ leb k n
 cap-ge n k h = leb-same k (cap n) k n (λ e. omega arith) (λ e. omega arith)
 
+flip-as : (a b : ℕ) (t : Bool) → leb b a ≡ t → ltb a b ≡ not t
+flip-as a b true e = le-ltb a b (leb-true b a e)
+flip-as a b false e = lt-ltb a b (leb-false b a e)
+
+-- a test the other way round
+flip : (a b : ℕ) → ltb a b ≡ not (leb b a)
+flip a b = flip-as a b (leb b a) refl
+
 cap-point : (n : ℕ) → isPoint (cap n) ≡ isPoint n
 unfolding isPoint
 cap-point n = rw (flip (cap n) 0xd800, flip n 0xd800, cap-ge n 0xd800 (omega arith), cap-ge n 0xe000 (omega arith), cap-le n 0x10ffff (omega arith))
@@ -192,11 +200,11 @@ point-exact n e = omega (arith, point-most n e)
 module _ (h : Head) (is : List Item) (few : length is < 8192) where
   point-fits : (cs : List ℕ) (n : ℕ) (t : Bool) → isPoint n ≡ t → added is + length cs + 1 ≤ 131070 → fits (item h is adding) cs n ≡ t
   unfolding fits fitsItem
-  point-fits cs n t e g = rw (lt-ltb (length is) 8192 few, e, le-leb (added is + length cs + 1) 131070 g) (both-true t)
+  point-fits cs n t e g = rw (lt-ltb (length is) 8192 few, e, le-leb (added is + length cs + 1) 131070 g) (and-true t)
 
   no-room : (cs : List ℕ) (n : ℕ) → 131070 < added is + length cs + 1 → fits (item h is adding) cs n ≡ false
   unfolding fits fitsItem
-  no-room cs n g = rw (lt-leb (added is + length cs + 1) 131070 g, both-false (isPoint n)) (both-false (ltb (length is) 8192))
+  no-room cs n g = rw (lt-leb (added is + length cs + 1) 131070 g, and-false (isPoint n)) (and-false (ltb (length is) 8192))
 
   ended : (cs p : List ℕ) (i : ℕ) (r : Number) → added is + length cs + 1 ≤ 131070 → Scanned (item h is adding) cs p i r → Pointed h is cs p i (endedAt p r)
   unfolding endedAt lineNo next itemOf several hexes

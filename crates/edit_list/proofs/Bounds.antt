@@ -1,23 +1,22 @@
 -- Shown: how many items and code points a file of so many bytes can have.
 -- How: by the shortest line of each kind, over the file's written form. Assumes nothing.
 use mathlib.Core.Path.{_≡_, ap}
-use mathlib.Core.Bool.{Bool, true, false}
+use mathlib.Core.Bool.{Bool, true, false, _&&_}
 use mathlib.Core.List.{List, [], _∷_, _++_}
 use Prim.Native.Nat.{ℕ, zero, suc, _+_, _*_, _/_, _%_, _≤_}
 use native.Mathlib.Omega.{arith}
 use lib.ListN.{length, length-append}
 use lib.Dec.{leb, ltb}
 use borrow.Author.Tests.{leb-true}
-use Rattle.edit_format.specs.Tests.{both}
 use Rattle.edit_format.specs.Digits.{digit, digits, digitsIn}
 use Rattle.edit_format.specs.Items.{Item, Keep, Drop, Add, texts, isKeep, allPoints, itemsGood}
 use Rattle.edit_format.specs.Written.{keepKey, dropKey, addKey, endKey, numberLine, points, itemLine, itemLines, headLines, headOf, written}
 use Rattle.edit_format.specs.Reading.{readFile, Accepted}
 use Rattle.edit_format.specs.Records.{size}
 use Rattle.edit_format.proofs.Accepts.{accepted-good}
-use Rattle.edit_format.proofs.Picks.{both-0}
 use Rattle.edit_format.proofs.ReadBack.{good-rest}
 use Rattle.room.proofs.Choices.{pick-elim}
+use Rattle.room.proofs.Bools.{and-left}
 use Rattle.edit_format.proofs.Canonical.{canonical}
 
 some-in : (f m n : ℕ) → 1 ≤ length (digitsIn f m n)
@@ -80,10 +79,10 @@ good-long k (Drop n ∷ is) g =
       good-long false is (good-rest k (Drop n) is g),
     )
 good-long k (Add cs ∷ is) g =
-    let a = both-0 (both (leb 1 (length cs)) (allPoints cs)) (itemsGood false is) g in
+    let a = and-left (leb 1 (length cs) && allPoints cs) (itemsGood false is) g in
     omega (
       arith,
-      leb-true 1 (length cs) (both-0 (leb 1 (length cs)) (allPoints cs) a),
+      leb-true 1 (length cs) (and-left (leb 1 (length cs)) (allPoints cs) a),
       item-long (Add cs),
       length-append (itemLine (Add cs)) (itemLines is),
       good-long false is (good-rest k (Add cs) is g),

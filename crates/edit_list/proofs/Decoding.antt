@@ -1,7 +1,7 @@
 -- Shown: the records of a file's items are read back as the runs of those items.
 -- How: by induction on the items, each record decoded by its kind; what is left of the rooms begins with the items left. Assumes nothing.
 use mathlib.Core.Path.{_≡_, refl, sym, _∙_}
-use mathlib.Core.Bool.{Bool, true, false, not}
+use mathlib.Core.Bool.{Bool, true, false, not, _&&_}
 use mathlib.Core.List.{List, [], _∷_, _++_, append-assoc}
 use Prim.Native.Nat.{ℕ, zero, suc, _+_, _*_, _≤_}
 use native.Mathlib.Nat.{add-assoc}
@@ -11,11 +11,10 @@ use lib.Seq.{take-append-seam}
 use lib.IntN.{ℤ, pos, negsuc}
 use lib.Dec.{leb}
 use borrow.Author.Tests.{le-leb, leb-true}
+use Rattle.room.proofs.Bools.{and-left}
 use Rattle.diff.specs.Items.{numbered, ranged, itemOf, itemAt, itemsFrom}
 use Rattle.edit_format.specs.Items.{Item, Keep, Drop, Add, added, texts, isKeep, itemsGood, allPoints}
 use Rattle.edit_format.specs.Records.{recordOf, recordsFrom, size}
-use Rattle.edit_format.specs.Tests.{both}
-use Rattle.edit_format.proofs.Picks.{both-0}
 use Rattle.edit_format.proofs.ReadBack.{good-rest}
 use Rattle.edit_format.proofs.RecordLaws.{added-cons, length-record}
 use Rattle.edit_list.specs.Raws.{runOf, runsOf}
@@ -40,9 +39,9 @@ some (Add cs) = leb 1 (length cs)
 
 pub first-some : (k : Bool) (x : Item) (is : List Item) → itemsGood k (x ∷ is) ≡ true → some x ≡ true
 unfolding itemsGood some
-first-some k (Keep n) is h = both-0 (leb 1 n) (not k) (both-0 (both (leb 1 n) (not k)) (itemsGood true is) h)
-first-some k (Drop n) is h = both-0 (leb 1 n) (itemsGood false is) h
-first-some k (Add cs) is h = both-0 (leb 1 (length cs)) (allPoints cs) (both-0 (both (leb 1 (length cs)) (allPoints cs)) (itemsGood false is) h)
+first-some k (Keep n) is h = and-left (leb 1 n) (not k) (and-left (leb 1 n && not k) (itemsGood true is) h)
+first-some k (Drop n) is h = and-left (leb 1 n) (itemsGood false is) h
+first-some k (Add cs) is h = and-left (leb 1 (length cs)) (allPoints cs) (and-left (leb 1 (length cs) && allPoints cs) (itemsGood false is) h)
 
 one : (xs t : List ℤ) (u text : List ℕ) (at s i lent : ℕ) (x : Item) → some x ≡ true → drop (i * 3) xs ≡ recordOf s x ++ t
     → drop (at + s) text ≡ texts (x ∷ []) ++ u → s + size x ≤ lent → runIn text at (itemAt xs lent i) ≡ runOf (at + s) x

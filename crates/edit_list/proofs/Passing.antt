@@ -16,7 +16,7 @@ use Rattle.verdict.specs.Verdicts.{andThen, sized, roomed}
 use Rattle.verdict.specs.Points.{pointsFrom}
 use Rattle.sizes.specs.Texts.{inText, runText}
 use Rattle.shapes.specs.Shapes.{runGood}
-use Rattle.verdict.proofs.Bools.{both-yes}
+use Rattle.room.proofs.Bools.{both-yes}
 use Rattle.raw_lists.specs.declared.Raw.{Raw}
 use Rattle.raw_lists.specs.Raws.{Run, piecesLent, piecesFrom, runsOf as runsLent}
 use Rattle.raw_lists.specs.Good.{counts}

@@ -1,20 +1,19 @@
 -- Shown: a good text with good code points put into it is good.
 -- How: being good is a property of each code point. Assumes nothing.
 use mathlib.Core.Path.{_≡_, refl}
-use mathlib.Core.Bool.{Bool, true, false, not}
+use mathlib.Core.Bool.{Bool, true, false, not, _&&_}
 use mathlib.Core.List.{List, [], _∷_, _++_}
 use Prim.Native.Nat.{ℕ, zero, suc, _+_}
 use lib.ListN.{length, take, drop}
 use lib.Dec.{leb}
 use Rattle.room.specs.Placed.{placed}
+use Rattle.room.proofs.Bools.{and-left, and-right}
 use Rattle.refusal.specs.declared.Refusal.the-variants.{CodePoint}
 use Rattle.verdict.specs.declared.Verdict.the-variants.{Accepted}
 use Rattle.numbers.specs.Points.{isPoint}
 use Rattle.verdict.specs.Points.{pointsFrom}
 use Rattle.verdict.proofs.Chains.{went}
-use Rattle.edit_format.specs.Tests.{both}
 use Rattle.edit_format.specs.Items.{Item, Keep, Drop, Add, texts, allPoints, itemsGood}
-use Rattle.edit_format.proofs.Picks.{both-0, both-1}
 
 unfoldable AllPoints : List ℕ → Type 0
 AllPoints [] = Unit
@@ -50,17 +49,17 @@ all-drop (suc n) (c ∷ cs) h = all-drop n cs (h .1)
 all-points : (cs : List ℕ) → allPoints cs ≡ true → AllPoints cs
 unfolding AllPoints allPoints
 all-points [] h = tt
-all-points (c ∷ cs) h = (both-0 (isPoint c) (allPoints cs) h, all-points cs (both-1 (isPoint c) (allPoints cs) h))
+all-points (c ∷ cs) h = (and-left (isPoint c) (allPoints cs) h, all-points cs (and-right (isPoint c) (allPoints cs) h))
 
 all-texts : (k : Bool) (is : List Item) → itemsGood k is ≡ true → AllPoints (texts is)
 unfolding texts itemsGood AllPoints
 all-texts k [] g = tt
-all-texts k (Keep n ∷ is) g = all-texts true is (both-1 (both (leb 1 n) (not k)) (itemsGood true is) g)
-all-texts k (Drop n ∷ is) g = all-texts false is (both-1 (leb 1 n) (itemsGood false is) g)
+all-texts k (Keep n ∷ is) g = all-texts true is (and-right (leb 1 n && not k) (itemsGood true is) g)
+all-texts k (Drop n ∷ is) g = all-texts false is (and-right (leb 1 n) (itemsGood false is) g)
 all-texts k (Add cs ∷ is) g =
-    let h = both-0 (both (leb 1 (length cs)) (allPoints cs)) (itemsGood false is) g in
-    all-append cs (texts is) (all-points cs (both-1 (leb 1 (length cs)) (allPoints cs) h))
-    (all-texts false is (both-1 (both (leb 1 (length cs)) (allPoints cs)) (itemsGood false is) g))
+    let h = and-left (leb 1 (length cs) && allPoints cs) (itemsGood false is) g in
+    all-append cs (texts is) (all-points cs (and-right (leb 1 (length cs)) (allPoints cs) h))
+    (all-texts false is (and-right (leb 1 (length cs) && allPoints cs) (itemsGood false is) g))
 
 pub good-text : (d : List ℕ) (at : ℕ) (is : List Item) → pointsFrom d 0 ≡ Accepted → itemsGood false is ≡ true → pointsFrom (placed d at (texts is)) 0 ≡ Accepted
 unfolding placed

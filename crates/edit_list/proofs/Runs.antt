@@ -1,20 +1,19 @@
 -- Shown: what the raw list of good items is like: its sizes, its tokens' flags, and that each of its runs is a good raw operation.
 -- How: by induction on the items. Assumes nothing.
 use mathlib.Core.Path.{_≡_, refl, ap}
-use mathlib.Core.Bool.{Bool, true, false, not}
+use mathlib.Core.Bool.{Bool, true, false, not, _&&_}
 use mathlib.Core.List.{List, [], _∷_}
 use Prim.Native.Nat.{ℕ, suc, _+_, _≤_, _<_}
 use native.Mathlib.Omega.{arith}
 use lib.ListN.{length, length-append}
 use lib.Dec.{leb}
 use borrow.Author.Tests.{leb-true}
+use Rattle.room.proofs.Bools.{and-left}
 use Rattle.raw_lists.specs.Raws.{Piece, Run}
 use Rattle.elongate.specs.Elongated.{piecesLength, allTokens}
 use Rattle.elongate.proofs.Lengths.{pieces-append}
 use Rattle.edit_format.specs.Items.{Item, Keep, Drop, Add, kept, dropped, added, isKeep, itemsGood, allPoints}
 use Rattle.edit_format.specs.Records.{size}
-use Rattle.edit_format.specs.Tests.{both}
-use Rattle.edit_format.proofs.Picks.{both-0}
 use Rattle.edit_format.proofs.ReadBack.{good-rest}
 use Rattle.edit_list.specs.Raws.{pointTokens, runOf, runsOf}
 use Rattle.edit_list.specs.Steps.{AllSmall}
@@ -90,18 +89,18 @@ pub runs-good : (n : ℕ) (k : Bool) (at : ℕ) (is : List Item) → itemsGood k
 unfolding runsOf runOf AllRuns PiecesIn isKeep itemsGood kept dropped added size
 runs-good n k at [] g h l = tt
 runs-good n k at (Keep m ∷ is) g h l =
-    let p : 1 ≤ m = leb-true 1 m (both-0 (leb 1 m) (not k) (both-0 (both (leb 1 m) (not k)) (itemsGood true is) g)) in (
+    let p : 1 ≤ m = leb-true 1 m (and-left (leb 1 m) (not k) (and-left (leb 1 m && not k) (itemsGood true is) g)) in (
       record { known = omega arith; some = omega arith; inside = (omega arith, (omega arith, tt)) },
       runs-good n true (at + 0) is (good-rest k (Keep m) is g) (omega arith) (omega arith),
     )
 runs-good n k at (Drop m ∷ is) g h l =
-    let p : 1 ≤ m = leb-true 1 m (both-0 (leb 1 m) (itemsGood false is) g) in (
+    let p : 1 ≤ m = leb-true 1 m (and-left (leb 1 m) (itemsGood false is) g) in (
       record { known = omega arith; some = omega arith; inside = (omega arith, (omega arith, tt)) },
       runs-good n false (at + 0) is (good-rest k (Drop m) is g) (omega arith) (omega arith),
     )
 runs-good n k at (Add cs ∷ is) g h l =
     let p : 1 ≤ length cs = leb-true 1 (length cs)
-    (both-0 (leb 1 (length cs)) (allPoints cs) (both-0 (both (leb 1 (length cs)) (allPoints cs)) (itemsGood false is) g)) in (
+    (and-left (leb 1 (length cs)) (allPoints cs) (and-left (leb 1 (length cs) && allPoints cs) (itemsGood false is) g)) in (
       record { known = omega arith; some = omega (arith, points-length at cs); inside = points-in at n cs (omega arith) },
       runs-good n false (at + length cs) is (good-rest k (Add cs) is g) (omega arith) (omega arith),
     )

@@ -13,13 +13,14 @@ use lib.Dec.{ltb, leb}
 use borrow.Author.Tests.{leb-true}
 use Rattle.room.specs.Placed.{placed}
 use Rattle.room.proofs.Placing.{placed-none}
+use Rattle.room.proofs.Bools.{and-right}
+use Rattle.room.proofs.Choices.{no-way}
 pub use Rattle.item_records.proofs.Storing.{three-stores}
 use Rattle.edit_format.specs.Tests.{begins}
 use Rattle.edit_format.specs.Items.{Item, Add, kept, dropped, added, texts, endsKeep}
 use Rattle.edit_format.specs.Written.{Head, addKey}
 use Rattle.edit_format.specs.Reading.{Kind, keeping, dropping, adding, item, key, gap, open′, kindKey, keyOf, hexes, several, fits, fitsItem, kindOf, itemOf, next, Accepted, finish, run, found}
 use Rattle.edit_format.specs.Records.{recordOf, size}
-use Rattle.edit_format.proofs.Picks.{both-1, apart}
 use Rattle.edit_format.proofs.NoBeginning.{never}
 use Rattle.edit_format.proofs.Finding.{key-on, key-off, open-as}
 use Rattle.edit_format.proofs.Rests.{one-more}
@@ -128,15 +129,15 @@ module _ {p : List ℕ} {at start : ℕ} {d o : List ℕ} {place i : ℕ} (q : P
 -- a keep or a drop of an accepted file
 number-small : (is : List Item) (k : Kind) (m : ℕ) → hexes k ≡ false → fitsItem is k [] m ≡ true → m ≤ 65535
 unfolding fitsItem hexes
-number-small is keeping m o e = let w : kept is + dropped is + m ≤ 65535 = leb-true (kept is + dropped is + m) 65535 (both-1 (leb 1 m) _ (both-1 (not (endsKeep is)) _ e)) in omega arith
-number-small is dropping m o e = let w : kept is + dropped is + m ≤ 65535 = leb-true (kept is + dropped is + m) 65535 (both-1 (leb 1 m) _ e) in omega arith
-number-small is adding m o e = absurd (apart o)
+number-small is keeping m o e = let w : kept is + dropped is + m ≤ 65535 = leb-true (kept is + dropped is + m) 65535 (and-right (leb 1 m) _ (and-right (not (endsKeep is)) _ e)) in omega arith
+number-small is dropping m o e = let w : kept is + dropped is + m ≤ 65535 = leb-true (kept is + dropped is + m) 65535 (and-right (leb 1 m) _ e) in omega arith
+number-small is adding m o e = no-way (sym o)
 
 number-size : (k : Kind) (m : ℕ) → hexes k ≡ false → (size (itemOf k [] m) ≡ 0) × (texts (itemOf k [] m ∷ []) ≡ [])
 unfolding hexes itemOf size texts
 number-size keeping m o = (refl, refl)
 number-size dropping m o = (refl, refl)
-number-size adding m o = absurd (apart o)
+number-size adding m o = no-way (sym o)
 
 module _ (p : List ℕ) (k : Kind) (one : hexes k ≡ false) (at : ℕ) where
   line : (h : Head) (is : List Item) (r : Number) → lineAt (kindKey k) p at ≡ r → Lined (item h is k) p at r
@@ -148,7 +149,7 @@ module _ (p : List ℕ) (k : Kind) (one : hexes k ≡ false) (at : ℕ) where
   unfolding fits
   stands-as h is js g e l (m, b, c, w, y, n) false u = absurd (never (sym (n u) ∙ g))
   stands-as h is js g {v} {j} e l (m, b, c, w, y, n) true u =
-      let s : m ≤ 65535 = number-small is k m one (both-1 (ltb (length is) 8192) _ u) in
+      let s : m ≤ 65535 = number-small is k m one (and-right (ltb (length is) 8192) _ u) in
       let q = line-parts (kindKey k) p at v j e in
       record { keyed = q .0; number = record { value = v; next = j; small = omega arith; number = rw l at (q .1) } }
 
@@ -169,7 +170,7 @@ module _ (p : List ℕ) (k : Kind) (one : hexes k ≡ false) (at start place : �
   unfolding fits next
   fitted f h is js g (m, b, c, w, y, n) false u = absurd (never (sym (n u) ∙ g))
   fitted {d′} {v} {j} f h is js g (m, b, c, w, y, n) true u =
-      let s : m ≤ 65535 = number-small is k m one (both-1 (ltb (length is) 8192) _ u) in
+      let s : m ≤ 65535 = number-small is k m one (and-right (ltb (length is) 8192) _ u) in
       let x : v ≡ m = omega arith in
       (itemOf k [] m, refl, number-size k m one .0, number-size k m one .1, f ∙ rw x, sym (y u) ∙ g)
 

@@ -9,11 +9,11 @@ use lib.ListN.{length, getD, drop, drop-of-length-le}
 use lib.Seq.{drop-drop}
 use lib.Dec.{ltb, leb}
 use borrow.Author.Tests.{lt-ltb, le-leb, lt-leb}
+use Rattle.room.proofs.Bools.{and-false}
 use Rattle.edit_format.specs.Tests.{begins}
 use Rattle.edit_format.specs.Items.{Item, Keep, Drop, Add, kept, dropped, added, isKeep, endsKeep}
 use Rattle.edit_format.specs.Written.{Head, addKey}
 use Rattle.edit_format.specs.Reading.{Kind, keeping, dropping, adding, item, State, key, gap, open′, lineNo, kindKey, keyOf, hexes, several, fits, fitsItem, kindOf, itemOf, next, finish, run, found}
-use Rattle.edit_format.proofs.Picks.{both-false}
 use Rattle.edit_format.proofs.ReadBack.{kept-append, dropped-append, added-append, ends-snoc}
 use Rattle.edit_format.proofs.Finding.{key-on, key-off, open-as}
 use Rattle.edit_lines.specs.Scan.{cap, lineAt}
@@ -45,7 +45,7 @@ module _ (p : List ℕ) (s : Sums) (k : Kind) (one : hexes k ≡ false) where
   unfit {v} {j} e u = record {
     says = λ h is o f.
         let t : Lined (item h is k) p (s .next) (Value v j) = line h is (Value v j) e in
-        t .5 (rw (u is o (t .0) (t .3)) (both-false (ltb (length is) 8192)));
+        t .5 (rw (u is o (t .0) (t .3)) (and-false (ltb (length is) 8192)));
   }
 
   pub fit : {v : ℕ} {t : Sums} → lineAt (kindKey k) p (s .next) ≡ Value v (t .next) → Within p t → ((is : List Item) → Holds s is → (m : ℕ) → v ≡ cap m → (fitsItem is k [] m ≡ true) × Holds t (is ++ itemOf k [] m ∷ [])) → Reads k p s (GoodItem t)
@@ -68,11 +68,11 @@ module _ (p : List ℕ) (s : Sums) {v j : ℕ} where
 
   pub keep-none : lineAt (kindKey keeping) p (s .next) ≡ Value v j → v < 1 → Reads keeping p s BadItem
   unfolding fitsItem hexes
-  keep-none e g = unfit p s keeping refl e (λ is o m w. rw (lt-leb 1 m (omega arith)) (both-false (not (endsKeep is))))
+  keep-none e g = unfit p s keeping refl e (λ is o m w. rw (lt-leb 1 m (omega arith)) (and-false (not (endsKeep is))))
 
   pub keep-over : lineAt (kindKey keeping) p (s .next) ≡ Value v j → 65535 < s .used + v → Reads keeping p s BadItem
   unfolding fitsItem hexes
-  keep-over e g = unfit p s keeping refl e (λ is o m w. rw (lt-leb (kept is + dropped is + m) 65535 (omega (arith, o .used)), both-false (leb 1 m)) (both-false (not (endsKeep is))))
+  keep-over e g = unfit p s keeping refl e (λ is o m w. rw (lt-leb (kept is + dropped is + m) 65535 (omega (arith, o .used)), and-false (leb 1 m)) (and-false (not (endsKeep is))))
 
   pub drop-none : lineAt (kindKey dropping) p (s .next) ≡ Value v j → v < 1 → Reads dropping p s BadItem
   unfolding fitsItem hexes
@@ -80,7 +80,7 @@ module _ (p : List ℕ) (s : Sums) {v j : ℕ} where
 
   pub drop-over : lineAt (kindKey dropping) p (s .next) ≡ Value v j → 65535 < s .used + v → Reads dropping p s BadItem
   unfolding fitsItem hexes
-  drop-over e g = unfit p s dropping refl e (λ is o m w. rw (lt-leb (kept is + dropped is + m) 65535 (omega (arith, o .used))) (both-false (leb 1 m)))
+  drop-over e g = unfit p s dropping refl e (λ is o m w. rw (lt-leb (kept is + dropped is + m) 65535 (omega (arith, o .used))) (and-false (leb 1 m)))
 
   -- every number line ends in the bytes
   pub in-bytes : (k : Kind) → hexes k ≡ false → lineAt (kindKey k) p (s .next) ≡ Value v j → j ≤ length p

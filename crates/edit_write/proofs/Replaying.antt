@@ -1,13 +1,15 @@
 -- An accepted file's covering replay over a good original of its length is accepted, and has `result=` code points.
 -- The edits of the records are the file's items, so the counts of the replay are the sums of the file. Assumes nothing.
 use mathlib.Core.Path.{_≡_, refl, sym, ap, _∙_}
-use mathlib.Core.Bool.{Bool, true, false, not}
+use mathlib.Core.Bool.{Bool, true, false, not, _&&_}
 use mathlib.Core.List.{List, [], _∷_}
 use Prim.Native.Nat.{ℕ, _+_, _-_, _/_}
 use native.Mathlib.Omega.{arith}
 use lib.ListN.{length, take, drop}
 use lib.Dec.{leb}
 use borrow.Author.Tests.{le-ltb}
+use Rattle.room.proofs.Bools.{and-right}
+use Rattle.room.proofs.Choices.{no-way}
 use Rattle.diff.specs.declared.diff.Item.{Item as Lent}
 use Rattle.diff.specs.declared.diff.Item.the-variants.{Retain, Delete, Insert, Neither}
 use Rattle.diff.specs.Items.{itemsOf, itemsFrom}
@@ -16,11 +18,9 @@ use Rattle.diff.specs.Checks.{fine, used, sizes, records, covers}
 use Rattle.replay.specs.Answers.{Diff, diff, edits, textOf, plain, covering}
 use Rattle.diff.proofs.Decoding.{items-length}
 use Rattle.diff.proofs.Laws.{enough-numbers, replayed-length, added-used}
-use Rattle.edit_format.specs.Tests.{both}
 use Rattle.edit_format.specs.Items.{Item, kept, dropped, added, texts, allPoints, itemsGood, Good}
 use Rattle.edit_format.specs.Reading.{Accepted, readFile}
 use Rattle.edit_format.specs.Records.{recordsOf}
-use Rattle.edit_format.proofs.Picks.{both-1, apart}
 use Rattle.edit_format.proofs.TextLaws.{texts-length}
 use Rattle.edit_format.proofs.Accepts.{accepted-good}
 use Rattle.writable.specs.Writable.{fileItem, fileItems, fileOf}
@@ -56,10 +56,10 @@ adds text (Neither ∷ ls) = omega (arith, adds text ls)
 no-neither : (text : List ℕ) (k : Bool) (i : ℕ) (ls : List Lent) → itemsGood k (fileItems text ls) ≡ true → records i ls ≡ fine
 unfolding fileItems fileItem itemsGood records
 no-neither text k i [] g = refl
-no-neither text k i (Retain n ∷ ls) g = no-neither text true (i + 1) ls (both-1 (both (leb 1 n) (not k)) (itemsGood true (fileItems text ls)) g)
-no-neither text k i (Delete n ∷ ls) g = no-neither text false (i + 1) ls (both-1 (leb 1 n) (itemsGood false (fileItems text ls)) g)
-no-neither text k i (Insert s n ∷ ls) g = no-neither text false (i + 1) ls (both-1 (both (leb 1 (length (take n (drop s text)))) (allPoints (take n (drop s text)))) (itemsGood false (fileItems text ls)) g)
-no-neither text k i (Neither ∷ ls) g = absurd (apart (sym g))
+no-neither text k i (Retain n ∷ ls) g = no-neither text true (i + 1) ls (and-right (leb 1 n && not k) (itemsGood true (fileItems text ls)) g)
+no-neither text k i (Delete n ∷ ls) g = no-neither text false (i + 1) ls (and-right (leb 1 n) (itemsGood false (fileItems text ls)) g)
+no-neither text k i (Insert s n ∷ ls) g = no-neither text false (i + 1) ls (and-right (leb 1 (length (take n (drop s text))) && allPoints (take n (drop s text))) (itemsGood false (fileItems text ls)) g)
+no-neither text k i (Neither ∷ ls) g = no-way g
 
 module _ (is : List Item) (g : Good is) (o : List ℕ) (long : length o ≡ kept is + dropped is) (good : allPoints o ≡ true) where
   ls : List Lent

@@ -1,7 +1,7 @@
 -- What is read can be written, and is then the same file; what is written reads back.
 -- The records of good items decode to these items, three numbers at a time, and good items pass every check of the writer. Assumes nothing.
 use mathlib.Core.Path.{_≡_, refl, sym, ap, _∙_}
-use mathlib.Core.Bool.{Bool, true, false, not}
+use mathlib.Core.Bool.{Bool, true, false, not, _&&_}
 use mathlib.Core.List.{List, [], _∷_, _++_, append-assoc}
 use Prim.Native.Nat.{ℕ, zero, suc, _+_, _*_, _/_, _≤_}
 use native.Mathlib.Omega.{arith}
@@ -10,15 +10,15 @@ use lib.Seq.{getD-append-add, take-append-seam, drop-append-seam, drop-drop}
 use lib.IntN.{ℤ, pos, negsuc}
 use lib.Dec.{leb}
 use borrow.Author.Tests.{le-leb, le-ltb}
+use Rattle.room.proofs.Bools.{and-left, and-right}
+use Rattle.room.proofs.Choices.{no-way}
 use Rattle.diff.specs.Items.{numbered, ranged, itemOf, itemAt, itemsFrom, itemsOf}
 use Rattle.numbers.specs.Points.{isPoint}
 use Rattle.diff.specs.Checks.{fine, points as pointsCheck}
-use Rattle.edit_format.specs.Tests.{both}
 use Rattle.edit_format.specs.Items.{Item, Keep, Drop, Add, kept, dropped, added, texts, isKeep, allPoints, itemsGood, Good}
 use Rattle.edit_format.specs.Written.{written}
 use Rattle.edit_format.specs.Reading.{Accepted, readFile}
 use Rattle.edit_format.specs.Records.{recordOf, size, recordsFrom, recordsOf}
-use Rattle.edit_format.proofs.Picks.{both-0, both-1, apart}
 use Rattle.edit_format.proofs.TextLaws.{texts-length}
 use Rattle.edit_format.proofs.RecordLaws.{length-record, length-records, added-cons}
 use Rattle.edit_format.proofs.ReadBack.{good-rest, read-back}
@@ -44,7 +44,7 @@ at-part a b c pre post k lent h =
 record-item : (k : Bool) (x : Item) (is : List Item) (at : ℕ) (text : List ℕ) (pre post : List ℤ) (i : ℕ) → itemsGood k (x ∷ is) ≡ true → length pre ≡ 3 * i → drop at text ≡ texts (x ∷ is) → at + added (x ∷ is) ≤ length text → fileItem text (itemAt (pre ++ recordOf at x ++ post) (length text) i) ≡ x
 unfolding itemsGood recordOf texts added fileItem itemOf numbered ranged
 record-item k (Keep n) is at text pre post i g h d l = rw (at-part (pos 0) (pos n) (pos 0) pre post i (length text) h)
-record-item k (Drop zero) is at text pre post i g h d l = absurd (apart (sym (both-0 false (itemsGood false is) g)))
+record-item k (Drop zero) is at text pre post i g h d l = no-way (and-left false (itemsGood false is) g)
 record-item k (Drop (suc n)) is at text pre post i g h d l = rw (at-part (pos 0) (negsuc n) (pos 0) pre post i (length text) h)
 record-item k (Add cs) is at text pre post i g h d l =
     rw (at-part (pos 1) (pos at) (pos (length cs)) pre post i (length text) h, le-leb (at + length cs) (length text) (omega arith), d, take-append-seam cs (texts is))
@@ -74,12 +74,12 @@ same-items is g =
 pub points-fine : (i : ℕ) (t : List ℕ) → allPoints t ≡ true → pointsCheck i t ≡ fine
 unfolding pointsCheck allPoints
 points-fine i [] e = refl
-points-fine i (c ∷ cs) e = rw (both-0 (isPoint c) (allPoints cs) e) (points-fine (i + 1) cs (both-1 (isPoint c) (allPoints cs) e))
+points-fine i (c ∷ cs) e = rw (and-left (isPoint c) (allPoints cs) e) (points-fine (i + 1) cs (and-right (isPoint c) (allPoints cs) e))
 
 pub points-append : (s t : List ℕ) → allPoints s ≡ true → allPoints t ≡ true → allPoints (s ++ t) ≡ true
 unfolding allPoints
 points-append [] t e f = f
-points-append (c ∷ s) t e f = rw (both-0 (isPoint c) (allPoints s) e) (points-append s t (both-1 (isPoint c) (allPoints s) e) f)
+points-append (c ∷ s) t e f = rw (and-left (isPoint c) (allPoints s) e) (points-append s t (and-right (isPoint c) (allPoints s) e) f)
 
 pub texts-points : (k : Bool) (is : List Item) → itemsGood k is ≡ true → allPoints (texts is) ≡ true
 unfolding itemsGood isKeep texts allPoints
@@ -87,17 +87,17 @@ texts-points k [] g = refl
 texts-points k (Keep n ∷ is) g = texts-points true is (good-rest k (Keep n) is g)
 texts-points k (Drop n ∷ is) g = texts-points false is (good-rest k (Drop n) is g)
 texts-points k (Add cs ∷ is) g =
-    let a = both-0 (both (leb 1 (length cs)) (allPoints cs)) (itemsGood false is) g in
-    points-append cs (texts is) (both-1 (leb 1 (length cs)) (allPoints cs) a) (texts-points false is (good-rest k (Add cs) is g))
+    let a = and-left (leb 1 (length cs) && allPoints cs) (itemsGood false is) g in
+    points-append cs (texts is) (and-right (leb 1 (length cs)) (allPoints cs) a) (texts-points false is (good-rest k (Add cs) is g))
 
 shapes-fine : (k : Bool) (i : ℕ) (is : List Item) → itemsGood k is ≡ true → shapes k i is ≡ fine
 unfolding itemsGood isKeep shapes
 shapes-fine k i [] g = refl
-shapes-fine k i (Keep n ∷ is) g = rw (both-0 (both (leb 1 n) (not k)) (itemsGood true is) g) (shapes-fine true (i + 1) is (good-rest k (Keep n) is g))
-shapes-fine k i (Drop n ∷ is) g = rw (both-0 (leb 1 n) (itemsGood false is) g) (shapes-fine false (i + 1) is (good-rest k (Drop n) is g))
+shapes-fine k i (Keep n ∷ is) g = rw (and-left (leb 1 n && not k) (itemsGood true is) g) (shapes-fine true (i + 1) is (good-rest k (Keep n) is g))
+shapes-fine k i (Drop n ∷ is) g = rw (and-left (leb 1 n) (itemsGood false is) g) (shapes-fine false (i + 1) is (good-rest k (Drop n) is g))
 shapes-fine k i (Add cs ∷ is) g =
-    let a = both-0 (both (leb 1 (length cs)) (allPoints cs)) (itemsGood false is) g in
-    rw (both-0 (leb 1 (length cs)) (allPoints cs) a) (shapes-fine false (i + 1) is (good-rest k (Add cs) is g))
+    let a = and-left (leb 1 (length cs) && allPoints cs) (itemsGood false is) g in
+    rw (and-left (leb 1 (length cs)) (allPoints cs) a) (shapes-fine false (i + 1) is (good-rest k (Add cs) is g))
 
 pub good-writable : (is : List Item) → Good is → writable is (texts is) ≡ fine
 unfolding writable sizes

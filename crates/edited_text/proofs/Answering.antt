@@ -23,7 +23,7 @@ use Rattle.checks.specs.declared.Checked.{Checked}
 use Rattle.checks.specs.declared.Checked.the-variants.{Sums, Refused as No}
 use Rattle.checks.specs.Lists.{listsVerdict, checkedOf}
 use Rattle.shapes.specs.Accepted.{AcceptedList}
-use Rattle.verdict.proofs.Bools.{and-left, and-right}
+use Rattle.room.proofs.Bools.{and-left, and-right}
 use Rattle.verdict.proofs.Chains.{stops, has-room, lacks-room}
 use Rattle.checks.proofs.Accepted.{accepted-left, accepted-right}
 use Rattle.checks.proofs.Telling.{says-no, says-yes, says-first, says-second}

@@ -16,7 +16,7 @@ use Rattle.verdict.specs.declared.Verdict.the-variants.{Accepted, Refused}
 use Rattle.sizes.specs.Texts.{runText}
 use Rattle.shapes.proofs.Accepted.{run-length}
 use Rattle.verdict.specs.Points.{pointsFrom}
-use Rattle.verdict.proofs.Bools.{and-left, and-right}
+use Rattle.room.proofs.Bools.{and-left, and-right}
 use Rattle.verdict.proofs.Chains.{fits, goes-on, has-room, lacks-room}
 use Rattle.raw_lists.specs.declared.Raw.{Raw}
 use Rattle.raw_lists.specs.Raws.{Run, piecesLent, piecesFrom, rawsOf, runsOf}

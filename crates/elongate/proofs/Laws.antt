@@ -9,7 +9,7 @@ use native.Mathlib.Omega.{arith}
 use lib.ListN.{length, length-append}
 use lib.Dec.{eqb}
 use borrow.Author.Tests.{eq-eqb, ne-eqb, eqb-true}
-use Rattle.verdict.proofs.Bools.{and-left}
+use Rattle.room.proofs.Bools.{and-left}
 use Rattle.raw_lists.specs.Raws.{Piece, Run}
 use Rattle.elongate.specs.Elongated.{Parts, parts, together, arranged, lastRight, firstLeft, joinable, join, joinedFrom, joined, elongated}
 use Rattle.elongate.specs.Kept.{chosen, textTokens, Follows, Settled}

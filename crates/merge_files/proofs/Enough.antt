@@ -17,7 +17,7 @@ use Rattle.verdict.specs.declared.Verdict.the-variants as W
 use Rattle.sizes.specs.Sizes.{merging}
 use Rattle.shapes.specs.Accepted.{AcceptedList}
 use Rattle.checks.proofs.Accepted.{accepted-left, accepted-right}
-use Rattle.verdict.proofs.Bools.{and-left, and-right}
+use Rattle.room.proofs.Bools.{and-left, and-right}
 use Rattle.utf8_read.specs.Reading.{points}
 use Rattle.edit_format.specs.Items.{Item, added}
 use Rattle.edit_format.specs.Reading.{Found, Accepted, Refused, readFile}

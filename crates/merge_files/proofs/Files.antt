@@ -16,7 +16,7 @@ use Rattle.room.specs.Placed.{answered}
 use Rattle.room.proofs.Answers.{same-room}
 use Rattle.verdict.specs.declared.Verdict.the-variants as W
 use Rattle.verdict.specs.Points.{pointsFrom}
-use Rattle.verdict.proofs.Bools.{and-left, and-right}
+use Rattle.room.proofs.Bools.{and-left, and-right}
 use Rattle.utf8_read.specs.Grammar.{utf8-char}
 use Rattle.utf8_read.specs.Table.{decode}
 use Rattle.utf8_read.specs.Reading.{good-end, points, points-from}

@@ -2,20 +2,19 @@
 -- How: a number below 100,000 has at most five digits, a code point at most six in hex.
 use Prim.Native.Nat.{ℕ, _+_, _*_, _/_, _≤_, _<_}
 use mathlib.Core.Path.{_≡_}
-use mathlib.Core.Bool.{Bool, true, false, not}
+use mathlib.Core.Bool.{Bool, true, false, not, _&&_}
 use mathlib.Core.List.{List, [], _∷_, _++_}
 use mathlib.Core.Logic.{⊎-elim}
 use native.Mathlib.Omega.{arith}
 use lib.ListN.{length, length-append}
 use lib.Dec.{leb}
+use Rattle.room.proofs.Bools.{and-left, and-right}
 use Rattle.numbers.proofs.Orders.{le-or-lt}
-use Rattle.edit_format.specs.Tests.{both}
 use Rattle.edit_format.specs.Digits.{digits}
 use Rattle.numbers.specs.Points.{isPoint}
 use Rattle.numbers.proofs.Points.{point-most as at-most}
 use Rattle.edit_format.specs.Items.{Item, Keep, Drop, Add, kept, dropped, added, allPoints, itemsGood, Good}
 use Rattle.edit_format.specs.Written.{Head, endKey, numberLine, points, itemLine, itemLines, headLines, headOf, written}
-use Rattle.edit_format.proofs.Picks.{both-0, both-1}
 use Rattle.written_lines.proofs.Numbers.{one-digit, one-less}
 use Rattle.written_lines.proofs.Counting.{line-length, add-length}
 use Rattle.writable.proofs.Counting.{keep-length, drop-length}
@@ -44,13 +43,13 @@ point-most c e = hex c (omega (arith, at-most c e))
 points-most : (cs : List ℕ) → allPoints cs ≡ true → length (points cs) ≤ 7 * length cs
 unfolding points allPoints
 points-most [] e = omega arith
-points-most (c ∷ []) e = omega (arith, point-most c (both-0 (isPoint c) true e))
+points-most (c ∷ []) e = omega (arith, point-most c (and-left (isPoint c) true e))
 points-most (c ∷ d ∷ cs) e =
     omega (
       arith,
       length-append (digits 16 c) (32 ∷ points (d ∷ cs)),
-      point-most c (both-0 (isPoint c) (allPoints (d ∷ cs)) e),
-      points-most (d ∷ cs) (both-1 (isPoint c) (allPoints (d ∷ cs)) e),
+      point-most c (and-left (isPoint c) (allPoints (d ∷ cs)) e),
+      points-most (d ∷ cs) (and-right (isPoint c) (allPoints (d ∷ cs)) e),
     )
 
 lines-most : (k : Bool) (is : List Item) → itemsGood k is ≡ true → kept is + dropped is ≤ 65535 → length (itemLines is) ≤ 11 * length is + 7 * added is
@@ -62,7 +61,7 @@ lines-most k (Keep n ∷ is) e h =
       length-append (itemLine (Keep n)) (itemLines is),
       keep-length n,
       decimal n (omega arith),
-      lines-most true is (both-1 (both (leb 1 n) (not k)) (itemsGood true is) e) (omega arith),
+      lines-most true is (and-right (leb 1 n && not k) (itemsGood true is) e) (omega arith),
     )
 lines-most k (Drop n ∷ is) e h =
     omega (
@@ -70,16 +69,16 @@ lines-most k (Drop n ∷ is) e h =
       length-append (itemLine (Drop n)) (itemLines is),
       drop-length n,
       decimal n (omega arith),
-      lines-most false is (both-1 (leb 1 n) (itemsGood false is) e) (omega arith),
+      lines-most false is (and-right (leb 1 n) (itemsGood false is) e) (omega arith),
     )
 lines-most k (Add cs ∷ is) e h =
-    let a = both-0 (both (leb 1 (length cs)) (allPoints cs)) (itemsGood false is) e in
+    let a = and-left (leb 1 (length cs) && allPoints cs) (itemsGood false is) e in
     omega (
       arith,
       length-append (itemLine (Add cs)) (itemLines is),
       add-length cs,
-      points-most cs (both-1 (leb 1 (length cs)) (allPoints cs) a),
-      lines-most false is (both-1 (both (leb 1 (length cs)) (allPoints cs)) (itemsGood false is) e) h,
+      points-most cs (and-right (leb 1 (length cs)) (allPoints cs) a),
+      lines-most false is (and-right (leb 1 (length cs) && allPoints cs) (itemsGood false is) e) h,
     )
 
 pub file-most : (is : List Item) → Good is → added is ≤ 2048 → length (written is) ≤ 57 + (11 * length is + 7 * added is)

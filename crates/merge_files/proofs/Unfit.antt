@@ -12,6 +12,7 @@ use borrow.Author.Tests.{le-leb, eq-eqb, ne-eqb, eqb-true, eqb-false}
 use Rattle.refusal.specs.declared.Refusal.the-variants as R
 use Rattle.refusal.specs.Numbers.{number}
 use Rattle.room.specs.Choice.{pick}
+use Rattle.room.proofs.Choices.{never, no-way}
 use Rattle.records.specs.declared.Operation.{Operation}
 use Rattle.records.specs.Tokens.{tokensLent}
 use Rattle.verdict.specs.declared.Verdict.{Verdict}
@@ -37,7 +38,6 @@ use Rattle.edit_format.specs.Items.{Item, Keep, Drop, Add, kept, dropped, added
 use Rattle.edit_format.specs.Records.{size}
 use Rattle.edit_format.specs.Reading.{readFile, Accepted}
 use Rattle.edit_format.proofs.Accepts.{accepted-good}
-use Rattle.edit_format.proofs.Picks.{apart}
 use Rattle.edit_format.proofs.TextLaws.{texts-length}
 use Rattle.edit_list.specs.Raws.{runOf, runsOf, listOf, itemsIn}
 use Rattle.edit_list.specs.Lists.{usedBy}
@@ -185,10 +185,10 @@ tiles-one : (b u : Bool) (n at : ℕ) (ps : List Piece) (rs : List Run) (f : ℕ
       | false ↦ (at ≡ at) × ((at + piecesLength ps ≤ n) × Tiles n (cookedFrom rs (at + pick b 0 (piecesLength ps)) f) (at + piecesLength ps))
     ]
     → at + piecesLength (elim u as (λ (x : Bool). List Piece) [ true ↦ ps ++ chosen uses rs | false ↦ chosen uses rs ]) ≡ n
-tiles-one true true n at ps rs f x y g h = absurd (apart (x refl))
+tiles-one true true n at ps rs f x y g h = never (x refl)
 tiles-one true false n at ps rs f x y g h = let z : at + 0 ≡ at = omega arith in g at (rw z at h)
 tiles-one false true n at ps rs f x y g h = omega (arith, g (at + piecesLength ps) (h .1 .1), pieces-append ps (chosen uses rs))
-tiles-one false false n at ps rs f x y g h = absurd (apart (sym (y refl)))
+tiles-one false false n at ps rs f x y g h = no-way (y refl)
 
 tiles-all : (m n : ℕ) (rs : List Run) (at f : ℕ) → AllRuns m rs → Tiles n (cookedFrom rs at f) at → at + piecesLength (chosen uses rs) ≡ n
 unfolding AllRuns cookedFrom Tiles chosen piecesLength

@@ -2,12 +2,13 @@
 -- How: by induction on the operations, which tile the original, none being empty.
 use Prim.Native.Nat.{ℕ, _+_, _<_}
 use mathlib.Core.Path.{_≡_, refl}
-use mathlib.Core.Bool.{true, false, not}
+use mathlib.Core.Bool.{true, false, not, _&&_}
 use mathlib.Core.List.{List, [], _∷_}
 use native.Mathlib.Omega.{arith}
 use lib.ListN.{length}
 use lib.Dec.{leb}
 use borrow.Author.Tests.{le-leb}
+use Rattle.room.proofs.Bools.{and-right}
 use Rattle.records.specs.declared.Operation.{Operation}
 use Rattle.records.specs.declared.Token.{Token}
 use Rattle.records.specs.Tokens.{tokensFrom, spelled, tokensLength}
@@ -21,9 +22,7 @@ use Rattle.shapes.specs.Accepted.{AllIn, AcceptedList}
 use Rattle.verdict.proofs.Chains.{first-passed, rest-passed}
 use Rattle.shapes.proofs.Accepted.{spelled-length}
 use Rattle.checks.proofs.Accepted.{accepted-list}
-use Rattle.edit_format.specs.Tests.{both}
 use Rattle.edit_format.specs.Items.{kept, dropped, allPoints, itemsGood, Good}
-use Rattle.edit_format.proofs.Picks.{both-1}
 use Rattle.merging.specs.declared.Op.{Op}
 use Rattle.merging.specs.declared.Op.the-variants.{Delete, Insert, Retain}
 use Rattle.merging.specs.Lent.{Lent}
@@ -48,7 +47,7 @@ some-spelled text (t ∷ ts) a h = omega (arith, spelled-length text (t ∷ ts) 
 good-joined : (l : ℕ) (es : List Edit) → 0 < l → itemsGood false (itemsOf es) ≡ true → itemsGood false (itemsOf (joined l es)) ≡ true
 unfolding itemsGood itemsOf itemOf
 good-joined l [] h g = rw (le-leb 1 l (omega arith))
-good-joined l (retain n ∷ es) h g = rw (le-leb 1 (l + n) (omega arith)) (both-1 (both (leb 1 n) (not false)) (itemsGood true (itemsOf es)) g)
+good-joined l (retain n ∷ es) h g = rw (le-leb 1 (l + n) (omega arith)) (and-right (leb 1 n && not false) (itemsGood true (itemsOf es)) g)
 good-joined l (delete n ∷ es) h g = rw (le-leb 1 l (omega arith)) g
 good-joined l (insert s ∷ es) h g = rw (le-leb 1 l (omega arith)) g
 

@@ -5,6 +5,7 @@ use mathlib.Core.Path.{_≡_, refl}
 use mathlib.Core.Bool.{true}
 use mathlib.Core.List.{List, [], _∷_}
 use lib.ListN.{take, drop}
+use Rattle.room.proofs.Bools.{and-left, and-right}
 use Rattle.refusal.specs.declared.Refusal.the-variants.{CodePoint}
 use Rattle.records.specs.declared.Token.{Token}
 use Rattle.records.specs.Tokens.{spell, spelled}
@@ -14,7 +15,6 @@ use Rattle.verdict.specs.Points.{pointsFrom}
 use Rattle.verdict.proofs.Chains.{went}
 use Rattle.edit_format.specs.Items.{allPoints}
 use Rattle.edit_write.proofs.Rewriting.{points-append}
-use Rattle.edit_format.proofs.Picks.{both-0, both-1}
 
 pub all-points : (t : List ℕ) (i : ℕ) → pointsFrom t i ≡ Accepted → allPoints t ≡ true
 unfolding pointsFrom allPoints
@@ -28,10 +28,10 @@ points-range : (s n : ℕ) (t : List ℕ) → allPoints t ≡ true → allPoints
 unfolding allPoints
 points-range zero zero t h = refl
 points-range zero (suc n) [] h = refl
-points-range zero (suc n) (c ∷ t) h = rw (both-0 (isPoint c) (allPoints t) h) (points-range zero n t (both-1 (isPoint c) (allPoints t) h))
+points-range zero (suc n) (c ∷ t) h = rw (and-left (isPoint c) (allPoints t) h) (points-range zero n t (and-right (isPoint c) (allPoints t) h))
 points-range (suc s) zero t h = refl
 points-range (suc s) (suc n) [] h = refl
-points-range (suc s) (suc n) (c ∷ t) h = points-range s (suc n) t (both-1 (isPoint c) (allPoints t) h)
+points-range (suc s) (suc n) (c ∷ t) h = points-range s (suc n) t (and-right (isPoint c) (allPoints t) h)
 
 -- what tokens spell
 pub points-spelled : (text : List ℕ) (ts : List Token) → allPoints text ≡ true → allPoints (spelled text ts) ≡ true

@@ -10,7 +10,7 @@ use native.Mathlib.Omega.{arith}
 use lib.ListN.{length, take, drop, length-take, length-drop}
 use lib.Dec.{eqb}
 use borrow.Author.Tests.{eqb-true, eq-eqb}
-use Rattle.room.proofs.Choices.{and-both}
+use Rattle.room.proofs.Bools.{and-left, and-right}
 use Rattle.overlap.specs.Overlap.{range, same, occurs, first, longest, overlapOf, touched, Answered}
 use Rattle.overlap.specs.declared.Range.{Range}
 use Rattle.overlap.specs.declared.Found.{Found}
@@ -19,9 +19,7 @@ same-eq : (xs ys : List ℕ) → same xs ys ≡ true → xs ≡ ys
 same-eq [] [] h = refl
 same-eq [] (y ∷ ys) h = cc
 same-eq (x ∷ xs) [] h = cc
-same-eq (x ∷ xs) (y ∷ ys) h =
-    let b = and-both (eqb x y) (same xs ys) h in
-    ap₂ _∷_ (eqb-true x y (b .0)) (same-eq xs ys (b .1))
+same-eq (x ∷ xs) (y ∷ ys) h = ap₂ _∷_ (eqb-true x y (and-left (eqb x y) (same xs ys) h)) (same-eq xs ys (and-right (eqb x y) (same xs ys) h))
 
 same-refl : (xs : List ℕ) → same xs xs ≡ true
 same-refl [] = refl

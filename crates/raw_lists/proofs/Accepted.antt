@@ -11,7 +11,7 @@ use Rattle.records.specs.Tokens.{tokensFrom}
 use Rattle.verdict.specs.declared.Verdict.the-variants.{Accepted}
 use Rattle.shapes.specs.Shapes.{runGood}
 use Rattle.shapes.proofs.Accepted.{all-in}
-use Rattle.verdict.proofs.Bools.{and-left, and-right}
+use Rattle.room.proofs.Bools.{and-left, and-right}
 use Rattle.verdict.proofs.Chains.{went}
 use Rattle.raw_lists.specs.declared.Raw.{Raw}
 use Rattle.raw_lists.specs.Raws.{piecesLent}

@@ -1,7 +1,7 @@
--- Tests: none is both true and false; what two joined by and say, and a choice by one.
+-- Tests: none is both true and false, and a choice by one.
 -- By cases on the test. Assumes nothing.
 use mathlib.Core.Path.{_≡_, refl, sym, subst}
-use mathlib.Core.Bool.{Bool, true, false, _&&_}
+use mathlib.Core.Bool.{Bool, true, false}
 use lib.Dec.{T}
 use Rattle.room.specs.Choice.{pick}
 
@@ -10,10 +10,6 @@ never e = absurd (subst T e tt)
 
 pub no-way : {A : Type 0} → false ≡ true → A
 no-way e = never (sym e)
-
-pub and-both : (a b : Bool) → (a && b) ≡ true → (a ≡ true) × (b ≡ true)
-and-both true b e = (refl, e)
-and-both false b e = no-way e
 
 -- a statement of a choice, by the two ways it can come out
 pub pick-elim : {A : Type 0} (P : A → Type 0) (t : Bool) {a b : A} → (t ≡ true → P a) → (t ≡ false → P b) → P (pick t a b)

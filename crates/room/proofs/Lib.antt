@@ -1,4 +1,5 @@
 pub mod Answers
+pub mod Bools
 pub mod Choices
 pub mod Copying
 pub mod Growing

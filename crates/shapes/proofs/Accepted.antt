@@ -26,7 +26,7 @@ use Rattle.shapes.specs.Tiling.{tilingFrom, tilingOf, withinFrom}
 use Rattle.records.specs.Cursors.{Within}
 use Rattle.shapes.specs.Accepted.{Tiles, AllIn, Insert, Part, Shapes, AcceptedList}
 use Rattle.room.proofs.Choices.{no-way}
-use Rattle.verdict.proofs.Bools.{and-left, and-right}
+use Rattle.room.proofs.Bools.{and-left, and-right}
 use Rattle.verdict.proofs.Chains.{never, went}
 
 -- tiling

@@ -17,7 +17,7 @@ use Rattle.records.proofs.Cursors as C
 use Rattle.sizes.specs.declared.Limits.{Limits}
 use Rattle.sizes.specs.Texts.{total, claimedBy, insertedBy}
 use Rattle.sizes.specs.Sizes.{Small, merging, otherwise, lentFits, listFits}
-use Rattle.verdict.proofs.Bools.{and-left, and-right}
+use Rattle.room.proofs.Bools.{and-left, and-right}
 use Rattle.sizes.proofs.Sums.{cap, cap-test}
 
 -- both settings are below the cap

@@ -20,7 +20,7 @@ use Rattle.diff.specs.Replay.{Edit, delete, insert}
 use Rattle.sizes.specs.declared.Limits.{Limits}
 use Rattle.verdict.specs.declared.Verdict.the-variants.{Accepted, Refused}
 use Rattle.verdict.specs.Verdicts.{andThen, roomed}
-use Rattle.verdict.proofs.Bools.{and-left, and-right}
+use Rattle.room.proofs.Bools.{and-left, and-right}
 use Rattle.sizes.specs.Texts.{total, claimedBy, insertedBy, textLength}
 use Rattle.sizes.specs.Sizes.{otherwise}
 use Rattle.checks.specs.declared.Checked.{Checked}

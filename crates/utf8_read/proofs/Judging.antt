@@ -12,7 +12,8 @@ use lib.ListN.{length, getD, drop}
 use Rattle.utf8_read.specs.Grammar.{tail, utf8-2, utf8-3, utf8-4, utf8-char}
 use Rattle.utf8_read.specs.Reading.{good-end}
 use Rattle.utf8_read.specs.Window.{ones, misfit, Local, Ascii, Clean, Stretch, Reached, Walked}
-use Rattle.room.proofs.Choices.{never, and-both}
+use Rattle.room.proofs.Bools.{and-left, and-right}
+use Rattle.room.proofs.Choices.{never}
 use Rattle.utf8_read.proofs.Tests.{or-none}
 use Rattle.utf8_read.proofs.Rules.{in-two, in-three, in-four}
 use Rattle.utf8_read.proofs.Sequences.{At, stands, none, found, fits}
@@ -68,8 +69,10 @@ ascii-none s a e h k l m = absurd (omega arith)
 
 pub ascii-more : (s : List ℕ) (a p e : ℕ) (ok : Bool) → (ok ≡ true → Ascii s a p) → e ≡ p + 1 → (ok && ltb (getD s p 0) 0x80) ≡ true → Ascii s a e
 ascii-more s a p e ok f q n k l h =
-    let o = and-both ok (ltb (getD s p 0) 0x80) n in
-    elim (decLt k p) [ yes w ↦ f (o .0) k l w | no w ↦ (let z : k ≡ p = omega arith in rw z (ltb-true (getD s p 0) 0x80 (o .1))) ]
+    elim (decLt k p) [
+      | yes w ↦ f (and-left ok (ltb (getD s p 0) 0x80) n) k l w
+      | no w ↦ (let z : k ≡ p = omega arith in rw z (ltb-true (getD s p 0) 0x80 (and-right ok (ltb (getD s p 0) 0x80) n)))
+    ]
 
 pub ascii-join : (s : List ℕ) (a b c d : ℕ) → c ≤ b → Ascii s a b → Ascii s c d → Ascii s a d
 ascii-join s a b c d m f g k l h = elim (decLt k b) [ yes n ↦ f k l n | no n ↦ g k (omega arith) h ]
@@ -78,21 +81,19 @@ pub three-calm :
     (s : List ℕ) (j : ℕ) (a b c : Bool) → (a ≡ true → Ascii s j (j + 16)) → (b ≡ true → Ascii s (j + 16) (j + 16 + 16))
     → (c ≡ true → Ascii s (j + 19) (j + 19 + 16)) → (a && b && c) ≡ true → Ascii s j (j + 35)
 three-calm s j a b c fa fb fc t k l h =
-    let t₂ = and-both (a && b) c t in
-    let t₁ = and-both a b (t₂ .0) in
-    let b₁ = ascii-join s j (j + 16) (j + 16) (j + 16 + 16) (omega arith) (fa (t₁ .0)) (fb (t₁ .1)) in
-    ascii-join s j (j + 16 + 16) (j + 19) (j + 19 + 16) (omega arith) b₁ (fc (t₂ .1)) k l (omega arith)
+    let t₁ = and-left (a && b) c t in
+    let b₁ = ascii-join s j (j + 16) (j + 16) (j + 16 + 16) (omega arith) (fa (and-left a b t₁)) (fb (and-right a b t₁)) in
+    ascii-join s j (j + 16 + 16) (j + 19) (j + 19 + 16) (omega arith) b₁ (fc (and-right (a && b) c t)) k l (omega arith)
 
 pub four-calm :
     (s : List ℕ) (j : ℕ) (a b c d : Bool) → (a ≡ true → Ascii s j (j + 16)) → (b ≡ true → Ascii s (j + 16) (j + 16 + 16))
     → (c ≡ true → Ascii s (j + 32) (j + 32 + 16)) → (d ≡ true → Ascii s (j + 48) (j + 48 + 16)) → (a && b && c && d) ≡ true → Ascii s j (j + 64)
 four-calm s j a b c d fa fb fc fd t k l h =
-    let t₃ = and-both (a && b && c) d t in
-    let t₂ = and-both (a && b) c (t₃ .0) in
-    let t₁ = and-both a b (t₂ .0) in
-    let b₁ = ascii-join s j (j + 16) (j + 16) (j + 16 + 16) (omega arith) (fa (t₁ .0)) (fb (t₁ .1)) in
-    let b₂ = ascii-join s j (j + 16 + 16) (j + 32) (j + 32 + 16) (omega arith) b₁ (fc (t₂ .1)) in
-    ascii-join s j (j + 32 + 16) (j + 48) (j + 48 + 16) (omega arith) b₂ (fd (t₃ .1)) k l (omega arith)
+    let t₂ = and-left (a && b && c) d t in
+    let t₁ = and-left (a && b) c t₂ in
+    let b₁ = ascii-join s j (j + 16) (j + 16) (j + 16 + 16) (omega arith) (fa (and-left a b t₁)) (fb (and-right a b t₁)) in
+    let b₂ = ascii-join s j (j + 16 + 16) (j + 32) (j + 32 + 16) (omega arith) b₁ (fc (and-right (a && b) c t₂)) in
+    ascii-join s j (j + 32 + 16) (j + 48) (j + 48 + 16) (omega arith) b₂ (fd (and-right (a && b && c) d t)) k l (omega arith)
 
 pub here : (s : List ℕ) (at : ℕ) → at ≤ length s → Clean s at → Reached s at at
 here s at m c = record { least = omega arith; most = m; clean = c; good = refl }

@@ -9,7 +9,7 @@ use native.Mathlib.Decide.{decLt}
 use lib.Dec.{leb, eqb}
 use borrow.Author.Tests.{le-leb, leb-true, eq-eqb, ne-eqb, eqb-true}
 use Rattle.utf8_read.specs.Grammar.{range, tail, utf8-1, utf8-2, utf8-3, utf8-4}
-use Rattle.room.proofs.Choices.{and-both}
+use Rattle.room.proofs.Bools.{and-left, and-right}
 use Rattle.utf8_read.proofs.Tests.{or-one, refuted}
 
 pub record Within (first last b : ℕ) : Type 0 where
@@ -17,9 +17,7 @@ pub record Within (first last b : ℕ) : Type 0 where
   pub high : b ≤ last
 
 in-range : (first last b : ℕ) → range first last b ≡ true → Within first last b
-in-range first last b e =
-    let p = and-both (leb first b) (leb b last) e in
-    record { low = leb-true first b (p .0); high = leb-true b last (p .1) }
+in-range first last b e = record { low = leb-true first b (and-left (leb first b) (leb b last) e); high = leb-true b last (and-right (leb first b) (leb b last) e) }
 
 range-in : (first last b : ℕ) → first ≤ b → b ≤ last → range first last b ≡ true
 range-in first last b l h = rw (le-leb first b l) (le-leb b last h)
@@ -55,9 +53,7 @@ pub record Two (a b : ℕ) : Type 0 where
 
 pub in-two : (a b : ℕ) → utf8-2 a b ≡ true → Two a b
 unfolding utf8-2
-in-two a b e =
-    let p = and-both (range 0xc2 0xdf a) (tail b) e in
-    record { first = in-range 0xc2 0xdf a (p .0); second = in-tail b (p .1) }
+in-two a b e = record { first = in-range 0xc2 0xdf a (and-left (range 0xc2 0xdf a) (tail b) e); second = in-tail b (and-right (range 0xc2 0xdf a) (tail b) e) }
 
 pub two-in : (a b : ℕ) → 0xc2 ≤ a → a ≤ 0xdf → 0x80 ≤ b → b ≤ 0xbf → utf8-2 a b ≡ true
 unfolding utf8-2
@@ -73,9 +69,8 @@ pub record Three (a b c : ℕ) : Type 0 where
 three-of : (a b c a₁ a₂ b₁ b₂ : ℕ) (t u : Bool) → (t ≡ true → Within a₁ a₂ a) → (u ≡ true → Within b₁ b₂ b) → (t && (u && tail c)) ≡ true
     → (Within a₁ a₂ a) × (Within b₁ b₂ b) × (Within 0x80 0xbf c)
 three-of a b c a₁ a₂ b₁ b₂ t u f g e =
-    let p = and-both t (u && tail c) e in
-    let q = and-both u (tail c) (p .1) in
-    (f (p .0), g (q .0), in-tail c (q .1))
+    let p = and-right t (u && tail c) e in
+    (f (and-left t (u && tail c) e), g (and-left u (tail c) p), in-tail c (and-right u (tail c) p))
 
 only : (a n : ℕ) → eqb a n ≡ true → Within n n a
 only a n e = omega (arith, eqb-true a n e)
@@ -131,10 +126,9 @@ pub record Four (a b c d : ℕ) : Type 0 where
 four-of : (a b c d a₁ a₂ b₁ b₂ : ℕ) (t u : Bool) → (t ≡ true → Within a₁ a₂ a) → (u ≡ true → Within b₁ b₂ b) → (t && (u && (tail c && tail d))) ≡ true
     → (Within a₁ a₂ a) × (Within b₁ b₂ b) × (Within 0x80 0xbf c) × (Within 0x80 0xbf d)
 four-of a b c d a₁ a₂ b₁ b₂ t u f g e =
-    let p = and-both t (u && (tail c && tail d)) e in
-    let q = and-both u (tail c && tail d) (p .1) in
-    let r = and-both (tail c) (tail d) (q .1) in
-    (f (p .0), g (q .0), in-tail c (r .0), in-tail d (r .1))
+    let p = and-right t (u && (tail c && tail d)) e in
+    let q = and-right u (tail c && tail d) p in
+    (f (and-left t (u && (tail c && tail d)) e), g (and-left u (tail c && tail d) p), in-tail c (and-left (tail c) (tail d) q), in-tail d (and-right (tail c) (tail d) q))
 
 pub in-four : (a b c d : ℕ) → utf8-4 a b c d ≡ true → Four a b c d
 unfolding utf8-4

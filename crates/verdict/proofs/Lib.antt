@@ -1,4 +1,3 @@
-pub mod Bools
 pub mod Points
 pub mod Chains
 pub mod Rooms

@@ -1,6 +1,6 @@
 -- What a diff must be to be written as an edit file. Assumes nothing.
 use Prim.Native.Nat.{ℕ, _+_}
-use mathlib.Core.Bool.{Bool, true, false, not}
+use mathlib.Core.Bool.{Bool, true, false, not, _&&_}
 use mathlib.Core.List.{List, [], _∷_}
 use lib.ListN.{length, take, drop}
 use lib.IntN.{ℤ}
@@ -11,7 +11,6 @@ use Rattle.diff.specs.declared.diff.Item.{Item as Lent}
 use Rattle.diff.specs.declared.diff.Item.the-variants.{Retain, Delete, Insert, Neither}
 use Rattle.diff.specs.Items.{itemsOf}
 use Rattle.diff.specs.Checks.{Verdict, fine, refused, andThen, refuseIf, originalMost, itemsMost, textMost, points}
-use Rattle.edit_format.specs.Tests.{both}
 use Rattle.edit_format.specs.Items.{Item, Keep, Drop, Add, kept, dropped, added}
 
 -- "`keep=`, `drop=` or `add=`": an item of the file for each that is lent; what is neither number nor text within the lent one adds nothing
@@ -43,7 +42,7 @@ sizes is text =
 -- empty text here. The "index of first such [..] item"; k: the item before was a keep
 unfoldable pub shapes : Bool → ℕ → List Item → Verdict
 shapes k i [] = fine
-shapes k i (Keep n ∷ is) = pick (both (leb 1 n) (not k)) (shapes true (i + 1) is) (refused (Record i))
+shapes k i (Keep n ∷ is) = pick (leb 1 n && not k) (shapes true (i + 1) is) (refused (Record i))
 shapes k i (Drop n ∷ is) = pick (leb 1 n) (shapes false (i + 1) is) (refused (Record i))
 shapes k i (Add cs ∷ is) = pick (leb 1 (length cs)) (shapes false (i + 1) is) (refused (Record i))
 

@@ -1,6 +1,6 @@
 -- `sum_lists` gives the verdict on the two lists of a merge, with the tokens that each of two accepted ones inserts.
 -- Two good lists leave the texts; any other are judged check by check. Assumes nothing.
-use Rattle.verdict.proofs.Bools.{first-no}
+use Rattle.room.proofs.Bools.{first-no}
 use Rattle.verdict.proofs.Chains.{too-big}
 use Rattle.checks.proofs.Passing.{lent-few, good-lists}
 use Rattle.checks.proofs.Telling.{told-no, told-yes}

@@ -1,6 +1,6 @@
 -- `rooms_fit` tells whether the rooms are long enough.
 -- The first two tests by Rooms, the others by Bools. Assumes nothing.
-use Rattle.verdict.proofs.Bools.{first-no, second-is}
+use Rattle.room.proofs.Bools.{first-no, second-is}
 use Rattle.verdict.proofs.Rooms.{first-short, second-short, both-enough}
 use borrow.Author.Tests.{le-leb, lt-leb}
 use mathlib.Core.Path.{refl, sym}

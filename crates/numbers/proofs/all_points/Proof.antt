@@ -3,7 +3,7 @@
 use Rattle.numbers.specs.Points.{scalarsFrom}
 use Rattle.numbers.proofs.Scalar.{by-one, to-end, below-both}
 use Rattle.numbers.proofs.Points.{point-but}
-use Rattle.room.proofs.Choices.{and-both}
+use Rattle.room.proofs.Bools.{and-left, and-right}
 use Prim.Native.Nat.{_-_, _≤_, _<_}
 use mathlib.Core.Path.{_≡_, refl, _∙_}
 use mathlib.Core.Bool.{true}
@@ -39,16 +39,14 @@ block-again c =
     let c2 = c .before .before in (
       omega arith,
       λ t h.
-          let o = and-both (c2 .block .points) _ t in
           let b = below-both _ _ _ h in
-          by-one _ _ (omega (arith, c2 .before .pre .1)) (point-but _ (eqb-false _ _ (not-true _ (o .1))) (omega (arith, b .1))) ∙ c2 .block .inv .1 (o .0) (b .0),
+          by-one _ _ (omega (arith, c2 .before .pre .1)) (point-but _ (eqb-false _ _ (not-true _ (and-right (c2 .block .points) _ t))) (omega (arith, b .1))) ∙ c2 .block .inv .1 (and-left (c2 .block .points) _ t) (b .0),
     )
 
 returns : tie.Need-returns Inv-block μ-block
 returns c = λ e.
-    let o = and-both (c .before .block .points) _ e in
-    let b = leb-true (c .before .block .bits) 0x10ffff (o .1) in
-    to-end _ _ (c .before .block .inv .0) (c .block-test .left) (c .before .block .inv .1 (o .0) (omega (arith, b)))
+    let b = leb-true (c .before .block .bits) 0x10ffff (and-right (c .before .block .points) _ e) in
+    to-end _ _ (c .before .block .inv .0) (c .block-test .left) (c .before .block .inv .1 (and-left (c .before .block .points) _ e) (omega (arith, b)))
 
 pub all-points-spec : {M : Type 1} → statement M
 all-points-spec =

@@ -1,6 +1,6 @@
 -- `lists_fit` tells whether both lists keep their sizes.
 -- A conjunction of two tests, by Chains. Assumes nothing.
-use Rattle.verdict.proofs.Bools.{first-no, second-is}
+use Rattle.room.proofs.Bools.{first-no, second-is}
 use borrow.Author.Tests.{not-true, not-false}
 use mathlib.Core.Path.{sym, _∙_}
 use borrow.Author.Needs.{needs}

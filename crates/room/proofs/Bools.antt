@@ -22,3 +22,11 @@ both-yes a b e f = rw (e, f)
 
 pub second-is : (a b r : Bool) → a ≡ true → r ≡ b → r ≡ a && b
 second-is a b r e f = rw e f
+
+pub and-true : (t : Bool) → t && true ≡ t
+and-true true = refl
+and-true false = refl
+
+pub and-false : (t : Bool) → t && false ≡ false
+and-false true = refl
+and-false false = refl
