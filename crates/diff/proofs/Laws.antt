@@ -12,37 +12,39 @@ use lib.Dec.{ltb}
 use borrow.Author.Tests.{le-ltb, ltb-false}
 use Rattle.room.specs.Choice.{pick}
 use Rattle.refusal.specs.declared.Refusal.{Refusal}
+use Rattle.verdict.specs.declared.Verdict.{Verdict}
+use Rattle.verdict.specs.declared.Verdict.the-variants.{Accepted, Refused}
 use Rattle.diff.specs.declared.diff.Item.{Item}
 use Rattle.diff.specs.declared.diff.Item.the-variants.{Retain, Delete, Insert, Neither}
 use Rattle.diff.specs.Items.{itemAt, itemsFrom}
 use Rattle.diff.specs.Replay.{Edit, retain, delete, insert, editOf, editsOf, replayed, mentioned, left, kept, added}
-use Rattle.diff.specs.Checks.{Verdict, fine, refused, used, numbers, covers}
+use Rattle.diff.specs.Checks.{used, numbers, covers}
 use Rattle.diff.proofs.Decoding.{insert-within}
 
--- a choice between a refusal and what follows came out fine: the test failed, and what follows is fine
-picked-fine : (t : Bool) (r : Refusal) (v : Verdict) → pick t (refused r) v ≡ fine → (t ≡ false) × (v ≡ fine)
-picked-fine true r v e = let z : true ≡ false = cc in (z, cc)
-picked-fine false r v e = (refl, e)
+-- a choice between a refusal and what follows was accepted: the test failed, and what follows is accepted
+picked-accepted : (t : Bool) (r : Refusal) (v : Verdict) → pick t (Refused r) v ≡ Accepted → (t ≡ false) × (v ≡ Accepted)
+picked-accepted true r v e = let z : true ≡ false = cc in (z, cc)
+picked-accepted false r v e = (refl, e)
 
 -- edits that pass for covering leave nothing
-pub covers-none : (len : ℕ) (es : List Edit) → covers len es ≡ fine → left len es ≡ 0
+pub covers-none : (len : ℕ) (es : List Edit) → covers len es ≡ Accepted → left len es ≡ 0
 unfolding covers
-covers-none len es e = let w = picked-fine (ltb 0 (left len es)) _ fine e in omega (arith, ltb-false 0 (left len es) (w .0))
+covers-none len es e = let w = picked-accepted (ltb 0 (left len es)) _ Accepted e in omega (arith, ltb-false 0 (left len es) (w .0))
 
 -- numbers that never ask too much ask no more than there is
-pub numbers-enough : (at rest : ℕ) (es : List Edit) → numbers at rest es ≡ fine → mentioned es ≤ rest
+pub numbers-enough : (at rest : ℕ) (es : List Edit) → numbers at rest es ≡ Accepted → mentioned es ≤ rest
 unfolding numbers mentioned
 numbers-enough at rest [] e = omega arith
 numbers-enough at rest (retain n ∷ es) e =
-    let w = picked-fine (ltb rest n) _ _ e in
+    let w = picked-accepted (ltb rest n) _ _ e in
     omega (arith, ltb-false rest n (w .0), numbers-enough (at + n) (rest - n) es (w .1))
 numbers-enough at rest (delete n ∷ es) e =
-    let w = picked-fine (ltb rest n) _ _ e in
+    let w = picked-accepted (ltb rest n) _ _ e in
     omega (arith, ltb-false rest n (w .0), numbers-enough (at + n) (rest - n) es (w .1))
 numbers-enough at rest (insert s ∷ es) e = numbers-enough at rest es e
 
 -- and the other way
-pub enough-numbers : (at rest : ℕ) (es : List Edit) → mentioned es ≤ rest → numbers at rest es ≡ fine
+pub enough-numbers : (at rest : ℕ) (es : List Edit) → mentioned es ≤ rest → numbers at rest es ≡ Accepted
 unfolding numbers mentioned
 enough-numbers at rest [] h = refl
 enough-numbers at rest (retain n ∷ es) h =

@@ -1,5 +1,4 @@
 pub mod Signs
 pub mod Decoding
-pub mod Points
 pub mod Turns
 pub mod Laws

@@ -11,13 +11,14 @@ use lib.IntN.{ℤ}
 use lib.Dec.{ltb}
 use borrow.Author.Tests.{lt-ltb, le-ltb}
 use Rattle.refusal.specs.declared.Refusal.the-variants.{Record, Short}
+use Rattle.verdict.specs.declared.Verdict.the-variants.{Accepted, Refused}
 use Rattle.diff.specs.declared.diff.Item.{Item}
 use Rattle.diff.specs.declared.diff.Item.the-variants.{Retain, Delete, Insert, Neither}
 use Rattle.diff.specs.declared.diff.Surveyed.the-variants.{TooLong, Used, Stopped as Broken}
 use Rattle.diff.specs.declared.diff.Walked.the-variants.{Reached, Stopped}
 use Rattle.diff.specs.Items.{itemAt, itemsFrom, itemsOf}
 use Rattle.diff.specs.Replay.{Edit, retain, delete, insert, editOf, editsOf, mentioned, kept}
-use Rattle.diff.specs.Checks.{fine, refused, textMost, used, records, numbers}
+use Rattle.diff.specs.Checks.{textMost, used, records, numbers}
 use Rattle.diff.specs.Passes.{surveyed, walked}
 use Rattle.diff.proofs.Decoding.{items-more, items-none}
 
@@ -82,7 +83,7 @@ module _ {xs : List ℤ} {lent i sum : ℕ} (h : Surveying xs lent i sum) where
   unfolding surveyed records
   survey-ends l =
       let e : sum ≡ used (itemsOf xs lent) = sum-ends (h .summing) l in
-      let r : fine ≡ records 0 (itemsOf xs lent) = ap (records i) (sym (rest-none xs lent i l)) ∙ h .good in
+      let r : Accepted ≡ records 0 (itemsOf xs lent) = ap (records i) (sym (rest-none xs lent i l)) ∙ h .good in
       rw (← e, le-ltb _ _ (h .summing .below), ← r)
 
   module _ (l : i < length xs / 3) where
@@ -115,7 +116,7 @@ module _ {xs : List ℤ} {lent i sum : ℕ} (h : Surveying xs lent i sum) where
           {t : Bool} → t ≡ ltb textMost (sum + used (rest xs lent (i + 1))) → t ≡ false → Broken (Record i) ≡ surveyed (itemsOf xs lent)
       unfolding surveyed records
       survey-broken d p =
-          let r : refused (Record i) ≡ records 0 (itemsOf xs lent) = sym (ap (records i) (rest-at xs lent i l e)) ∙ h .good in
+          let r : Refused (Record i) ≡ records 0 (itemsOf xs lent) = sym (ap (records i) (rest-at xs lent i l e)) ∙ h .good in
           rw (← total, ← d, p, ← r)
 
 -- the edits from a place on
@@ -154,7 +155,7 @@ module _ {xs : List ℤ} {text : List ℕ} {len i at keeps : ℕ} (h : Walking x
   unfolding walked numbers mentioned kept
   walk-ends l =
       let n = edits-none xs text i l in
-      let a : fine ≡ numbers 0 len (editsOf text (itemsOf xs (length text))) = ap (numbers at (len - at)) (sym n) ∙ h .asked in
+      let a : Accepted ≡ numbers 0 len (editsOf text (itemsOf xs (length text))) = ap (numbers at (len - at)) (sym n) ∙ h .asked in
       let p : at ≡ mentioned (editsOf text (itemsOf xs (length text))) = omega (arith, h .spoken, ap mentioned n) in
       let k : keeps ≡ kept (editsOf text (itemsOf xs (length text))) = omega (arith, h .keeping, ap kept n) in
       rw (← a, ← p, ← k)
@@ -210,7 +211,7 @@ module _ {xs : List ℤ} {text : List ℕ} {len i at keeps : ℕ} (h : Walking x
     unfolding editOf numbers walked
     walk-short-retain {n} e f =
         let d : restEdits xs text i ≡ retain n ∷ restEdits xs text (i + 1) = edits-at xs text i l e in
-        let a : refused (Short at n (len - at)) ≡ numbers 0 len (editsOf text (itemsOf xs (length text))) = sym
+        let a : Refused (Short at n (len - at)) ≡ numbers 0 len (editsOf text (itemsOf xs (length text))) = sym
         (rw (lt-ltb _ _ f) at (ap (numbers at (len - at)) d)) ∙ h .asked in
         rw (← a)
 
@@ -219,6 +220,6 @@ module _ {xs : List ℤ} {text : List ℕ} {len i at keeps : ℕ} (h : Walking x
     unfolding editOf numbers walked
     walk-short-delete {n} e f =
         let d : restEdits xs text i ≡ delete n ∷ restEdits xs text (i + 1) = edits-at xs text i l e in
-        let a : refused (Short at n (len - at)) ≡ numbers 0 len (editsOf text (itemsOf xs (length text))) = sym
+        let a : Refused (Short at n (len - at)) ≡ numbers 0 len (editsOf text (itemsOf xs (length text))) = sym
         (rw (lt-ltb _ _ f) at (ap (numbers at (len - at)) d)) ∙ h .asked in
         rw (← a)

@@ -5,27 +5,19 @@ use mathlib.Core.Bool.{Bool}
 use mathlib.Core.List.{List, [], _∷_}
 use lib.ListN.{length}
 use lib.Dec.{ltb}
-use Rattle.numbers.specs.Points.{isPoint}
 use Rattle.room.specs.Choice.{pick}
 use Rattle.refusal.specs.declared.Refusal.{Refusal}
-use Rattle.refusal.specs.declared.Refusal.the-variants.{Record, Size, CodePoint, Short, Room, Unmentioned}
+use Rattle.refusal.specs.declared.Refusal.the-variants.{Record, Size, Short, Room, Unmentioned}
+use Rattle.verdict.specs.declared.Verdict.{Verdict}
+use Rattle.verdict.specs.declared.Verdict.the-variants.{Accepted, Refused}
+use Rattle.verdict.specs.Verdicts.{andThen}
 use Rattle.diff.specs.declared.diff.Item.{Item}
 use Rattle.diff.specs.declared.diff.Item.the-variants.{Retain, Delete, Insert, Neither}
 use Rattle.diff.specs.Replay.{Edit, retain, delete, insert, left}
 
--- "Given exactly when": what a check finds
-pub data Verdict : Type 0 where
-  fine : Verdict
-  refused : Refusal → Verdict
-
--- "For diffs: 3, 4, 1, 6 at the first offending item, 9 (covering replay only), 7": the next check is heard where this one is fine
-abbrev pub andThen : Verdict → Verdict → Verdict
-andThen fine v = v
-andThen (refused r) v = refused r
-
 -- "Given exactly when": refused by a test
 abbrev pub refuseIf : Bool → Refusal → Verdict
-refuseIf t r = pick t (refused r) fine
+refuseIf t r = pick t (Refused r) Accepted
 
 -- "Sums are exact; parts outside what was lent add no text": the code points that the texts use
 unfoldable pub used : List Item → ℕ
@@ -54,24 +46,19 @@ sizes original is lent =
     (andThen (refuseIf (ltb itemsMost (length is)) Size)
     (andThen (refuseIf (ltb textMost (length lent)) Size) (refuseIf (ltb textMost (used is)) Size)))
 
--- 4: "a lent text holds a number above 10FFFF hex or in D800 to DFFF"; its index, counted from the one given
-unfoldable pub points : ℕ → List ℕ → Verdict
-points i [] = fine
-points i (x ∷ xs) = pick (isPoint x) (points (i + 1) xs) (refused (CodePoint i))
-
 -- 1: "unknown kind"; "token or range outside what was lent"; the "index of first such operation or item", counted from the one given
 unfoldable pub records : ℕ → List Item → Verdict
-records i [] = fine
+records i [] = Accepted
 records i (Retain n ∷ is) = records (i + 1) is
 records i (Delete n ∷ is) = records (i + 1) is
 records i (Insert s n ∷ is) = records (i + 1) is
-records i (Neither ∷ is) = refused (Record i)
+records i (Neither ∷ is) = Refused (Record i)
 
 -- 6: "a diff number asks more than is left of the original", at a position with so much left of it: "position, requested, available"
 unfoldable pub numbers : ℕ → ℕ → List Edit → Verdict
-numbers at rest [] = fine
-numbers at rest (retain n ∷ es) = pick (ltb rest n) (refused (Short at n rest)) (numbers (at + n) (rest - n) es)
-numbers at rest (delete n ∷ es) = pick (ltb rest n) (refused (Short at n rest)) (numbers (at + n) (rest - n) es)
+numbers at rest [] = Accepted
+numbers at rest (retain n ∷ es) = pick (ltb rest n) (Refused (Short at n rest)) (numbers (at + n) (rest - n) es)
+numbers at rest (delete n ∷ es) = pick (ltb rest n) (Refused (Short at n rest)) (numbers (at + n) (rest - n) es)
 numbers at rest (insert s ∷ es) = numbers at rest es
 
 -- 9: "a covering replay ends with original text unmentioned": "code points left"

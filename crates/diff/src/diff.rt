@@ -6,9 +6,10 @@ ghost use Prim.Native.Nat.{_+_, _*_, _-_, _/_, _≤_};
 ghost use lib.ListN.{length};
 ghost use lib.IntN.{natAbs};
 ghost use lib.Dec.{ltb};
+ghost use Rattle.verdict.specs.Points.{pointsFrom, pointsVerdict};
 ghost use Rattle.diff.specs.Items.{numbered, ranged, itemAt, itemsFrom, itemsOf};
 ghost use Rattle.diff.specs.Replay.{editsOf};
-ghost use Rattle.diff.specs.Checks.{used, textMost, points, andThen};
+ghost use Rattle.diff.specs.Checks.{used, textMost};
 ghost use Rattle.diff.specs.Passes.{pointed, surveyed, walked};
 use refusal::Refusal;
 
@@ -88,7 +89,7 @@ pub enum Bad {
 
 // Where a text has its first number that is no code point.
 pub fn bad_point(text: &[u32]) -> Bad
-    ensures { λ r. ⌜ pointed r ≡ points 0 (now (text .entry)) ⌝ }
+    ensures { λ r. ⌜ pointed r ≡ pointsFrom (now (text .entry)) 0 ⌝ }
 {
     let first = numbers::scalars_of(text);
     if first < text.len() {
@@ -99,7 +100,7 @@ pub fn bad_point(text: &[u32]) -> Bad
 
 // The same of an original and then of the text of a diff.
 pub fn bad_points(original: &[u32], text: &[u32]) -> Bad
-    ensures { λ r. ⌜ pointed r ≡ andThen (points 0 (now (original .entry))) (points 0 (now (text .entry))) ⌝ }
+    ensures { λ r. ⌜ pointed r ≡ pointsVerdict (now (original .entry)) (now (text .entry)) ⌝ }
 {
     match bad_point(original) {
         Bad::At(index) => Bad::At(index),

@@ -12,7 +12,10 @@ use Rattle.room.proofs.Answers.{at-start}
 use Rattle.refusal.specs.declared.Refusal.{Refusal}
 use Rattle.refusal.specs.declared.Refusal.the-variants.{Room}
 use Rattle.refusal.specs.declared.Counted.the-variants.{Count, Refused as NoCount}
-use Rattle.diff.specs.Checks.{Verdict, fine, refused, fits}
+use Rattle.verdict.specs.declared.Verdict.{Verdict}
+use Rattle.verdict.specs.declared.Verdict.the-variants.{Accepted, Refused}
+use Rattle.verdict.specs.Verdicts.{andThen}
+use Rattle.diff.specs.Checks.{fits}
 use Rattle.edit_format.specs.Items.{Item, kept, dropped, added}
 use Rattle.edit_format.specs.Written.{formKey, originalKey, resultKey, itemsKey, endKey, numberLine, itemLines, headLines, headOf, written}
 use Rattle.written_lines.specs.Lengths.{cap}
@@ -22,18 +25,18 @@ use Rattle.edit_write.specs.Writing.{lengthOf, roomed, Wrote}
 use Rattle.writable.specs.Passes.{sumsOf, checkedBy}
 use Rattle.edit_write.specs.Bytes.{fileBytes}
 use Rattle.writable.specs.declared.Sums.{Sums}
-use Rattle.writable.specs.declared.Checked.the-variants.{Fine, Refused}
+use Rattle.writable.specs.declared.Checked.the-variants.{Fine, Refused as No}
 use Rattle.writable.proofs.Checking.{file-length}
 use Rattle.edit_write.proofs.Goodness.{writable-good, written-short}
 
 -- what the checks found
-pub refused-by : (v : Verdict) (is : List Item) {r : Refusal} → Refused r ≡ checkedBy v is → v ≡ refused r
-refused-by fine is e = let z : _≡_ {A = ℕ} 0 1 = cc in absurd (omega arith)
-refused-by (refused r) is e = cc
+pub refused-by : (v : Verdict) (is : List Item) {r : Refusal} → No r ≡ checkedBy v is → v ≡ Refused r
+refused-by Accepted is e = let z : _≡_ {A = ℕ} 0 1 = cc in absurd (omega arith)
+refused-by (Refused r) is e = cc
 
-pub fine-by : (v : Verdict) (is : List Item) {s : Sums} {m : ℕ} → Fine s m ≡ checkedBy v is → (v ≡ fine) × ((s ≡ sumsOf is) × (m ≡ cap (length (itemLines is))))
-fine-by fine is e = (refl, (cc, cc))
-fine-by (refused r) is e = let z : _≡_ {A = ℕ} 0 1 = cc in absurd (omega arith)
+pub fine-by : (v : Verdict) (is : List Item) {s : Sums} {m : ℕ} → Fine s m ≡ checkedBy v is → (v ≡ Accepted) × ((s ≡ sumsOf is) × (m ≡ cap (length (itemLines is))))
+fine-by Accepted is e = (refl, (cc, cc))
+fine-by (Refused r) is e = let z : _≡_ {A = ℕ} 0 1 = cc in absurd (omega arith)
 
 module _ (xs : List ℤ) (text : List ℕ) where
   file-written : fileBytes xs text (kept (fileOf xs text) + dropped (fileOf xs text)) (kept (fileOf xs text) + added (fileOf xs text)) ≡ written (fileOf xs text)
@@ -48,7 +51,7 @@ module _ (xs : List ℤ) (text : List ℕ) where
       (omega (arith, ap (λ (t : Sums). t .kept) (f .1 .0), g .original), omega (arith, ap (λ (t : Sums). t .added) (f .1 .0), g .text))
 
   module _ {s : Sums} {m : ℕ} (e : Fine s m ≡ checkedBy (writable (fileOf xs text) text) (fileOf xs text)) where
-    passed : writable (fileOf xs text) text ≡ fine
+    passed : writable (fileOf xs text) text ≡ Accepted
     passed = fine-by (writable (fileOf xs text) text) (fileOf xs text) e .0
 
     bytes : fileBytes xs text (s .used) (s .kept + s .added) ≡ written (fileOf xs text)
@@ -68,7 +71,7 @@ module _ (xs : List ℤ) (text : List ℕ) where
     length-fine f = rw passed (ap Count (exact f))
 
     pub no-room : (out : List ℕ) {n : ℕ} → n ≡ cap (length (fileBytes xs text (s .used) (s .kept + s .added))) → length out < n → Wrote (fileOf xs text) text out out (NoCount Room)
-    unfolding roomed fits
+    unfolding roomed fits andThen
     no-room out f h =
         let w : length out < length (written (fileOf xs text)) = omega (arith, exact f) in
         record { answer = rw (passed, lt-ltb (length out) (length (written (fileOf xs text))) w); room = rw (passed, lt-ltb (length out) (length (written (fileOf xs text))) w) }
@@ -77,7 +80,7 @@ module _ (xs : List ℤ) (text : List ℕ) where
     fits-in out f h = omega (arith, exact f, ap length bytes)
 
     pub whole : (out : List ℕ) {out′ : List ℕ} {n r : ℕ} → n ≡ cap (length (fileBytes xs text (s .used) (s .kept + s .added))) → n ≤ length out → Put (fileBytes xs text (s .used) (s .kept + s .added)) out 0 out′ r → Wrote (fileOf xs text) text out out′ (Count r)
-    unfolding roomed fits
+    unfolding roomed fits andThen
     whole out {out′} {n} {r} f h p =
         let w : length (written (fileOf xs text)) ≤ length out = omega (arith, exact f) in
         let q : r ≡ length (written (fileOf xs text)) = p .next ∙ omega (arith, ap length bytes) in
@@ -86,13 +89,13 @@ module _ (xs : List ℤ) (text : List ℕ) where
           room = rw (passed, le-ltb (length out) (length (written (fileOf xs text))) w) (p .stands ∙ at-start _ out ∙ ap (λ (l : List ℕ). answered l out) bytes);
         }
 
-  module _ {r : Refusal} (e : Refused r ≡ checkedBy (writable (fileOf xs text) text) (fileOf xs text)) where
+  module _ {r : Refusal} (e : No r ≡ checkedBy (writable (fileOf xs text) text) (fileOf xs text)) where
     pub length-refused : NoCount r ≡ lengthOf (fileOf xs text) text
     unfolding lengthOf
     length-refused = rw (refused-by (writable (fileOf xs text) text) (fileOf xs text) e)
 
     pub write-refused : (out : List ℕ) → Wrote (fileOf xs text) text out out (NoCount r)
-    unfolding roomed
+    unfolding roomed andThen
     write-refused out = record { answer = rw (refused-by (writable (fileOf xs text) text) (fileOf xs text) e); room = rw (refused-by (writable (fileOf xs text) text) (fileOf xs text) e) }
 
 sum-of : (s₁ s₂ s₃ s₄ s₅ s₆ d : List ℕ) → length (s₁ ++ s₂ ++ s₃ ++ s₄ ++ s₅ ++ s₆) ≤ length d → length s₁ + length s₂ + length s₃ + length s₄ + length s₅ + length s₆ ≤ length d

@@ -18,7 +18,12 @@ use Rattle.diff.specs.declared.diff.Item.the-variants.{Retain, Delete, Insert, 
 use Rattle.diff.specs.Items.{itemsOf}
 use Rattle.numbers.specs.Points.{isPoint}
 use Rattle.numbers.proofs.Points.{point-most}
-use Rattle.diff.specs.Checks.{Verdict, fine, refused, andThen, refuseIf, points as pointsCheck}
+use Rattle.verdict.specs.declared.Verdict.{Verdict}
+use Rattle.verdict.specs.declared.Verdict.the-variants.{Accepted, Refused}
+use Rattle.verdict.specs.Verdicts.{andThen}
+use Rattle.verdict.specs.Points.{pointsFrom}
+use Rattle.verdict.proofs.Chains.{never, went, first-passed, rest-passed}
+use Rattle.diff.specs.Checks.{refuseIf}
 use Rattle.edit_format.specs.Digits.{digits}
 use Rattle.edit_format.specs.Items.{Item, Keep, Drop, Add, kept, dropped, added, allPoints, itemsGood, Good}
 use Rattle.edit_format.specs.Written.{points, numberLine, endKey, itemLine, itemLines, Head, headLines, headOf, written}
@@ -28,29 +33,16 @@ use Rattle.writable.specs.Writable.{fileItem, fileItems, fileOf, sizes, shapes,
 use Rattle.writable.proofs.Counting.{keep-length, drop-length}
 use Rattle.edit_write.proofs.Counting.{head-length}
 
-never : {r : Refusal} → _≡_ {A = Verdict} (refused r) fine → ⊥
-never e = let z : _≡_ {A = ℕ} 0 1 = cc in omega arith
-
-pub then-first : (v w : Verdict) → andThen v w ≡ fine → v ≡ fine
-then-first fine w e = refl
-then-first (refused r) w e = absurd (never e)
-
-pub then-second : (v w : Verdict) → andThen v w ≡ fine → w ≡ fine
-then-second fine w e = e
-then-second (refused r) w e = absurd (never e)
-
-not-refused : (t : Bool) (r : Refusal) → refuseIf t r ≡ fine → t ≡ false
-not-refused true r e = absurd (never e)
+not-refused : (t : Bool) (r : Refusal) → refuseIf t r ≡ Accepted → t ≡ false
+not-refused true r e = never e
 not-refused false r e = refl
 
-pub all-points : (i : ℕ) (t : List ℕ) → pointsCheck i t ≡ fine → allPoints t ≡ true
-unfolding pointsCheck allPoints
-all-points i [] e = refl
-all-points i (c ∷ cs) e = go (isPoint c) refl e (λ f. all-points (i + 1) cs f)
-  where
-    go : (t : Bool) → isPoint c ≡ t → pick t (pointsCheck (i + 1) cs) (refused (CodePoint i)) ≡ fine → (pointsCheck (i + 1) cs ≡ fine → allPoints cs ≡ true) → isPoint c && allPoints cs ≡ true
-    go true f g k = rw (f, k g)
-    go false f g k = absurd (never g)
+pub all-points : (t : List ℕ) (i : ℕ) → pointsFrom t i ≡ Accepted → allPoints t ≡ true
+unfolding pointsFrom allPoints
+all-points [] i e = refl
+all-points (c ∷ cs) i e =
+    let w = went (isPoint c) (pointsFrom cs (i + 1)) (CodePoint i) e in
+    rw (w .0, all-points cs (i + 1) (w .1))
 
 points-drop : (n : ℕ) (t : List ℕ) → allPoints t ≡ true → allPoints (drop n t) ≡ true
 unfolding allPoints
@@ -64,11 +56,11 @@ points-take zero t e = refl
 points-take (suc n) [] e = refl
 points-take (suc n) (c ∷ cs) e = rw (and-left (isPoint c) (allPoints cs) e) (points-take n cs (and-right (isPoint c) (allPoints cs) e))
 
-picked : (t : Bool) (r : Refusal) (v : Verdict) → pick t v (refused r) ≡ fine → (t ≡ true) × (v ≡ fine)
+picked : (t : Bool) (r : Refusal) (v : Verdict) → pick t v (Refused r) ≡ Accepted → (t ≡ true) × (v ≡ Accepted)
 picked true r v e = (refl, e)
-picked false r v e = absurd (never e)
+picked false r v e = never e
 
-items-good : (text : List ℕ) → allPoints text ≡ true → (k : Bool) (i : ℕ) (ls : List Lent) → shapes k i (fileItems text ls) ≡ fine → itemsGood k (fileItems text ls) ≡ true
+items-good : (text : List ℕ) → allPoints text ≡ true → (k : Bool) (i : ℕ) (ls : List Lent) → shapes k i (fileItems text ls) ≡ Accepted → itemsGood k (fileItems text ls) ≡ true
 unfolding fileItems fileItem shapes itemsGood allPoints
 items-good text a k i [] e = refl
 items-good text a k i (Retain n ∷ ls) e = let p = picked (leb 1 n && not k) _ _ e in both-yes _ _ (p .0) (items-good text a true (i + 1) ls (p .1))
@@ -76,21 +68,21 @@ items-good text a k i (Delete n ∷ ls) e = let p = picked (leb 1 n) _ _ e in bo
 items-good text a k i (Insert s n ∷ ls) e =
     let p = picked (leb 1 (length (take n (drop s text)))) _ _ e in
     both-yes _ _ (both-yes _ _ (p .0) (points-take n (drop s text) (points-drop s text a))) (items-good text a false (i + 1) ls (p .1))
-items-good text a k i (Neither ∷ ls) e = absurd (never e)
+items-good text a k i (Neither ∷ ls) e = never e
 
-pub writable-good : (xs : List ℤ) (text : List ℕ) → writable (fileOf xs text) text ≡ fine → Good (fileOf xs text)
+pub writable-good : (xs : List ℤ) (text : List ℕ) → writable (fileOf xs text) text ≡ Accepted → Good (fileOf xs text)
 unfolding writable sizes fileOf
 writable-good xs text e =
     let is : List Item = fileOf xs text in
-    let s = then-first (sizes is text) (andThen (pointsCheck 0 text) (shapes false 0 is)) e in
-    let r = then-second (sizes is text) (andThen (pointsCheck 0 text) (shapes false 0 is)) e in
-    let u = then-second (refuseIf (ltb 8192 (length is)) Size) _ s in
-    let v = then-second (refuseIf (ltb 131070 (length text)) Size) _ u in
+    let s = first-passed (sizes is text) (andThen (pointsFrom text 0) (shapes false 0 is)) e in
+    let r = rest-passed (sizes is text) (andThen (pointsFrom text 0) (shapes false 0 is)) e in
+    let u = rest-passed (refuseIf (ltb 8192 (length is)) Size) _ s in
+    let v = rest-passed (refuseIf (ltb 131070 (length text)) Size) _ u in
     record {
-      few = ltb-false 8192 (length is) (not-refused _ Size (then-first (refuseIf (ltb 8192 (length is)) Size) _ s));
-      original = ltb-false 65535 (kept is + dropped is) (not-refused _ Size (then-second (refuseIf (ltb 131070 (added is)) Size) _ v));
-      text = ltb-false 131070 (added is) (not-refused _ Size (then-first (refuseIf (ltb 131070 (added is)) Size) _ v));
-      each = items-good text (all-points 0 text (then-first (pointsCheck 0 text) (shapes false 0 is) r)) false 0 (itemsOf xs (length text)) (then-second (pointsCheck 0 text) (shapes false 0 is) r);
+      few = ltb-false 8192 (length is) (not-refused _ Size (first-passed (refuseIf (ltb 8192 (length is)) Size) _ s));
+      original = ltb-false 65535 (kept is + dropped is) (not-refused _ Size (rest-passed (refuseIf (ltb 131070 (added is)) Size) _ v));
+      text = ltb-false 131070 (added is) (not-refused _ Size (first-passed (refuseIf (ltb 131070 (added is)) Size) _ v));
+      each = items-good text (all-points text 0 (first-passed (pointsFrom text 0) (shapes false 0 is) r)) false 0 (itemsOf xs (length text)) (rest-passed (pointsFrom text 0) (shapes false 0 is) r);
     }
 
 -- lengths

@@ -14,7 +14,9 @@ use Rattle.diff.specs.declared.diff.Item.{Item as Lent}
 use Rattle.diff.specs.declared.diff.Item.the-variants.{Retain, Delete, Insert, Neither}
 use Rattle.diff.specs.Items.{itemsOf, itemsFrom}
 use Rattle.diff.specs.Replay.{editOf, editsOf, mentioned, left, kept as keptBy, added as addedBy}
-use Rattle.diff.specs.Checks.{fine, used, sizes, records, covers}
+use Rattle.verdict.specs.declared.Verdict.the-variants.{Accepted as Fine}
+use Rattle.verdict.specs.Verdicts.{andThen}
+use Rattle.diff.specs.Checks.{used, sizes, records, covers}
 use Rattle.replay.specs.Answers.{Diff, diff, edits, textOf, plain, covering}
 use Rattle.diff.proofs.Decoding.{items-length}
 use Rattle.diff.proofs.Laws.{enough-numbers, replayed-length, added-used}
@@ -53,7 +55,7 @@ adds text (Insert s n ∷ ls) = omega (arith, adds text ls)
 adds text (Neither ∷ ls) = omega (arith, adds text ls)
 
 -- a good file lends no item that is neither
-no-neither : (text : List ℕ) (k : Bool) (i : ℕ) (ls : List Lent) → itemsGood k (fileItems text ls) ≡ true → records i ls ≡ fine
+no-neither : (text : List ℕ) (k : Bool) (i : ℕ) (ls : List Lent) → itemsGood k (fileItems text ls) ≡ true → records i ls ≡ Fine
 unfolding fileItems fileItem itemsGood records
 no-neither text k i [] g = refl
 no-neither text k i (Retain n ∷ ls) g = no-neither text true (i + 1) ls (and-right (leb 1 n && not k) (itemsGood true (fileItems text ls)) g)
@@ -86,14 +88,14 @@ module _ (is : List Item) (g : Good is) (o : List ℕ) (long : length o ≡ kept
   sum : mentioned (editsOf (texts is) ls) ≡ length o
   sum = mentions (texts is) ls ∙ ap (λ (l : List Item). kept l + dropped l) lent ∙ sym long
 
-  plain-fine : plain d ≡ fine
-  unfolding plain sizes edits d ls
+  plain-fine : plain d ≡ Fine
+  unfolding plain sizes edits d ls andThen
   plain-fine =
-      rw (le-ltb 65535 (length o) (omega (arith, long, g .original)), le-ltb 8192 (length ls) (omega (arith, count, g .few)), le-ltb 131070 (length (texts is)) (omega (arith, texts-length is, g .text)), le-ltb 131070 (used ls) (omega (arith, uses, g .text)), points-fine 0 o good, points-fine 0 (texts is) (texts-points false is (g .each)), no-neither (texts is) false 0 ls (rw lent (g .each)))
+      rw (le-ltb 65535 (length o) (omega (arith, long, g .original)), le-ltb 8192 (length ls) (omega (arith, count, g .few)), le-ltb 131070 (length (texts is)) (omega (arith, texts-length is, g .text)), le-ltb 131070 (used ls) (omega (arith, uses, g .text)), points-fine o 0 good, points-fine (texts is) 0 (texts-points false is (g .each)), no-neither (texts is) false 0 ls (rw lent (g .each)))
       (enough-numbers 0 (length o) (editsOf (texts is) ls) (omega (arith, sum)))
 
-  pub covers-all : covering (diff o (recordsOf is) (texts is)) ≡ fine
-  unfolding covering covers left edits d ls
+  pub covers-all : covering (diff o (recordsOf is) (texts is)) ≡ Fine
+  unfolding covering covers left edits d ls andThen
   covers-all = let z : length o - mentioned (editsOf (texts is) ls) ≡ 0 = omega (arith, sum) in rw (plain-fine, z)
 
   pub result-long : length (textOf (diff o (recordsOf is) (texts is))) ≡ kept is + added is
@@ -104,5 +106,5 @@ module _ (is : List Item) (g : Good is) (o : List ℕ) (long : length o ≡ kept
 
 -- law 4
 pub replays : (p : List ℕ) {is : List Item} → readFile p ≡ Accepted is → (o : List ℕ) → length o ≡ kept is + dropped is → allPoints o ≡ true
-    → (covering (diff o (recordsOf is) (texts is)) ≡ fine) × (length (textOf (diff o (recordsOf is) (texts is))) ≡ kept is + added is)
+    → (covering (diff o (recordsOf is) (texts is)) ≡ Fine) × (length (textOf (diff o (recordsOf is) (texts is))) ≡ kept is + added is)
 replays p {is} e o l a = let g = accepted-good p e in (covers-all is g o l a, result-long is g o l a)

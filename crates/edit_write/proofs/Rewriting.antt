@@ -14,7 +14,9 @@ use Rattle.room.proofs.Bools.{and-left, and-right}
 use Rattle.room.proofs.Choices.{no-way}
 use Rattle.diff.specs.Items.{numbered, ranged, itemOf, itemAt, itemsFrom, itemsOf}
 use Rattle.numbers.specs.Points.{isPoint}
-use Rattle.diff.specs.Checks.{fine, points as pointsCheck}
+use Rattle.verdict.specs.declared.Verdict.the-variants.{Accepted as Fine}
+use Rattle.verdict.specs.Verdicts.{andThen}
+use Rattle.verdict.specs.Points.{pointsFrom}
 use Rattle.edit_format.specs.Items.{Item, Keep, Drop, Add, kept, dropped, added, texts, isKeep, allPoints, itemsGood, Good}
 use Rattle.edit_format.specs.Written.{written}
 use Rattle.edit_format.specs.Reading.{Accepted, readFile}
@@ -28,7 +30,7 @@ use Rattle.writable.specs.Writable.{fileItem, fileItems, fileOf, sizes, shapes,
 use Rattle.edit_write.proofs.Goodness.{writable-good}
 
 -- law 1: what is written reads back the same items, with their text
-pub reads-back : (xs : List ℤ) (text : List ℕ) → writable (fileOf xs text) text ≡ fine → readFile (written (fileOf xs text)) ≡ Accepted (fileOf xs text)
+pub reads-back : (xs : List ℤ) (text : List ℕ) → writable (fileOf xs text) text ≡ Fine → readFile (written (fileOf xs text)) ≡ Accepted (fileOf xs text)
 reads-back xs text e = read-back (fileOf xs text) (writable-good xs text e)
 
 -- three numbers of a list, where a part of it begins
@@ -71,10 +73,10 @@ same-items is g =
     rw e (decodes false is 0 (texts is) [] 0 (g .each) refl refl (omega (arith, texts-length is)))
 
 -- good items pass the checks
-pub points-fine : (i : ℕ) (t : List ℕ) → allPoints t ≡ true → pointsCheck i t ≡ fine
-unfolding pointsCheck allPoints
-points-fine i [] e = refl
-points-fine i (c ∷ cs) e = rw (and-left (isPoint c) (allPoints cs) e) (points-fine (i + 1) cs (and-right (isPoint c) (allPoints cs) e))
+pub points-fine : (t : List ℕ) (i : ℕ) → allPoints t ≡ true → pointsFrom t i ≡ Fine
+unfolding pointsFrom allPoints
+points-fine [] i e = refl
+points-fine (c ∷ cs) i e = rw (and-left (isPoint c) (allPoints cs) e, pointsFrom) (points-fine cs (i + 1) (and-right (isPoint c) (allPoints cs) e))
 
 pub points-append : (s t : List ℕ) → allPoints s ≡ true → allPoints t ≡ true → allPoints (s ++ t) ≡ true
 unfolding allPoints
@@ -90,7 +92,7 @@ texts-points k (Add cs ∷ is) g =
     let a = and-left (leb 1 (length cs) && allPoints cs) (itemsGood false is) g in
     points-append cs (texts is) (and-right (leb 1 (length cs)) (allPoints cs) a) (texts-points false is (good-rest k (Add cs) is g))
 
-shapes-fine : (k : Bool) (i : ℕ) (is : List Item) → itemsGood k is ≡ true → shapes k i is ≡ fine
+shapes-fine : (k : Bool) (i : ℕ) (is : List Item) → itemsGood k is ≡ true → shapes k i is ≡ Fine
 unfolding itemsGood isKeep shapes
 shapes-fine k i [] g = refl
 shapes-fine k i (Keep n ∷ is) g = rw (and-left (leb 1 n && not k) (itemsGood true is) g) (shapes-fine true (i + 1) is (good-rest k (Keep n) is g))
@@ -99,12 +101,12 @@ shapes-fine k i (Add cs ∷ is) g =
     let a = and-left (leb 1 (length cs) && allPoints cs) (itemsGood false is) g in
     rw (and-left (leb 1 (length cs)) (allPoints cs) a) (shapes-fine false (i + 1) is (good-rest k (Add cs) is g))
 
-pub good-writable : (is : List Item) → Good is → writable is (texts is) ≡ fine
-unfolding writable sizes
+pub good-writable : (is : List Item) → Good is → writable is (texts is) ≡ Fine
+unfolding writable sizes andThen
 good-writable is g =
-    rw (le-ltb 8192 (length is) (g .few), le-ltb 131070 (length (texts is)) (omega (arith, texts-length is, g .text)), le-ltb 131070 (added is) (g .text), le-ltb 65535 (kept is + dropped is) (g .original), points-fine 0 (texts is) (texts-points false is (g .each)))
+    rw (le-ltb 8192 (length is) (g .few), le-ltb 131070 (length (texts is)) (omega (arith, texts-length is, g .text)), le-ltb 131070 (added is) (g .text), le-ltb 65535 (kept is + dropped is) (g .original), points-fine (texts is) 0 (texts-points false is (g .each)))
     (shapes-fine false 0 is (g .each))
 
 -- law 2: an accepted file, rewritten from what was read, has the same bytes
-pub rewrites : (p : List ℕ) {is : List Item} → readFile p ≡ Accepted is → (fileOf (recordsOf is) (texts is) ≡ is) × (writable is (texts is) ≡ fine) × (written is ≡ p)
+pub rewrites : (p : List ℕ) {is : List Item} → readFile p ≡ Accepted is → (fileOf (recordsOf is) (texts is) ≡ is) × (writable is (texts is) ≡ Fine) × (written is ≡ p)
 rewrites p {is} e = let g = accepted-good p e in (same-items is g, good-writable is g, sym (canonical p e))

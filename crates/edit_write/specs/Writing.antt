@@ -4,8 +4,10 @@ use Prim.Native.Nat.{ℕ}
 use mathlib.Core.List.{List}
 use lib.ListN.{length}
 use Rattle.refusal.specs.declared.Counted.{Counted}
-use Rattle.diff.specs.Checks.{Verdict, andThen, fits}
-use Rattle.replay.specs.Answers.{counted, leaves}
+use Rattle.verdict.specs.declared.Verdict.{Verdict}
+use Rattle.verdict.specs.Verdicts.{andThen, leaves}
+use Rattle.diff.specs.Checks.{fits}
+use Rattle.replay.specs.Answers.{counted}
 use Rattle.edit_format.specs.Items.{Item}
 use Rattle.edit_format.specs.Written.{written}
 use Rattle.writable.specs.Writable.{writable}

@@ -31,7 +31,6 @@ use Rattle.to_diff.specs.declared.Diffed.{Diffed}
 use Rattle.to_diff.specs.Answers.{Diffs}
 use Rattle.to_diff.proofs.Laws.{only-answer as only-diff}
 use Rattle.replay.specs.Answers.{Diff, Replayed}
-use Rattle.diff.specs.Checks.{Verdict as Checked}
 use Rattle.replay.proofs.Covering.{only-answer as only-replayed}
 use Rattle.edit_format.specs.Items.{Item}
 use Rattle.edit_format.specs.Reading.{Found}
@@ -92,7 +91,7 @@ pub only-to-diff : (lent : Lent) (os : List Operation) (d d₁ d₂ : List ℤ) 
 only-to-diff lent os d d₁ d₂ e e₁ e₂ = only-told (λ (x : Diffed). (d₁ ≡ d₂) × (e₁ ≡ e₂)) (λ x y p q. only-diff p q)
 
 -- plain and covering replay
-pub only-from-diff : (check : Diff → Checked) (f : Diff) (d d₁ d₂ : List ℕ) {r s : Answer}
+pub only-from-diff : (check : Diff → Verdict) (f : Diff) (d d₁ d₂ : List ℕ) {r s : Answer}
     → ToldBy tellCount (λ (x : Counted). Replayed check f d x d₁) r → ToldBy tellCount (λ (x : Counted). Replayed check f d x d₂) s
     → (r ≡ s) × (d₁ ≡ d₂)
 only-from-diff check f d d₁ d₂ = only-told (λ (x : Counted). d₁ ≡ d₂) (λ x y p q. only-replayed check f d p q)

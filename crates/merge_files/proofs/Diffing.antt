@@ -125,7 +125,7 @@ module _ (original text spans keys ops : List ℕ) (K : Diffable original text s
       module _ (out out′ : List ℕ) where
         short : {r : Counted} → length out < length (written is) → Wrote (fileOf (take (n * 3) d′) (take m e′)) (take m e′) out out′ r
             → (r ≡ C.Refused R.Room) × (out′ ≡ out)
-        unfolding roomed fits
+        unfolding roomed fits andThen
         short l w =
             let t = lt-ltb (length out) (length (written is)) l in
             let v = written-of lent os h in

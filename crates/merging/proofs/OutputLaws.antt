@@ -6,8 +6,9 @@ use mathlib.Core.List.{List, [], _∷_, _++_, append-assoc}
 use native.Mathlib.Omega.{arith}
 use lib.ListN.{length, take, drop, take-append-drop, drop-of-length-le}
 use lib.Seq.{drop-drop, take-add}
+use Rattle.verdict.specs.declared.Verdict.the-variants.{Accepted}
 use Rattle.diff.specs.Replay.{Edit, retain, delete, insert, replayed, mentioned, left, added}
-use Rattle.diff.specs.Checks.{fine, numbers, covers}
+use Rattle.diff.specs.Checks.{numbers, covers}
 use Rattle.diff.proofs.Laws.{enough-numbers}
 use Rattle.merging.specs.declared.Op.{Op}
 use Rattle.merging.specs.declared.Op.the-variants.{Delete, Insert, Retain}
@@ -96,15 +97,15 @@ diff-mentioned lent (Delete o l ∷ ls) at n t = omega (arith, diff-mentioned le
 diff-mentioned lent (Insert o f k ∷ ls) at n t = diff-mentioned lent ls at n (t .2)
 diff-mentioned lent (Retain o l ∷ ls) at n t = omega (arith, joined-mentioned l (toDiff lent ls), diff-mentioned lent ls (o + l) n (t .2))
 
-covers-fine : (len : ℕ) (es : List Edit) → mentioned es ≡ len → covers len es ≡ fine
+covers-accepted : (len : ℕ) (es : List Edit) → mentioned es ≡ len → covers len es ≡ Accepted
 unfolding covers left
-covers-fine len es h = let z : len - mentioned es ≡ 0 = omega arith in rw z
+covers-accepted len es h = let z : len - mentioned es ≡ 0 = omega arith in rw z
 
 -- "Text, history and replay agree over the defined text": the diff replays to the text, plain and covering, and nothing is left
 pub record Replays (lent : Lent) (ls : List Op) : Type 0 where
   pub text : replayed (lent .original) (toDiff lent ls) ≡ textOf lent ls
-  pub asks : numbers 0 (length (lent .original)) (toDiff lent ls) ≡ fine
-  pub covers-all : covers (length (lent .original)) (toDiff lent ls) ≡ fine
+  pub asks : numbers 0 (length (lent .original)) (toDiff lent ls) ≡ Accepted
+  pub covers-all : covers (length (lent .original)) (toDiff lent ls) ≡ Accepted
   pub nothing-left : left (length (lent .original)) (toDiff lent ls) ≡ 0
 
 pub replays : (lent : Lent) (ls : List Op) → Tiled ls 0 (length (lent .original)) → Replays lent ls
@@ -114,7 +115,7 @@ replays lent ls t =
     record {
       text = diff-replayed lent ls 0 (length (lent .original)) t;
       asks = enough-numbers 0 (length (lent .original)) (toDiff lent ls) (omega arith);
-      covers-all = covers-fine (length (lent .original)) (toDiff lent ls) m;
+      covers-all = covers-accepted (length (lent .original)) (toDiff lent ls) m;
       nothing-left = omega arith;
     }
 

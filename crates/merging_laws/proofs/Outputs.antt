@@ -8,8 +8,9 @@ use lib.ListN.{length}
 use Rattle.records.specs.declared.Operation.{Operation}
 use Rattle.records.specs.declared.Cursor.{Cursor}
 use Rattle.records.specs.Tokens.{tokensFrom}
+use Rattle.verdict.specs.declared.Verdict.the-variants.{Accepted}
 use Rattle.diff.specs.Replay.{replayed, left, added}
-use Rattle.diff.specs.Checks.{fine, numbers, covers}
+use Rattle.diff.specs.Checks.{numbers, covers}
 use Rattle.sizes.specs.declared.Limits.{Limits}
 use Rattle.sizes.specs.Texts.{listText}
 use Rattle.shapes.proofs.Accepted.{spelled-length}
@@ -35,8 +36,8 @@ pub record Agrees (lent : Lent) (os : List Operation) : Type 0 where
   pub unchanged-added : spelledBy ofText (historyOf lent (outsFrom 0 os)) ≡ listText (lent .original) (lent .inserted) (lent .spans) (lent .keys) os
   pub unchanged-removed : spelledBy ofOriginal (historyOf lent (outsFrom 0 os)) ≡ lent .original
   pub replay : replayed (lent .original) (toDiff lent (opsFrom 0 os)) ≡ listText (lent .original) (lent .inserted) (lent .spans) (lent .keys) os
-  pub asks : numbers 0 (length (lent .original)) (toDiff lent (opsFrom 0 os)) ≡ fine
-  pub covers-all : covers (length (lent .original)) (toDiff lent (opsFrom 0 os)) ≡ fine
+  pub asks : numbers 0 (length (lent .original)) (toDiff lent (opsFrom 0 os)) ≡ Accepted
+  pub covers-all : covers (length (lent .original)) (toDiff lent (opsFrom 0 os)) ≡ Accepted
   pub nothing-left : left (length (lent .original)) (toDiff lent (opsFrom 0 os)) ≡ 0
 
 pub agrees : (lent : Lent) (l : Limits) (os : List Operation) (cs : List Cursor)

@@ -11,7 +11,10 @@ use Rattle.refusal.specs.declared.Counted.{Counted}
 use Rattle.refusal.specs.declared.Counted.the-variants.{Count}
 use Rattle.room.specs.Placed.{answered}
 use Rattle.records.specs.declared.Operation.{Operation}
-use Rattle.diff.specs.Checks.{Verdict, fine, refused, fits}
+use Rattle.verdict.specs.declared.Verdict.{Verdict}
+use Rattle.verdict.specs.declared.Verdict.the-variants.{Accepted as Fine, Refused}
+use Rattle.verdict.specs.Verdicts.{andThen}
+use Rattle.diff.specs.Checks.{fits}
 use Rattle.replay.specs.Answers.{counted}
 use Rattle.edit_format.specs.Items.{Item, texts, Good}
 use Rattle.edit_format.specs.Written.{written}
@@ -29,9 +32,9 @@ use Rattle.outputs.proofs.GoodItems.{diff-good}
 use Rattle.outputs.proofs.Replaying.{front, Written}
 
 -- an answer that counts is of an accepted call
-count-of : (v : Verdict) (n k : ℕ) → Count k ≡ counted v n → (v ≡ fine) × (k ≡ n)
-count-of fine n k h = (refl, cc)
-count-of (refused r) n k h = let z : _≡_ {A = ℕ} 0 1 = cc in absurd (omega arith)
+count-of : (v : Verdict) (n k : ℕ) → Count k ≡ counted v n → (v ≡ Fine) × (k ≡ n)
+count-of Fine n k h = (refl, cc)
+count-of (Refused r) n k h = let z : _≡_ {A = ℕ} 0 1 = cc in absurd (omega arith)
 
 module _ (lent : Lent) (os : List Operation) {n m : ℕ} {d′ : List ℤ} {e′ : List ℕ} (w : Written lent os n m d′ e′) where
   good : Good (diffOf lent os)
@@ -42,14 +45,14 @@ module _ (lent : Lent) (os : List Operation) {n m : ℕ} {d′ : List ℤ} {e′
   file-items = rw (w .items, w .text) (same-items (diffOf lent os) good)
 
   -- the writer accepts them
-  pub file-writable : writable (fileOf (take (n * 3) d′) (take m e′)) (take m e′) ≡ fine
+  pub file-writable : writable (fileOf (take (n * 3) d′) (take m e′)) (take m e′) ≡ Fine
   file-writable = rw (file-items, w .text) (good-writable (diffOf lent os) good)
 
   -- from rooms to rooms: `write` over what was written leaves the diff's edit file in its room
   pub files : {out out′ : List ℕ} {r : Counted} → Wrote (fileOf (take (n * 3) d′) (take m e′)) (take m e′) out out′ r
       → length (written (diffOf lent os)) ≤ length out
       → (r ≡ Count (length (written (diffOf lent os)))) × (out′ ≡ answered (written (diffOf lent os)) out)
-  unfolding roomed fits
+  unfolding roomed fits andThen
   files {out} {out′} {r} h l =
       let t = le-ltb (length out) (length (written (diffOf lent os))) l in
       let v = rw file-items at file-writable in

@@ -23,6 +23,7 @@ use Rattle.verdict.proofs.Chains.{first-passed, rest-passed}
 use Rattle.shapes.proofs.Accepted.{spelled-length}
 use Rattle.checks.proofs.Accepted.{accepted-list}
 use Rattle.edit_format.specs.Items.{kept, dropped, allPoints, itemsGood, Good}
+use Rattle.edit_write.proofs.Goodness.{all-points}
 use Rattle.merging.specs.declared.Op.{Op}
 use Rattle.merging.specs.declared.Op.the-variants.{Delete, Insert, Retain}
 use Rattle.merging.specs.Lent.{Lent}
@@ -35,7 +36,7 @@ use Rattle.merging_laws.proofs.Outputs.{diff-fits}
 use Rattle.to_diff.specs.Items.{itemOf, itemsOf, diffOf}
 use Rattle.to_diff.specs.Answers.{verdictOn}
 use Rattle.to_diff.proofs.Joining.{length-items, added-items}
-use Rattle.outputs.proofs.Points.{all-points, points-spelled}
+use Rattle.outputs.proofs.Points.{points-spelled}
 
 -- an insert's text is not empty
 some-spelled : (text : List ℕ) (ts : List Token) → AllIn (length text) ts → 0 < length ts → 0 < length (spelled text ts)

@@ -1,27 +1,16 @@
--- Shown: the code points of a text that the checks of lists accept are those that edit files hold, and so are those of its parts.
+-- Shown: the parts of a text of code points, and what tokens spell over it, are of code points.
 -- How: by induction on the text. Assumes nothing.
-use Prim.Native.Nat.{ℕ, zero, suc, _+_}
+use Prim.Native.Nat.{ℕ, zero, suc}
 use mathlib.Core.Path.{_≡_, refl}
 use mathlib.Core.Bool.{true}
 use mathlib.Core.List.{List, [], _∷_}
 use lib.ListN.{take, drop}
 use Rattle.room.proofs.Bools.{and-left, and-right}
-use Rattle.refusal.specs.declared.Refusal.the-variants.{CodePoint}
 use Rattle.records.specs.declared.Token.{Token}
 use Rattle.records.specs.Tokens.{spell, spelled}
-use Rattle.verdict.specs.declared.Verdict.the-variants.{Accepted}
 use Rattle.numbers.specs.Points.{isPoint}
-use Rattle.verdict.specs.Points.{pointsFrom}
-use Rattle.verdict.proofs.Chains.{went}
 use Rattle.edit_format.specs.Items.{allPoints}
 use Rattle.edit_write.proofs.Rewriting.{points-append}
-
-pub all-points : (t : List ℕ) (i : ℕ) → pointsFrom t i ≡ Accepted → allPoints t ≡ true
-unfolding pointsFrom allPoints
-all-points [] i h = refl
-all-points (c ∷ cs) i h =
-    let w = went (isPoint c) (pointsFrom cs (i + 1)) (CodePoint i) h in
-    rw (w .0, all-points cs (i + 1) (w .1))
 
 -- the parts of a text
 points-range : (s n : ℕ) (t : List ℕ) → allPoints t ≡ true → allPoints (take n (drop s t)) ≡ true

@@ -16,11 +16,11 @@ use Rattle.diff.specs.declared.diff.Item.{Item as LentItem}
 use Rattle.diff.specs.declared.diff.Item.the-variants as I
 use Rattle.diff.specs.Items as D
 use Rattle.diff.specs.Replay.{Edit, retain, delete, insert, editOf, editsOf, replayed}
-use Rattle.diff.specs.Checks.{fine, fits}
+use Rattle.diff.specs.Checks.{fits}
 use Rattle.replay.specs.Answers.{diff, edits, textOf, covering, roomed, Replayed}
 use Rattle.verdict.specs.declared.Verdict.{Verdict}
 use Rattle.verdict.specs.declared.Verdict.the-variants.{Accepted, Refused}
-use Rattle.verdict.specs.Verdicts.{andThen as thenCheck}
+use Rattle.verdict.specs.Verdicts.{andThen}
 use Rattle.sizes.specs.Sizes.{otherwise}
 use Rattle.sizes.specs.Texts.{listText}
 use Rattle.edit_format.specs.Items.{Item, Keep, Drop, Add, texts, Good}
@@ -79,9 +79,9 @@ decoded o es g =
     back-edits (texts is) (D.itemsOf (recordsOf is) (length (texts is))) ∙ (ap backsOf (same-items is g) ∙ back-items es)
 
 -- what the counts of an accepted call say
-counts-of : (v w : Verdict) (is : List Item) (n m : ℕ) → Counts n m ≡ answerOf (thenCheck v w) is → (v ≡ Accepted) ×
-    ((thenCheck v w ≡ Accepted) × ((n ≡ length is) × (m ≡ length (texts is))))
-unfolding thenCheck
+counts-of : (v w : Verdict) (is : List Item) (n m : ℕ) → Counts n m ≡ answerOf (andThen v w) is → (v ≡ Accepted) ×
+    ((andThen v w ≡ Accepted) × ((n ≡ length is) × (m ≡ length (texts is))))
+unfolding andThen
 counts-of Accepted Accepted is n m h = (refl, (refl, (cc, cc)))
 counts-of Accepted (Refused r) is n m h = let z : _≡_ {A = ℕ} 0 1 = cc in absurd (omega arith)
 counts-of (Refused r) w is n m h = let z : _≡_ {A = ℕ} 0 1 = cc in absurd (omega arith)
@@ -112,7 +112,7 @@ written-of lent os {d} {d′} {e} {e′} {n} {m} h =
 
 module _ (lent : Lent) (os : List Operation) {n m : ℕ} {d′ : List ℤ} {e′ : List ℕ} (w : Written lent os n m d′ e′) where
   -- the covering replay accepts it
-  pub replay-accepted : covering (diff (lent .original) (take (n * 3) d′) (take m e′)) ≡ fine
+  pub replay-accepted : covering (diff (lent .original) (take (n * 3) d′) (take m e′)) ≡ Accepted
   replay-accepted =
       rw (w .items, w .text)
       (covers-all (diffOf lent os) (diff-good lent os (w .accepted)) (lent .original) (sym (diff-original lent os (w .accepted))) (w .accepted .original))
@@ -130,7 +130,7 @@ module _ (lent : Lent) (os : List Operation) {n m : ℕ} {d′ : List ℤ} {e′
       → length (listText (lent .original) (lent .inserted) (lent .spans) (lent .keys) os) ≤ length room
       → (r ≡ Count (length (listText (lent .original) (lent .inserted) (lent .spans) (lent .keys) os)))
       × (room′ ≡ answered (listText (lent .original) (lent .inserted) (lent .spans) (lent .keys) os) room)
-  unfolding roomed fits
+  unfolding roomed fits andThen
   replays-back {room} {room′} {r} h l =
       let t = le-ltb (length room) (length (listText (lent .original) (lent .inserted) (lent .spans) (lent .keys) os)) l in
       (rw (replay-accepted, replay-text, t) at (h .answer), rw (replay-accepted, replay-text, t) at (h .leaving))

@@ -5,14 +5,17 @@ use Prim.Native.Nat.{ℕ}
 use mathlib.Core.List.{List}
 use lib.ListN.{length}
 use lib.IntN.{ℤ}
-use Rattle.room.specs.Placed.{answered}
 use Rattle.refusal.specs.declared.Counted.{Counted}
-use Rattle.refusal.specs.declared.Counted.the-variants.{Count, Refused}
+use Rattle.refusal.specs.declared.Counted.the-variants.{Count, Refused as NoCount}
+use Rattle.verdict.specs.declared.Verdict.{Verdict}
+use Rattle.verdict.specs.declared.Verdict.the-variants.{Accepted, Refused}
+use Rattle.verdict.specs.Verdicts.{andThen, leaves}
+use Rattle.verdict.specs.Points.{pointsVerdict}
 use Rattle.diff.specs.Items.{itemsOf}
 use Rattle.replay.specs.declared.Judged.{Judged}
 use Rattle.replay.specs.declared.Judged.the-variants.{Fine, Stopped}
 use Rattle.diff.specs.Replay.{Edit, editsOf, replayed, left}
-use Rattle.diff.specs.Checks.{Verdict, fine, refused, andThen, sizes, points, records, numbers, covers, fits}
+use Rattle.diff.specs.Checks.{sizes, records, numbers, covers, fits}
 
 -- "diff items .. with .. code points of text": a diff as lent: the original, the numbers of the items, their text
 pub record Diff : Type 0 where
@@ -36,9 +39,8 @@ textOf d = replayed (d .original) (edits d)
 unfoldable pub plain : Diff → Verdict
 plain d =
     andThen (sizes (d .original) (itemsOf (d .items) (length (d .text))) (d .text))
-    (andThen (points 0 (d .original))
-    (andThen (points 0 (d .text))
-    (andThen (records 0 (itemsOf (d .items) (length (d .text)))) (numbers 0 (length (d .original)) (edits d)))))
+    (andThen (pointsVerdict (d .original) (d .text))
+    (andThen (records 0 (itemsOf (d .items) (length (d .text)))) (numbers 0 (length (d .original)) (edits d))))
 
 -- "9 (covering replay only)"
 unfoldable pub covering : Diff → Verdict
@@ -46,7 +48,7 @@ covering d = andThen (plain d) (covers (length (d .original)) (edits d))
 
 -- a diff whose checks are done
 unfoldable pub always : Diff → Verdict
-always d = fine
+always d = Accepted
 
 -- "All others: the exact length of the answer": the room is checked after all else
 unfoldable pub roomed : (Diff → Verdict) → Diff → List ℕ → Verdict
@@ -54,13 +56,8 @@ roomed check d room = andThen (check d) (fits (length (textOf d)) room)
 
 -- "its result, numbers of a refusal included": the length, or the refusal
 abbrev pub counted : Verdict → ℕ → Counted
-counted fine n = Count n
-counted (refused r) n = Refused r
-
--- "A refusal writes nothing. On success a room past its answer is unchanged"
-abbrev pub leaves : Verdict → List ℕ → List ℕ → List ℕ
-leaves fine text room = answered text room
-leaves (refused r) text room = room
+counted Accepted n = Count n
+counted (Refused r) n = NoCount r
 
 -- "the exact length of the answer": that of the replayed text alone
 unfoldable pub lengthOf : (Diff → Verdict) → Diff → Counted
@@ -73,8 +70,8 @@ pub record Replayed (check : Diff → Verdict) (d : Diff) (room : List ℕ) (r :
 
 -- what the checks of a plain replay find, for both replays to go on with
 abbrev pub found : Verdict → ℕ → ℕ → Judged
-found fine l n = Fine l n
-found (refused r) l n = Stopped r
+found Accepted l n = Fine l n
+found (Refused r) l n = Stopped r
 
 -- the same, of a lent diff
 unfoldable pub judged : Diff → Judged

@@ -12,11 +12,13 @@ use lib.Dec.{ltb}
 use borrow.Author.Tests.{lt-ltb, le-ltb, lt-leb, le-leb}
 use Rattle.room.specs.Choice.{pick}
 use Rattle.refusal.specs.declared.Refusal.the-variants.{Record, Size, CodePoint}
+use Rattle.verdict.specs.Verdicts.{andThen}
+use Rattle.verdict.specs.Points.{pointsFrom}
 use Rattle.diff.specs.declared.diff.Item.{Item as Lent}
 use Rattle.diff.specs.declared.diff.Item.the-variants.{Retain, Delete, Insert, Neither}
 use Rattle.diff.specs.declared.diff.Bad.the-variants.{At, Nowhere}
 use Rattle.diff.specs.Items.{itemAt, itemsOf, itemsFrom}
-use Rattle.diff.specs.Checks.{andThen, refuseIf, points}
+use Rattle.diff.specs.Checks.{refuseIf}
 use Rattle.diff.specs.Passes.{pointed}
 use Rattle.diff.proofs.Decoding.{items-more, items-none, items-length, insert-within}
 use Rattle.edit_format.specs.Items.{Item, kept, dropped, added}
@@ -215,41 +217,44 @@ file-length xs text = file-length′ text (itemsOf xs (length text)) ∙ items-l
 
 module _ (xs : List ℤ) (text : List ℕ) where
   pub many-items : 8192 < length xs / 3 → Refused Size ≡ checkedBy (writable (fileOf xs text) text) (fileOf xs text)
-  unfolding writable sizes
+  unfolding writable sizes andThen
   many-items h = rw (lt-ltb 8192 (length (fileOf xs text)) (omega (arith, file-length xs text)))
 
   pub long-text : length xs / 3 ≤ 8192 → 131070 < length text → Refused Size ≡ checkedBy (writable (fileOf xs text) text) (fileOf xs text)
-  unfolding writable sizes
+  unfolding writable sizes andThen
   long-text h g = rw (le-ltb 8192 (length (fileOf xs text)) (omega (arith, file-length xs text)), lt-ltb 131070 (length text) g)
 
-  sized : length xs / 3 ≤ 8192 → length text ≤ 131070 → writable (fileOf xs text) text ≡ andThen (andThen (refuseIf (ltb 131070 (added (fileOf xs text))) Size) (refuseIf (ltb 65535 (kept (fileOf xs text) + dropped (fileOf xs text))) Size)) (andThen (points 0 text) (shapes false 0 (fileOf xs text)))
-  unfolding writable sizes
+  sized : length xs / 3 ≤ 8192 → length text ≤ 131070 → writable (fileOf xs text) text ≡ andThen (andThen (refuseIf (ltb 131070 (added (fileOf xs text))) Size) (refuseIf (ltb 65535 (kept (fileOf xs text) + dropped (fileOf xs text))) Size)) (andThen (pointsFrom text 0) (shapes false 0 (fileOf xs text)))
+  unfolding writable sizes andThen
   sized h g = rw (le-ltb 8192 (length (fileOf xs text)) (omega (arith, file-length xs text)), le-ltb 131070 (length text) g)
 
   pub too-big : length xs / 3 ≤ 8192 → length text ≤ 131070 → TooBig ≡ tallyOf (fileOf xs text) → Refused Size ≡ checkedBy (writable (fileOf xs text) text) (fileOf xs text)
-  unfolding tallyOf
+  unfolding tallyOf andThen
   too-big h g e = rw (sized h g) (go (ltb 131070 (added (fileOf xs text))) (ltb 65535 (kept (fileOf xs text) + dropped (fileOf xs text))) e)
     where
-      go : (a b : Bool) → TooBig ≡ pick a TooBig (pick b TooBig (Fits (sumsOf (fileOf xs text)))) → Refused Size ≡ checkedBy (andThen (andThen (refuseIf a Size) (refuseIf b Size)) (andThen (points 0 text) (shapes false 0 (fileOf xs text)))) (fileOf xs text)
+      go : (a b : Bool) → TooBig ≡ pick a TooBig (pick b TooBig (Fits (sumsOf (fileOf xs text)))) → Refused Size ≡ checkedBy (andThen (andThen (refuseIf a Size) (refuseIf b Size)) (andThen (pointsFrom text 0) (shapes false 0 (fileOf xs text)))) (fileOf xs text)
       go true b e = refl
       go false true e = refl
       go false false e = let z : _≡_ {A = ℕ} 0 1 = cc in absurd (omega arith)
 
   module _ (h : length xs / 3 ≤ 8192) (g : length text ≤ 131070) {s : Sums} (e : Fits s ≡ tallyOf (fileOf xs text)) where
-    fitted : (writable (fileOf xs text) text ≡ andThen (points 0 text) (shapes false 0 (fileOf xs text))) × (s ≡ sumsOf (fileOf xs text))
-    unfolding tallyOf
+    fitted : (writable (fileOf xs text) text ≡ andThen (pointsFrom text 0) (shapes false 0 (fileOf xs text))) × (s ≡ sumsOf (fileOf xs text))
+    unfolding tallyOf andThen
     fitted = rw (sized h g) (go (ltb 131070 (added (fileOf xs text))) (ltb 65535 (kept (fileOf xs text) + dropped (fileOf xs text))) e)
       where
-        go : (a b : Bool) → Fits s ≡ pick a TooBig (pick b TooBig (Fits (sumsOf (fileOf xs text)))) → (andThen (andThen (refuseIf a Size) (refuseIf b Size)) (andThen (points 0 text) (shapes false 0 (fileOf xs text))) ≡ andThen (points 0 text) (shapes false 0 (fileOf xs text))) × (s ≡ sumsOf (fileOf xs text))
+        go : (a b : Bool) → Fits s ≡ pick a TooBig (pick b TooBig (Fits (sumsOf (fileOf xs text)))) → (andThen (andThen (refuseIf a Size) (refuseIf b Size)) (andThen (pointsFrom text 0) (shapes false 0 (fileOf xs text))) ≡ andThen (pointsFrom text 0) (shapes false 0 (fileOf xs text))) × (s ≡ sumsOf (fileOf xs text))
         go true b e = let z : _≡_ {A = ℕ} 0 1 = cc in absurd (omega arith)
         go false true e = let z : _≡_ {A = ℕ} 0 1 = cc in absurd (omega arith)
         go false false e = (refl, cc)
 
-    pub bad-point : {i : ℕ} → pointed (At i) ≡ points 0 text → Refused (CodePoint i) ≡ checkedBy (writable (fileOf xs text) text) (fileOf xs text)
+    pub bad-point : {i : ℕ} → pointed (At i) ≡ pointsFrom text 0 → Refused (CodePoint i) ≡ checkedBy (writable (fileOf xs text) text) (fileOf xs text)
+    unfolding andThen
     bad-point f = rw (fitted .0, ← f)
 
-    pub bad-shape : {i : ℕ} → pointed Nowhere ≡ points 0 text → shaped (At i) ≡ shapes false 0 (fileOf xs text) → Refused (Record i) ≡ checkedBy (writable (fileOf xs text) text) (fileOf xs text)
+    pub bad-shape : {i : ℕ} → pointed Nowhere ≡ pointsFrom text 0 → shaped (At i) ≡ shapes false 0 (fileOf xs text) → Refused (Record i) ≡ checkedBy (writable (fileOf xs text) text) (fileOf xs text)
+    unfolding andThen
     bad-shape f d = rw (fitted .0, ← f, ← d)
 
-    pub all-fine : {n : ℕ} → pointed Nowhere ≡ points 0 text → shaped Nowhere ≡ shapes false 0 (fileOf xs text) → n ≡ cap (length (itemLines (fileOf xs text))) → Fine s n ≡ checkedBy (writable (fileOf xs text) text) (fileOf xs text)
+    pub all-fine : {n : ℕ} → pointed Nowhere ≡ pointsFrom text 0 → shaped Nowhere ≡ shapes false 0 (fileOf xs text) → n ≡ cap (length (itemLines (fileOf xs text))) → Fine s n ≡ checkedBy (writable (fileOf xs text) text) (fileOf xs text)
+    unfolding andThen
     all-fine f d w = rw (fitted .0, ← f, ← d, fitted .1, w)

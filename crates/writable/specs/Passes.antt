@@ -7,9 +7,10 @@ use lib.ListN.{length}
 use lib.Dec.{ltb}
 use Rattle.room.specs.Choice.{pick}
 use Rattle.refusal.specs.declared.Refusal.the-variants.{Record}
+use Rattle.verdict.specs.declared.Verdict.{Verdict}
+use Rattle.verdict.specs.declared.Verdict.the-variants.{Accepted, Refused}
 use Rattle.diff.specs.declared.diff.Bad.{Bad}
 use Rattle.diff.specs.declared.diff.Bad.the-variants.{At, Nowhere}
-use Rattle.diff.specs.Checks.{Verdict, fine, refused}
 use Rattle.edit_format.specs.Items.{Item, kept, dropped, added}
 use Rattle.edit_format.specs.Written.{itemLines}
 use Rattle.written_lines.specs.Lengths.{cap}
@@ -18,7 +19,7 @@ use Rattle.writable.specs.declared.Sums.{Sums}
 use Rattle.writable.specs.declared.Tally.{Tally}
 use Rattle.writable.specs.declared.Tally.the-variants.{TooBig, Fits}
 use Rattle.writable.specs.declared.Checked.{Checked}
-use Rattle.writable.specs.declared.Checked.the-variants.{Fine, Refused}
+use Rattle.writable.specs.declared.Checked.the-variants.{Fine, Refused as No}
 
 -- "Keep plus drop is original, keep plus added is result": the sums of some items
 abbrev pub sumsOf : List Item → Sums
@@ -30,13 +31,13 @@ tallyOf is = pick (ltb 131070 (added is)) TooBig (pick (ltb 65535 (kept is + dro
 
 -- 1, by the place of the first bad item
 abbrev pub shaped : Bad → Verdict
-shaped (At i) = refused (Record i)
-shaped Nowhere = fine
+shaped (At i) = Refused (Record i)
+shaped Nowhere = Accepted
 
 -- the sums and the length of the lines, where nothing is refused
 abbrev pub checkedBy : Verdict → List Item → Checked
-checkedBy fine is = Fine (sumsOf is) (cap (length (itemLines is)))
-checkedBy (refused r) is = Refused r
+checkedBy Accepted is = Fine (sumsOf is) (cap (length (itemLines is)))
+checkedBy (Refused r) is = No r
 
 -- neither sizes nor shapes refuse items with these sums and this length of their lines
 pub record Sound (is : List Item) (s : Sums) (n : ℕ) : Type 0 where

@@ -7,10 +7,14 @@ use lib.IntN.{ℤ}
 use lib.Dec.{ltb, leb}
 use Rattle.room.specs.Choice.{pick}
 use Rattle.refusal.specs.declared.Refusal.the-variants.{Record, Size}
+use Rattle.verdict.specs.declared.Verdict.{Verdict}
+use Rattle.verdict.specs.declared.Verdict.the-variants.{Accepted, Refused}
+use Rattle.verdict.specs.Verdicts.{andThen}
+use Rattle.verdict.specs.Points.{pointsFrom}
 use Rattle.diff.specs.declared.diff.Item.{Item as Lent}
 use Rattle.diff.specs.declared.diff.Item.the-variants.{Retain, Delete, Insert, Neither}
 use Rattle.diff.specs.Items.{itemsOf}
-use Rattle.diff.specs.Checks.{Verdict, fine, refused, andThen, refuseIf, originalMost, itemsMost, textMost, points}
+use Rattle.diff.specs.Checks.{refuseIf, originalMost, itemsMost, textMost}
 use Rattle.edit_format.specs.Items.{Item, Keep, Drop, Add, kept, dropped, added}
 
 -- "`keep=`, `drop=` or `add=`": an item of the file for each that is lent; what is neither number nor text within the lent one adds nothing
@@ -41,11 +45,11 @@ sizes is text =
 -- 1: "it refuses 1 at a zero, an empty text or a second neighbouring keep"; "unknown kind [..]; token or range outside what was lent" is an
 -- empty text here. The "index of first such [..] item"; k: the item before was a keep
 unfoldable pub shapes : Bool → ℕ → List Item → Verdict
-shapes k i [] = fine
-shapes k i (Keep n ∷ is) = pick (leb 1 n && not k) (shapes true (i + 1) is) (refused (Record i))
-shapes k i (Drop n ∷ is) = pick (leb 1 n) (shapes false (i + 1) is) (refused (Record i))
-shapes k i (Add cs ∷ is) = pick (leb 1 (length cs)) (shapes false (i + 1) is) (refused (Record i))
+shapes k i [] = Accepted
+shapes k i (Keep n ∷ is) = pick (leb 1 n && not k) (shapes true (i + 1) is) (Refused (Record i))
+shapes k i (Drop n ∷ is) = pick (leb 1 n) (shapes false (i + 1) is) (Refused (Record i))
+shapes k i (Add cs ∷ is) = pick (leb 1 (length cs)) (shapes false (i + 1) is) (Refused (Record i))
 
 -- "order 3, 4, 1, 7"
 unfoldable pub writable : List Item → List ℕ → Verdict
-writable is text = andThen (sizes is text) (andThen (points 0 text) (shapes false 0 is))
+writable is text = andThen (sizes is text) (andThen (pointsFrom text 0) (shapes false 0 is))

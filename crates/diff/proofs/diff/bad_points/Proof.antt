@@ -1,5 +1,6 @@
 -- `bad_points` looks at the original and then at the text. Its two answers are those of `bad_point`, in the order of the checks.
 -- Assumes nothing.
+use Rattle.verdict.specs.Verdicts.{andThen}
 use borrow.Author.Needs.{needs}
 use Rattle.diff.proofs.diff.bad_points.Statement.{statement}
 use Rattle.diff.proofs.diff.bad_points.Tie as tie
@@ -17,9 +18,11 @@ bad-point-requires-2 : tie.Need-bad-point-requires-2
 bad-point-requires-2 c κs = search needs
 
 returns : tie.Need-returns
+unfolding andThen
 returns c = rw (← c .before .before .before .bad-point .ensures, c .before .index .given .1)
 
 returns-2 : tie.Need-returns-2
+unfolding andThen
 returns-2 c = rw (← c .before .before .before .bad-point .ensures, c .before .enum-told .given .1) (c .bad-point2 .ensures)
 
 pub bad-points-spec : {M : Type 1} → statement M
