@@ -32,7 +32,7 @@ PointsIn h is js p start d d′ (GoodSpot e j) =
     (cs : List ℕ) × (e ≡ start + length cs) × (d′ ≡ placed d start cs) × (found (opened h (is ++ Add cs ∷ [])) (drop j p) ≡ Accepted js)
 PointsIn h is js p start d d′ BadSpot = ⊥
 
--- a place in the bytes and one in the text room lie within them
+-- the text goes on within its room, no earlier than it began
 abbrev pub SpotIn : ℕ → ℕ → Spot → Type 0
 SpotIn start n (GoodSpot e j) = (start ≤ e) × (e ≤ n)
 SpotIn start n BadSpot = Unit {0}
