@@ -24,63 +24,63 @@ use Rattle.answer.specs.declared.Answer.{Answer}
 
 -- "Where an answer is an enum, a definition gives this paper's number and values for each of its cases, and the promises use that definition."
 -- Accepted: no refusal has the number 0
-abbrev pub tellCounts : ℕ → ℕ → ℕ → Answer
-tellCounts a b c = record { refusal = 0; first = a; second = b; third = c }
+abbrev pub tell_counts : ℕ → ℕ → ℕ → Answer
+tell_counts a b c = record { refusal = 0; first = a; second = b; third = c }
 
 -- "Refusal numbers": the columns "No." and "Carries", 0 after the last value
-abbrev pub tellRefusal : Refusal → Answer
-tellRefusal why =
+abbrev pub tell_refusal : Refusal → Answer
+tell_refusal why =
     record { refusal = number why; first = (padded (values why)).first; second = (padded (values why)).second; third = (padded (values why)).third }
 
 -- "the exact length of the answer": in code points or bytes
-abbrev pub tellCount : Counted → Answer
-tellCount (C.Count n) = tellCounts n 0 0
-tellCount (C.Refused why) = tellRefusal why
+abbrev pub tell_count : Counted → Answer
+tell_count (C.Count n) = tell_counts n 0 0
+tell_count (C.Refused why) = tell_refusal why
 
 -- "the longest beginning of new that occurs in old, at its first occurrence; 0..0 if none"
-abbrev pub tellRange : Found → Answer
-tellRange (F.Range s e) = tellCounts s e 0
-tellRange (F.Refused why) = tellRefusal why
+abbrev pub tell_range : Found → Answer
+tell_range (F.Range s e) = tell_counts s e 0
+tell_range (F.Refused why) = tell_refusal why
 
 -- "Elongating: as many operations, and as many tokens": how many there are of each
-abbrev pub tellElongated : Elongated → Answer
-tellElongated (E.Counts n) = tellCounts n.operations n.tokens 0
-tellElongated (E.Refused why) = tellRefusal why
+abbrev pub tell_elongated : Elongated → Answer
+tell_elongated (E.Counts n) = tell_counts n.operations n.tokens 0
+tell_elongated (E.Refused why) = tell_refusal why
 
 -- "Rooms for a merge: operations, [..]; cursors": how many there are of each
-abbrev pub tellMerged : Merged → Answer
-tellMerged (M.Counts n) = tellCounts n.operations n.cursors 0
-tellMerged (M.Refused why) = tellRefusal why
+abbrev pub tell_merged : Merged → Answer
+tell_merged (M.Counts n) = tell_counts n.operations n.cursors 0
+tell_merged (M.Refused why) = tell_refusal why
 
 -- "A list's text", and its cursors: how many code points, how many cursors
-abbrev pub tellApplied : Applied → Answer
-tellApplied (A.Counts text cursors) = tellCounts text cursors 0
-tellApplied (A.Refused why) = tellRefusal why
+abbrev pub tell_applied : Applied → Answer
+tell_applied (A.Counts text cursors) = tell_counts text cursors 0
+tell_applied (A.Refused why) = tell_refusal why
 
 -- "History has one span for each operation": spans, and their text
-abbrev pub tellHistory : WithHistory → Answer
-tellHistory (H.Counts spans text) = tellCounts spans text 0
-tellHistory (H.Refused why) = tellRefusal why
+abbrev pub tell_history : WithHistory → Answer
+tell_history (H.Counts spans text) = tell_counts spans text 0
+tell_history (H.Refused why) = tell_refusal why
 
 -- "apply, apply_with_history, apply_with_all": of the last. The cursors are as many as were lent, so their count is left out
-abbrev pub tellAll : WithAll → Answer
-tellAll (B.Counts text cursors spans history) = tellCounts text spans history
-tellAll (B.Refused why) = tellRefusal why
+abbrev pub tell_all : WithAll → Answer
+tell_all (B.Counts text cursors spans history) = tell_counts text spans history
+tell_all (B.Refused why) = tell_refusal why
 
 -- "to_diff": items, and their text
-abbrev pub tellDiff : Diffed → Answer
-tellDiff (D.Counts items text) = tellCounts items text 0
-tellDiff (D.Refused why) = tellRefusal why
+abbrev pub tell_diff : Diffed → Answer
+tell_diff (D.Counts items text) = tell_counts items text 0
+tell_diff (D.Refused why) = tell_refusal why
 
 -- "Edit files": items, and their text
-abbrev pub tellFile : FileRead → Answer
-tellFile (L.Counts items text) = tellCounts items text 0
-tellFile (L.Refused why) = tellRefusal why
+abbrev pub tell_file : FileRead → Answer
+tell_file (L.Counts items text) = tell_counts items text 0
+tell_file (L.Refused why) = tell_refusal why
 
 -- "A file is believed for an original": 1, else 0
-abbrev pub tellBelieved : Bool → Answer
-tellBelieved true = tellCounts 1 0 0
-tellBelieved false = tellCounts 0 0 0
+abbrev pub tell_believed : Bool → Answer
+tell_believed true = tell_counts 1 0 0
+tell_believed false = tell_counts 0 0 0
 
 -- "A public call's statement covers its result, numbers of a refusal included": there is an answer that the call's own statement holds of,
 -- and what is told is that answer, told

@@ -1,7 +1,7 @@
 // Every answer as four numbers, as C is handed it. How each is told is a definition of specs/, and
 // every statement of an export speaks by it.
 ghost use Rattle.std.specs.Prelude.{◌≡◌};
-ghost use Rattle.answer.specs.Tellings.{tellAll, tellApplied, tellBelieved, tellCount, tellCounts, tellDiff, tellElongated, tellFile, tellHistory, tellMerged, tellRange, tellRefusal};
+ghost use Rattle.answer.specs.Tellings.{tell_all, tell_applied, tell_believed, tell_count, tell_counts, tell_diff, tell_elongated, tell_file, tell_history, tell_merged, tell_range, tell_refusal};
 
 use refusal::{Counted, Refusal};
 
@@ -17,7 +17,7 @@ pub struct Answer {
 }
 
 fn tell_counts(first: usize, second: usize, third: usize) -> Answer
-    ensures { result ≡ tellCounts first second third }
+    ensures { result ≡ tell_counts first second third }
 {
     Answer {
         refusal: 0,
@@ -28,7 +28,7 @@ fn tell_counts(first: usize, second: usize, third: usize) -> Answer
 }
 
 fn tell_refusal(why: Refusal) -> Answer
-    ensures { result ≡ tellRefusal why }
+    ensures { result ≡ tell_refusal why }
 {
     let number = refusal::number_of(why);
     let values = refusal::values_of(why);
@@ -41,7 +41,7 @@ fn tell_refusal(why: Refusal) -> Answer
 }
 
 pub fn tell_count(answer: Counted) -> Answer
-    ensures { result ≡ tellCount answer }
+    ensures { result ≡ tell_count answer }
 {
     match answer {
         Counted::Count(n) => tell_counts(n, 0, 0),
@@ -50,7 +50,7 @@ pub fn tell_count(answer: Counted) -> Answer
 }
 
 pub fn tell_range(answer: overlap::Found) -> Answer
-    ensures { result ≡ tellRange answer }
+    ensures { result ≡ tell_range answer }
 {
     match answer {
         overlap::Found::Range { start, end } => tell_counts(start, end, 0),
@@ -59,7 +59,7 @@ pub fn tell_range(answer: overlap::Found) -> Answer
 }
 
 pub fn tell_elongated(answer: elongate::Answer) -> Answer
-    ensures { result ≡ tellElongated answer }
+    ensures { result ≡ tell_elongated answer }
 {
     match answer {
         elongate::Answer::Counts(written) => tell_counts(written.operations, written.tokens, 0),
@@ -68,7 +68,7 @@ pub fn tell_elongated(answer: elongate::Answer) -> Answer
 }
 
 pub fn tell_merged(answer: edited_text::Answer) -> Answer
-    ensures { result ≡ tellMerged answer }
+    ensures { result ≡ tell_merged answer }
 {
     match answer {
         edited_text::Answer::Counts(counts) => tell_counts(counts.operations, counts.cursors, 0),
@@ -77,7 +77,7 @@ pub fn tell_merged(answer: edited_text::Answer) -> Answer
 }
 
 pub fn tell_applied(answer: apply::Applied) -> Answer
-    ensures { result ≡ tellApplied answer }
+    ensures { result ≡ tell_applied answer }
 {
     match answer {
         apply::Applied::Counts { text, cursors } => tell_counts(text, cursors, 0),
@@ -86,7 +86,7 @@ pub fn tell_applied(answer: apply::Applied) -> Answer
 }
 
 pub fn tell_history(answer: apply::WithHistory) -> Answer
-    ensures { result ≡ tellHistory answer }
+    ensures { result ≡ tell_history answer }
 {
     match answer {
         apply::WithHistory::Counts { spans, text } => tell_counts(spans, text, 0),
@@ -95,7 +95,7 @@ pub fn tell_history(answer: apply::WithHistory) -> Answer
 }
 
 pub fn tell_all(answer: apply::WithAll) -> Answer
-    ensures { result ≡ tellAll answer }
+    ensures { result ≡ tell_all answer }
 {
     match answer {
         apply::WithAll::Counts {
@@ -109,7 +109,7 @@ pub fn tell_all(answer: apply::WithAll) -> Answer
 }
 
 pub fn tell_diff(answer: to_diff::Diffed) -> Answer
-    ensures { result ≡ tellDiff answer }
+    ensures { result ≡ tell_diff answer }
 {
     match answer {
         to_diff::Diffed::Counts { items, text } => tell_counts(items, text, 0),
@@ -118,7 +118,7 @@ pub fn tell_diff(answer: to_diff::Diffed) -> Answer
 }
 
 pub fn tell_file(answer: edit_read::FileRead) -> Answer
-    ensures { result ≡ tellFile answer }
+    ensures { result ≡ tell_file answer }
 {
     match answer {
         edit_read::FileRead::Counts { items, text } => tell_counts(items, text, 0),
@@ -127,7 +127,7 @@ pub fn tell_file(answer: edit_read::FileRead) -> Answer
 }
 
 pub fn tell_believed(answer: bool) -> Answer
-    ensures { result ≡ tellBelieved answer }
+    ensures { result ≡ tell_believed answer }
 {
     if answer {
         return tell_counts(1, 0, 0);

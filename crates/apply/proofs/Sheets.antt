@@ -1,24 +1,24 @@
 -- Shown: the text, the cursors and the history of the lists that the sheets' merges give.
 -- How: by computation.
 use mathlib.Core.Path.{refl}
-use Rattle.numbers.specs.Points.{isPoint}
-use Rattle.records.specs.Tokens.{tokensFrom, spelled}
+use Rattle.numbers.specs.Points.{is_point}
+use Rattle.records.specs.Tokens.{tokens_from, spelled}
 use Rattle.cursors.specs.Sorted.{place, sorted}
 use Rattle.verdict.specs.Verdicts.{and_then, sized}
-use Rattle.sizes.specs.Texts.{total, runText, textFrom}
-use Rattle.verdict.specs.Points.{pointsFrom}
-use Rattle.shapes.specs.Shapes.{runGood, recordsFrom}
-use Rattle.shapes.specs.Tiling.{tilingFrom, withinFrom}
-use Rattle.checks.specs.Lists.{listVerdict}
-use Rattle.merging.specs.Operations.{outsFrom}
-use Rattle.merging.specs.Outputs.{historyOf}
+use Rattle.sizes.specs.Texts.{total, run_text, text_from}
+use Rattle.verdict.specs.Points.{points_from}
+use Rattle.shapes.specs.Shapes.{run_good, records_from}
+use Rattle.shapes.specs.Tiling.{tiling_from, within_from}
+use Rattle.checks.specs.Lists.{list_verdict}
+use Rattle.merging.specs.Operations.{outs_from}
+use Rattle.merging.specs.Outputs.{history_of}
 use Rattle.merging.specs.Sheets.{sheets}
-use Rattle.apply.specs.Answers.{verdictOn, textOn, historyOn}
+use Rattle.apply.specs.Answers.{verdict_on, text_on, history_on}
 use Rattle.apply.specs.Sheets.{AllMade}
 
-pub sheets-made : AllMade sheets
-unfolding verdictOn textOn historyOn listVerdict and_then sized pointsFrom isPoint recordsFrom runGood tilingFrom withinFrom total runText textFrom tokensFrom spelled sorted place outsFrom historyOf
-sheets-made = (
+pub sheets_made : AllMade sheets
+unfolding verdict_on text_on history_on list_verdict and_then sized points_from is_point records_from run_good tiling_from within_from total run_text text_from tokens_from spelled sorted place outs_from history_of
+sheets_made = (
   record { accepted = refl; text = refl; cursors = refl; history = refl },
   (
     record { accepted = refl; text = refl; cursors = refl; history = refl },

@@ -2,17 +2,17 @@
 use Rattle.std.specs.Prelude.{ℕ, ◌≡◌, Bool, ◌&&◌, List, [], leb, length}
 use Rattle.records.specs.declared.Operation.{Operation}
 use Rattle.records.specs.declared.Cursor.{Cursor}
-use Rattle.records.specs.Cursors.{flatCursors}
+use Rattle.records.specs.Cursors.{flat_cursors}
 use Rattle.cursors.specs.Sorted.{sorted}
 use Rattle.verdict.specs.declared.Verdict.{Verdict}
 use Rattle.verdict.specs.declared.Verdict.TheVariants.{Accepted, Refused}
 use Rattle.verdict.specs.Verdicts.{and_then, roomed, leaves}
-use Rattle.sizes.specs.Texts.{listText}
+use Rattle.sizes.specs.Texts.{list_text}
 use Rattle.sizes.specs.Sizes.{otherwise}
-use Rattle.checks.specs.Lists.{listVerdict}
+use Rattle.checks.specs.Lists.{list_verdict}
 use Rattle.merging.specs.Lent.{Lent}
-use Rattle.merging.specs.Operations.{outsFrom}
-use Rattle.merging.specs.Outputs.{Span, historyOf, historyText, flatSpans}
+use Rattle.merging.specs.Operations.{outs_from}
+use Rattle.merging.specs.Outputs.{Span, history_of, history_text, flat_spans}
 use Rattle.apply.specs.declared.Applied.{Applied}
 use Rattle.apply.specs.declared.Applied.TheVariants as A
 use Rattle.apply.specs.declared.WithHistory.{WithHistory}
@@ -21,37 +21,37 @@ use Rattle.apply.specs.declared.WithAll.{WithAll}
 use Rattle.apply.specs.declared.WithAll.TheVariants as B
 
 -- "Order for lists: 3, 4, 1, 2, 5", with the sizes "for text, history and diff"
-unfoldable pub verdictOn : Lent → List Operation → List Cursor → Verdict
-verdictOn lent os cs = listVerdict otherwise lent.original lent.inserted lent.spans lent.keys os cs
+unfoldable pub verdict_on : Lent → List Operation → List Cursor → Verdict
+verdict_on lent os cs = list_verdict otherwise lent.original lent.inserted lent.spans lent.keys os cs
 
 -- "A list's text: retained original and insert tokens' spelling, in list order."
-unfoldable pub textOn : Lent → List Operation → List ℕ
-textOn lent os = listText lent.original lent.inserted lent.spans lent.keys os
+unfoldable pub text_on : Lent → List Operation → List ℕ
+text_on lent os = list_text lent.original lent.inserted lent.spans lent.keys os
 
 -- "History has one span for each operation, in order."
-unfoldable pub historyOn : Lent → List Operation → List Span
-historyOn lent os = historyOf lent (outsFrom 0 os)
+unfoldable pub history_on : Lent → List Operation → List Span
+history_on lent os = history_of lent (outs_from 0 os)
 
 -- "All others: the exact length of the answer."
 abbrev pub fits : List ℕ → List ℕ → Bool
 fits answer room = leb (length answer) (length room)
 
 -- "Order for lists: 3, 4, 1, 2, 5, 7": of apply
-unfoldable pub applyVerdict : Lent → List Operation → List Cursor → List ℕ → List ℕ → Verdict
-applyVerdict lent os cs out moved = and_then (verdictOn lent os cs) (roomed (fits (flatCursors (sorted cs)) moved && fits (textOn lent os) out))
+unfoldable pub apply_verdict : Lent → List Operation → List Cursor → List ℕ → List ℕ → Verdict
+apply_verdict lent os cs out moved = and_then (verdict_on lent os cs) (roomed (fits (flat_cursors (sorted cs)) moved && fits (text_on lent os) out))
 
 -- "Order for lists: 3, 4, 1, 2, 5, 7": of apply_with_history, which takes no cursors
-unfoldable pub historyVerdict : Lent → List Operation → List ℕ → List ℕ → Verdict
-historyVerdict lent os history out =
-    and_then (verdictOn lent os []) (roomed (fits (flatSpans 0 (historyOn lent os)) history && fits (historyText (historyOn lent os)) out))
+unfoldable pub history_verdict : Lent → List Operation → List ℕ → List ℕ → Verdict
+history_verdict lent os history out =
+    and_then (verdict_on lent os []) (roomed (fits (flat_spans 0 (history_on lent os)) history && fits (history_text (history_on lent os)) out))
 
 -- "Order for lists: 3, 4, 1, 2, 5, 7": of apply_with_all
-unfoldable pub allVerdict : Lent → List Operation → List Cursor → List ℕ → List ℕ → List ℕ → List ℕ → Verdict
-allVerdict lent os cs out moved history texts =
-    and_then (verdictOn lent os cs)
+unfoldable pub all_verdict : Lent → List Operation → List Cursor → List ℕ → List ℕ → List ℕ → List ℕ → Verdict
+all_verdict lent os cs out moved history texts =
+    and_then (verdict_on lent os cs)
     (roomed
-    ((fits (flatCursors (sorted cs)) moved && fits (textOn lent os) out)
-    && (fits (flatSpans 0 (historyOn lent os)) history && fits (historyText (historyOn lent os)) texts)))
+    ((fits (flat_cursors (sorted cs)) moved && fits (text_on lent os) out)
+    && (fits (flat_spans 0 (history_on lent os)) history && fits (history_text (history_on lent os)) texts)))
 
 -- "its result, numbers of a refusal included": how many code points and cursors, or the refusal
 abbrev pub applied : Verdict → ℕ → ℕ → Applied
@@ -64,29 +64,29 @@ told Accepted spans text = H.Counts spans text
 told (Refused r) spans text = H.Refused r
 
 -- "its result, numbers of a refusal included": of both
-abbrev pub toldAll : Verdict → ℕ → ℕ → ℕ → ℕ → WithAll
-toldAll Accepted text cursors spans texts = B.Counts text cursors spans texts
-toldAll (Refused r) text cursors spans texts = B.Refused r
+abbrev pub told_all : Verdict → ℕ → ℕ → ℕ → ℕ → WithAll
+told_all Accepted text cursors spans texts = B.Counts text cursors spans texts
+told_all (Refused r) text cursors spans texts = B.Refused r
 
 -- apply: "A list's text", "Cursors are sorted stably by index, going in and coming out"
 pub record Applies (lent : Lent) (os : List Operation) (cs : List Cursor) (out moved out' moved' : List ℕ) (r : Applied) : Type 0 where
-  pub answer : r ≡ applied (applyVerdict lent os cs out moved) (length (textOn lent os)) (length (sorted cs))
-  pub text : out' ≡ leaves (applyVerdict lent os cs out moved) (textOn lent os) out
-  pub cursors : moved' ≡ leaves (applyVerdict lent os cs out moved) (flatCursors (sorted cs)) moved
+  pub answer : r ≡ applied (apply_verdict lent os cs out moved) (length (text_on lent os)) (length (sorted cs))
+  pub text : out' ≡ leaves (apply_verdict lent os cs out moved) (text_on lent os) out
+  pub cursors : moved' ≡ leaves (apply_verdict lent os cs out moved) (flat_cursors (sorted cs)) moved
 
 -- apply_with_history: "History has one span for each operation, in order."
 pub record Tells (lent : Lent) (os : List Operation) (history out history' out' : List ℕ) (r : WithHistory) : Type 0 where
-  pub answer : r ≡ told (historyVerdict lent os history out) (length (historyOn lent os)) (length (historyText (historyOn lent os)))
-  pub spans : history' ≡ leaves (historyVerdict lent os history out) (flatSpans 0 (historyOn lent os)) history
-  pub text : out' ≡ leaves (historyVerdict lent os history out) (historyText (historyOn lent os)) out
+  pub answer : r ≡ told (history_verdict lent os history out) (length (history_on lent os)) (length (history_text (history_on lent os)))
+  pub spans : history' ≡ leaves (history_verdict lent os history out) (flat_spans 0 (history_on lent os)) history
+  pub text : out' ≡ leaves (history_verdict lent os history out) (history_text (history_on lent os)) out
 
 -- apply_with_all: "A list's text", "Cursors are sorted stably by index, going in and coming out", "History has one span for each operation, in order."
 pub record AppliesAll (lent : Lent) (os : List Operation) (cs : List Cursor) (out moved history texts out' moved' history' texts' : List ℕ) (r : WithAll) : Type 0 where
   pub answer :
       r
-      ≡ toldAll (allVerdict lent os cs out moved history texts) (length (textOn lent os)) (length (sorted cs)) (length (historyOn lent os))
-      (length (historyText (historyOn lent os)))
-  pub text : out' ≡ leaves (allVerdict lent os cs out moved history texts) (textOn lent os) out
-  pub cursors : moved' ≡ leaves (allVerdict lent os cs out moved history texts) (flatCursors (sorted cs)) moved
-  pub spans : history' ≡ leaves (allVerdict lent os cs out moved history texts) (flatSpans 0 (historyOn lent os)) history
-  pub history-text : texts' ≡ leaves (allVerdict lent os cs out moved history texts) (historyText (historyOn lent os)) texts
+      ≡ told_all (all_verdict lent os cs out moved history texts) (length (text_on lent os)) (length (sorted cs)) (length (history_on lent os))
+      (length (history_text (history_on lent os)))
+  pub text : out' ≡ leaves (all_verdict lent os cs out moved history texts) (text_on lent os) out
+  pub cursors : moved' ≡ leaves (all_verdict lent os cs out moved history texts) (flat_cursors (sorted cs)) moved
+  pub spans : history' ≡ leaves (all_verdict lent os cs out moved history texts) (flat_spans 0 (history_on lent os)) history
+  pub history_text : texts' ≡ leaves (all_verdict lent os cs out moved history texts) (history_text (history_on lent os)) texts

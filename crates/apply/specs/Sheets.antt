@@ -3,15 +3,15 @@ use Rattle.std.specs.Prelude.{◌≡◌, List, [], ◌∷◌}
 use Rattle.cursors.specs.Sorted.{sorted}
 use Rattle.verdict.specs.declared.Verdict.TheVariants.{Accepted}
 use Rattle.merging.specs.Sheets.{Sheet}
-use Rattle.apply.specs.Answers.{verdictOn, textOn, historyOn}
+use Rattle.apply.specs.Answers.{verdict_on, text_on, history_on}
 
 -- "Text "abXYf"; history unchanged ab, removed left cd, removed right e, added left X, added right Y, unchanged f.": each merged list is
 -- accepted, and has the sheet's text, cursors and history
 pub record Made (s : Sheet) : Type 0 where
-  pub accepted : verdictOn s.lent s.merged.operations s.merged.cursors ≡ Accepted
-  pub text : textOn s.lent s.merged.operations ≡ s.text
+  pub accepted : verdict_on s.lent s.merged.operations s.merged.cursors ≡ Accepted
+  pub text : text_on s.lent s.merged.operations ≡ s.text
   pub cursors : sorted s.merged.cursors ≡ s.merged.cursors
-  pub history : historyOn s.lent s.merged.operations ≡ s.history
+  pub history : history_on s.lent s.merged.operations ≡ s.history
 
 -- "★ proved, one statement over the table"
 abbrev pub AllMade : List Sheet → Type 0

@@ -1,12 +1,12 @@
 // What is made of any accepted list: its text with its cursors sorted, its history, and both in one
 // pass. The calls on lengths say what to lend. crates/written_lists says what a history span is.
 ghost use Rattle.std.specs.Prelude.{◌≡◌, [], length};
-ghost use Rattle.records.specs.Operations.{operationsOf};
-ghost use Rattle.records.specs.Cursors.{cursorsOf};
+ghost use Rattle.records.specs.Operations.{operations_of};
+ghost use Rattle.records.specs.Cursors.{cursors_of};
 ghost use Rattle.merging.specs.Lent.{lent_of};
 ghost use Rattle.cursors.specs.Sorted.{sorted};
-ghost use Rattle.merging.specs.Outputs.{historyText};
-ghost use Rattle.apply.specs.Answers.{verdictOn, textOn, historyOn, applied, told, toldAll, Applies, Tells, AppliesAll};
+ghost use Rattle.merging.specs.Outputs.{history_text};
+ghost use Rattle.apply.specs.Answers.{verdict_on, text_on, history_on, applied, told, told_all, Applies, Tells, AppliesAll};
 
 // Code points of the text and cursors, or why nothing was written.
 #[derive(Drop)]
@@ -43,7 +43,7 @@ pub fn apply_lengths(
     operations: &[usize],
     cursors: &[usize],
 ) -> Applied
-    ensures { result ≡ applied (verdictOn (lent_of original.now text.now spans.now keys.now) (operationsOf operations.now) (cursorsOf cursors.now)) (length (textOn (lent_of original.now text.now spans.now keys.now) (operationsOf operations.now))) (length (sorted (cursorsOf cursors.now))) }
+    ensures { result ≡ applied (verdict_on (lent_of original.now text.now spans.now keys.now) (operations_of operations.now) (cursors_of cursors.now)) (length (text_on (lent_of original.now text.now spans.now keys.now) (operations_of operations.now))) (length (sorted (cursors_of cursors.now))) }
 {
     let limits = sizes::other_limits();
     match checks::sum_list(limits, original, text, spans, keys, operations, cursors) {
@@ -66,7 +66,7 @@ pub fn apply_with_history_lengths(
     keys: &[u32],
     operations: &[usize],
 ) -> WithHistory
-    ensures { result ≡ told (verdictOn (lent_of original.now text.now spans.now keys.now) (operationsOf operations.now) []) (length (historyOn (lent_of original.now text.now spans.now keys.now) (operationsOf operations.now))) (length (historyText (historyOn (lent_of original.now text.now spans.now keys.now) (operationsOf operations.now)))) }
+    ensures { result ≡ told (verdict_on (lent_of original.now text.now spans.now keys.now) (operations_of operations.now) []) (length (history_on (lent_of original.now text.now spans.now keys.now) (operations_of operations.now))) (length (history_text (history_on (lent_of original.now text.now spans.now keys.now) (operations_of operations.now)))) }
 {
     let limits = sizes::other_limits();
     let none = &operations[..0];
@@ -94,7 +94,7 @@ pub fn apply_with_all_lengths(
     operations: &[usize],
     cursors: &[usize],
 ) -> WithAll
-    ensures { result ≡ toldAll (verdictOn (lent_of original.now text.now spans.now keys.now) (operationsOf operations.now) (cursorsOf cursors.now)) (length (textOn (lent_of original.now text.now spans.now keys.now) (operationsOf operations.now))) (length (sorted (cursorsOf cursors.now))) (length (historyOn (lent_of original.now text.now spans.now keys.now) (operationsOf operations.now))) (length (historyText (historyOn (lent_of original.now text.now spans.now keys.now) (operationsOf operations.now)))) }
+    ensures { result ≡ told_all (verdict_on (lent_of original.now text.now spans.now keys.now) (operations_of operations.now) (cursors_of cursors.now)) (length (text_on (lent_of original.now text.now spans.now keys.now) (operations_of operations.now))) (length (sorted (cursors_of cursors.now))) (length (history_on (lent_of original.now text.now spans.now keys.now) (operations_of operations.now))) (length (history_text (history_on (lent_of original.now text.now spans.now keys.now) (operations_of operations.now)))) }
 {
     let limits = sizes::other_limits();
     match checks::sum_list(limits, original, text, spans, keys, operations, cursors) {
@@ -125,7 +125,7 @@ pub fn apply(
     out: &mut [u32],
     moved: &mut [usize],
 ) -> Applied
-    ensures { Applies (lent_of original.now text.now spans.now keys.now) (operationsOf operations.now) (cursorsOf cursors.now) out.old moved.old out.new moved.new result }
+    ensures { Applies (lent_of original.now text.now spans.now keys.now) (operations_of operations.now) (cursors_of cursors.now) out.old moved.old out.new moved.new result }
 {
     match apply_lengths(original, text, spans, keys, operations, cursors) {
         Applied::Refused(refusal) => Applied::Refused(refusal),
@@ -156,7 +156,7 @@ pub fn apply_with_history(
     history: &mut [usize],
     out: &mut [u32],
 ) -> WithHistory
-    ensures { Tells (lent_of original.now text.now spans.now keys.now) (operationsOf operations.now) history.old out.old history.new out.new result }
+    ensures { Tells (lent_of original.now text.now spans.now keys.now) (operations_of operations.now) history.old out.old history.new out.new result }
 {
     match apply_with_history_lengths(original, text, spans, keys, operations) {
         WithHistory::Refused(refusal) => WithHistory::Refused(refusal),
@@ -189,7 +189,7 @@ pub fn apply_with_all(
     history: &mut [usize],
     history_text: &mut [u32],
 ) -> WithAll
-    ensures { AppliesAll (lent_of original.now text.now spans.now keys.now) (operationsOf operations.now) (cursorsOf cursors.now) out.old moved.old history.old history_text.old out.new moved.new history.new history_text.new result }
+    ensures { AppliesAll (lent_of original.now text.now spans.now keys.now) (operations_of operations.now) (cursors_of cursors.now) out.old moved.old history.old history_text.old out.new moved.new history.new history_text.new result }
 {
     match apply_with_all_lengths(original, text, spans, keys, operations, cursors) {
         WithAll::Refused(refusal) => WithAll::Refused(refusal),

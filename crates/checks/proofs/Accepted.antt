@@ -11,88 +11,88 @@ use Rattle.records.specs.declared.Operation.{Operation}
 use Rattle.records.specs.declared.Cursor.{Cursor}
 use Rattle.verdict.specs.declared.Verdict.TheVariants.{Accepted}
 use Rattle.verdict.specs.Verdicts.{and_then, sized}
-use Rattle.verdict.specs.Points.{pointsVerdict}
+use Rattle.verdict.specs.Points.{points_verdict}
 use Rattle.room.proofs.Bools.{and_left, and_right}
-use Rattle.verdict.proofs.Chains.{first-passed, rest-passed, size-passed}
+use Rattle.verdict.proofs.Chains.{first_passed, rest_passed, size_passed}
 use Rattle.sizes.specs.declared.Limits.{Limits}
-use Rattle.sizes.specs.Texts.{total, claimedBy, insertedBy, textLength}
-use Rattle.sizes.specs.Sizes.{Small, lentFits, listFits}
+use Rattle.sizes.specs.Texts.{total, claimed_by, inserted_by, text_length}
+use Rattle.sizes.specs.Sizes.{Small, lent_fits, list_fits}
 use Rattle.sizes.proofs.Sums.{cap}
 use Rattle.shapes.specs.Accepted.{AcceptedList}
-use Rattle.shapes.proofs.Accepted.{list-facts, text-most, records-yes, tiling-yes, within-yes}
-use Rattle.checks.specs.Lists.{listVerdict, listsVerdict}
+use Rattle.shapes.proofs.Accepted.{list_facts, text_most, records_yes, tiling_yes, within_yes}
+use Rattle.checks.specs.Lists.{list_verdict, lists_verdict}
 
 module _ (l : Limits) (original text spans keys : List ℕ) (os : List Operation) (cs : List Cursor) where
-  pub accepted-list : listVerdict l original text spans keys os cs ≡ Accepted → AcceptedList l original text spans keys os cs
-  unfolding listVerdict
-  accepted-list h =
+  pub accepted_list : list_verdict l original text spans keys os cs ≡ Accepted → AcceptedList l original text spans keys os cs
+  unfolding list_verdict
+  accepted_list h =
       let m : ℕ = length text in
-      let s = size-passed (lentFits original text && listFits l m spans keys os cs) (first-passed _ _ h) in
-      let p = rest-passed _ _ (rest-passed _ _ h) in
-      let q = rest-passed _ _ p in
-      list-facts l original text spans keys os cs (and_left (lentFits original text) (listFits l m spans keys os cs) s)
-      (and_right (lentFits original text) (listFits l m spans keys os cs) s)
-      (first-passed _ _ p) (first-passed _ _ q) (rest-passed _ _ q)
+      let s = size_passed (lent_fits original text && list_fits l m spans keys os cs) (first_passed _ _ h) in
+      let p = rest_passed _ _ (rest_passed _ _ h) in
+      let q = rest_passed _ _ p in
+      list_facts l original text spans keys os cs (and_left (lent_fits original text) (list_fits l m spans keys os cs) s)
+      (and_right (lent_fits original text) (list_fits l m spans keys os cs) s)
+      (first_passed _ _ p) (first_passed _ _ q) (rest_passed _ _ q)
 
   -- the lengths of an accepted list's texts are below the cap
-  pub inserted-known : (x : ℕ) → Small l → listVerdict l original text spans keys os cs ≡ Accepted → x ≡ min cap (total (insertedBy (length text) spans keys) os)
-      → x ≡ total (insertedBy (length text) spans keys) os
-  inserted-known x s h e = omega (arith, (accepted-list h).inserted-most, s.text)
+  pub inserted_known : (x : ℕ) → Small l → list_verdict l original text spans keys os cs ≡ Accepted → x ≡ min cap (total (inserted_by (length text) spans keys) os)
+      → x ≡ total (inserted_by (length text) spans keys) os
+  inserted_known x s h e = omega (arith, (accepted_list h).inserted_most, s.text)
 
-  pub text-known : (x : ℕ) → Small l → listVerdict l original text spans keys os cs ≡ Accepted → x ≡ min cap (textLength (length text) spans keys os)
-      → x ≡ textLength (length text) spans keys os
-  text-known x s h e = omega (arith, s.text, text-most l original text spans keys os cs (accepted-list h))
+  pub text_known : (x : ℕ) → Small l → list_verdict l original text spans keys os cs ≡ Accepted → x ≡ min cap (text_length (length text) spans keys os)
+      → x ≡ text_length (length text) spans keys os
+  text_known x s h e = omega (arith, s.text, text_most l original text spans keys os cs (accepted_list h))
 
-  pub verdict-yes : AcceptedList l original text spans keys os cs → pointsVerdict original text ≡ Accepted
-      → listVerdict l original text spans keys os cs ≡ Accepted
-  unfolding listVerdict and_then sized
-  verdict-yes a p =
+  pub verdict_yes : AcceptedList l original text spans keys os cs → points_verdict original text ≡ Accepted
+      → list_verdict l original text spans keys os cs ≡ Accepted
+  unfolding list_verdict and_then sized
+  verdict_yes a p =
       rw (
-        le-leb (length original) 65535 a.original-most,
-        le-leb (length text) 131070 a.text-most,
-        le-leb (length os) l.operations a.operations-most,
-        le-leb (length cs) l.cursors a.cursors-most,
-        le-leb (total claimedBy os) l.tokens a.tokens-most,
-        le-leb (total (insertedBy (length text) spans keys) os) l.text a.inserted-most,
+        le-leb (length original) 65535 a.original_most,
+        le-leb (length text) 131070 a.text_most,
+        le-leb (length os) l.operations a.operations_most,
+        le-leb (length cs) l.cursors a.cursors_most,
+        le-leb (total claimed_by os) l.tokens a.tokens_most,
+        le-leb (total (inserted_by (length text) spans keys) os) l.text a.inserted_most,
         p,
-        records-yes (length text) spans keys os 0 a.shapes,
-        tiling-yes (length original) os 0 0 a.tiles,
+        records_yes (length text) spans keys os 0 a.shapes,
+        tiling_yes (length original) os 0 0 a.tiles,
       )
-      (within-yes (textLength (length text) spans keys os) cs 0 a.within)
+      (within_yes (text_length (length text) spans keys os) cs 0 a.within)
 
 module _ (l : Limits) (original text spans keys : List ℕ) (ls rs : List Operation) (lcs rcs : List Cursor)
-    (h : listsVerdict l original text spans keys ls rs lcs rcs ≡ Accepted) where
-  sizes : lentFits original text && (listFits l (length text) spans keys ls lcs && listFits l (length text) spans keys rs rcs) ≡ true
-  unfolding listsVerdict
+    (h : lists_verdict l original text spans keys ls rs lcs rcs ≡ Accepted) where
+  sizes : lent_fits original text && (list_fits l (length text) spans keys ls lcs && list_fits l (length text) spans keys rs rcs) ≡ true
+  unfolding lists_verdict
   sizes =
-      size-passed (lentFits original text && (listFits l (length text) spans keys ls lcs && listFits l (length text) spans keys rs rcs))
-      (first-passed _ _ h)
+      size_passed (lent_fits original text && (list_fits l (length text) spans keys ls lcs && list_fits l (length text) spans keys rs rcs))
+      (first_passed _ _ h)
 
-  lent : lentFits original text ≡ true
-  lent = and_left (lentFits original text) (listFits l (length text) spans keys ls lcs && listFits l (length text) spans keys rs rcs) sizes
+  lent : lent_fits original text ≡ true
+  lent = and_left (lent_fits original text) (list_fits l (length text) spans keys ls lcs && list_fits l (length text) spans keys rs rcs) sizes
 
-  both : listFits l (length text) spans keys ls lcs && listFits l (length text) spans keys rs rcs ≡ true
-  both = and_right (lentFits original text) (listFits l (length text) spans keys ls lcs && listFits l (length text) spans keys rs rcs) sizes
+  both : list_fits l (length text) spans keys ls lcs && list_fits l (length text) spans keys rs rcs ≡ true
+  both = and_right (lent_fits original text) (list_fits l (length text) spans keys ls lcs && list_fits l (length text) spans keys rs rcs) sizes
 
-  pub accepted-left : AcceptedList l original text spans keys ls lcs
-  unfolding listsVerdict
-  accepted-left =
-      let p = rest-passed _ _ (rest-passed _ _ h) in
-      let q = rest-passed _ _ p in
-      list-facts l original text spans keys ls lcs lent (and_left (listFits l (length text) spans keys ls lcs) (listFits l (length text) spans keys rs rcs) both)
-      (first-passed _ _ (first-passed _ _ p)) (first-passed _ _ (first-passed _ _ q)) (first-passed _ _ (rest-passed _ _ q))
+  pub accepted_left : AcceptedList l original text spans keys ls lcs
+  unfolding lists_verdict
+  accepted_left =
+      let p = rest_passed _ _ (rest_passed _ _ h) in
+      let q = rest_passed _ _ p in
+      list_facts l original text spans keys ls lcs lent (and_left (list_fits l (length text) spans keys ls lcs) (list_fits l (length text) spans keys rs rcs) both)
+      (first_passed _ _ (first_passed _ _ p)) (first_passed _ _ (first_passed _ _ q)) (first_passed _ _ (rest_passed _ _ q))
 
-  pub accepted-right : AcceptedList l original text spans keys rs rcs
-  unfolding listsVerdict
-  accepted-right =
-      let p = rest-passed _ _ (rest-passed _ _ h) in
-      let q = rest-passed _ _ p in
-      list-facts l original text spans keys rs rcs lent (and_right (listFits l (length text) spans keys ls lcs) (listFits l (length text) spans keys rs rcs) both)
-      (rest-passed _ _ (first-passed _ _ p)) (rest-passed _ _ (first-passed _ _ q)) (rest-passed _ _ (rest-passed _ _ q))
+  pub accepted_right : AcceptedList l original text spans keys rs rcs
+  unfolding lists_verdict
+  accepted_right =
+      let p = rest_passed _ _ (rest_passed _ _ h) in
+      let q = rest_passed _ _ p in
+      list_facts l original text spans keys rs rcs lent (and_right (list_fits l (length text) spans keys ls lcs) (list_fits l (length text) spans keys rs rcs) both)
+      (rest_passed _ _ (first_passed _ _ p)) (rest_passed _ _ (first_passed _ _ q)) (rest_passed _ _ (rest_passed _ _ q))
 
   -- the tokens that accepted lists insert are below the cap
-  pub left-claims : (x : ℕ) → Small l → x ≡ min cap (total claimedBy ls) → x ≡ total claimedBy ls
-  left-claims x s e = omega (arith, accepted-left.tokens-most, s.tokens)
+  pub left_claims : (x : ℕ) → Small l → x ≡ min cap (total claimed_by ls) → x ≡ total claimed_by ls
+  left_claims x s e = omega (arith, accepted_left.tokens_most, s.tokens)
 
-  pub right-claims : (x : ℕ) → Small l → x ≡ min cap (total claimedBy rs) → x ≡ total claimedBy rs
-  right-claims x s e = omega (arith, accepted-right.tokens-most, s.tokens)
+  pub right_claims : (x : ℕ) → Small l → x ≡ min cap (total claimed_by rs) → x ≡ total claimed_by rs
+  right_claims x s e = omega (arith, accepted_right.tokens_most, s.tokens)

@@ -12,9 +12,9 @@ use borrow.Author.Tests.{eq-eqb, ne_eqb, le-leb, leb-true, lt-ltb}
 use Rattle.records.specs.declared.Operation.{Operation}
 use Rattle.records.specs.declared.Token.{Token}
 use Rattle.records.specs.declared.Cursor.{Cursor}
-use Rattle.records.specs.Operations.{operationAt, operationsOf}
-use Rattle.records.specs.Tokens.{tokenAt, tokensFrom}
-use Rattle.records.specs.Cursors.{cursorsOf}
+use Rattle.records.specs.Operations.{operation_at, operations_of}
+use Rattle.records.specs.Tokens.{token_at, tokens_from}
+use Rattle.records.specs.Cursors.{cursors_of}
 use Rattle.records.proofs.Operations as O
 use Rattle.records.proofs.Cursors as C
 use Rattle.refusal.specs.declared.Refusal.TheVariants.{Size}
@@ -24,47 +24,47 @@ use Rattle.sizes.specs.declared.Limits.{Limits}
 use Rattle.checks.specs.declared.Run.{Run}
 use Rattle.checks.specs.declared.Pass.{Pass}
 use Rattle.verdict.specs.Verdicts.{and_then, sized}
-use Rattle.verdict.specs.Points.{pointsVerdict}
-use Rattle.sizes.specs.Texts.{total, inText, runLent, claimedBy, insertedBy, retainedBy}
-use Rattle.sizes.specs.Sizes.{Small, lentFits}
-use Rattle.shapes.specs.Tiling.{withinFrom}
-use Rattle.checks.specs.Lists.{listVerdict, listsVerdict}
+use Rattle.verdict.specs.Points.{points_verdict}
+use Rattle.sizes.specs.Texts.{total, in_text, run_lent, claimed_by, inserted_by, retained_by}
+use Rattle.sizes.specs.Sizes.{Small, lent_fits}
+use Rattle.shapes.specs.Tiling.{within_from}
+use Rattle.checks.specs.Lists.{list_verdict, lists_verdict}
 use Rattle.checks.specs.Passing.{Whole, Inserts, Summed, Good}
-use Rattle.room.proofs.Bools.{and_left, first-no}
-use Rattle.verdict.proofs.Chains.{too-big}
-use Rattle.sizes.proofs.Sums.{cap, cap-cap, Adding, adding-begins, adding-in, adding-ends, inserted-other, inserted-run, Totals, totals-begin, totals-on, totals-end}
-use Rattle.shapes.proofs.Shapely.{Looking, looks-begin, looks_on, looks-end, run_is, record-insert, record-part, Recording, records-begin, records-on, records-end}
-use Rattle.shapes.proofs.Tiled.{Tiled, tiled-begin, tiled-insert, tiled-on, tiled-end}
+use Rattle.room.proofs.Bools.{and_left, first_no}
+use Rattle.verdict.proofs.Chains.{too_big}
+use Rattle.sizes.proofs.Sums.{cap, cap_cap, Adding, adding_begins, adding_in, adding_ends, inserted_other, inserted_run, Totals, totals_begin, totals_on, totals_end}
+use Rattle.shapes.proofs.Shapely.{Looking, looks_begin, looks_on, looks_end, run_is, record_insert, record_part, Recording, records_begin, records_on, records_end}
+use Rattle.shapes.proofs.Tiled.{Tiled, tiled_begin, tiled_insert, tiled_on, tiled_end}
 
 -- a run: its tokens are good so far, and their text is summed up
 pub record Running (spans keys : List ℕ) (n first count end i sum : ℕ) : Type 0 where
   pub looks : Looking spans keys n first count end i
   pub adds : Adding spans keys n first count end i sum
 
-pub run-begins : (spans keys : List ℕ) (n first count end : ℕ) → end ≡ first + count → Running spans keys n first count end first 0
-run-begins spans keys n first count end e =
-    record { looks = looks-begin spans keys n first count end e; adds = adding-begins spans keys n first count end e }
+pub run_begins : (spans keys : List ℕ) (n first count end : ℕ) → end ≡ first + count → Running spans keys n first count end first 0
+run_begins spans keys n first count end e =
+    record { looks = looks_begin spans keys n first count end e; adds = adding_begins spans keys n first count end e }
 
 module _ {spans keys : List ℕ} {n first count end i sum : ℕ} (h : Running spans keys n first count end i sum) where
-  pub run_on : (t : Token) (s : ℕ) → i < end → t ≡ tokenAt spans keys i → (t.length ≡ 0 → ⊥) → inText n t ≡ true → s ≡ min cap (sum + t.length)
+  pub run_on : (t : Token) (s : ℕ) → i < end → t ≡ token_at spans keys i → (t.length ≡ 0 → ⊥) → in_text n t ≡ true → s ≡ min cap (sum + t.length)
       → Running spans keys n first count end (i + 1) s
-  run_on t s l e z b es = record { looks = looks_on h.looks t l e z b; adds = adding-in h.adds t s l e b es }
+  run_on t s l e z b es = record { looks = looks_on h.looks t l e z b; adds = adding_in h.adds t s l e b es }
 
-  pub run_ends : end ≤ i → Whole n (tokensFrom spans keys first count) (record { good = true; text = sum })
-  run_ends l = record { good = sym (looks-end h.looks l); text = adding-ends h.adds l }
+  pub run_ends : end ≤ i → Whole n (tokens_from spans keys first count) (record { good = true; text = sum })
+  run_ends l = record { good = sym (looks_end h.looks l); text = adding_ends h.adds l }
 
-pub whole-insert : (n : ℕ) (spans keys : List ℕ) (o : Operation) (r : Run) → o.kind ≡ 1 → (o.count ≡ 0 → ⊥) → runLent spans keys o ≡ true
-    → Whole n (tokensFrom spans keys o.first o.count) r → Inserts n spans keys o r
-whole-insert n spans keys o r k z l w =
-    record { good = sym (run_is n spans keys o true z l (sym w.good)); text = inserted-run n spans keys o r.text k l w.text }
+pub whole_insert : (n : ℕ) (spans keys : List ℕ) (o : Operation) (r : Run) → o.kind ≡ 1 → (o.count ≡ 0 → ⊥) → run_lent spans keys o ≡ true
+    → Whole n (tokens_from spans keys o.first o.count) r → Inserts n spans keys o r
+whole_insert n spans keys o r k z l w =
+    record { good = sym (run_is n spans keys o true z l (sym w.good)); text = inserted_run n spans keys o r.text k l w.text }
 
 pub record Passing (l : Limits) (n m : ℕ) (spans keys xs : List ℕ) (count i at tokens inserted retained : ℕ) : Type 0 where
   pub few : tokens ≤ l.tokens
   pub short : inserted ≤ l.text
   pub kept : retained ≤ at
-  pub claims : Totals claimedBy xs count i tokens
-  pub adds : Totals (insertedBy m spans keys) xs count i inserted
-  pub keeps : Totals retainedBy xs count i retained
+  pub claims : Totals claimed_by xs count i tokens
+  pub adds : Totals (inserted_by m spans keys) xs count i inserted
+  pub keeps : Totals retained_by xs count i retained
   pub records : Recording m spans keys xs count i
   pub tiles : Tiled n xs count i at
 
@@ -74,81 +74,81 @@ passing_begins l n m spans keys xs count e =
       few = zero-le;
       short = zero-le;
       kept = zero-le;
-      claims = totals-begin claimedBy xs count e;
-      adds = totals-begin (insertedBy m spans keys) xs count e;
-      keeps = totals-begin retainedBy xs count e;
-      records = records-begin m spans keys xs count e;
-      tiles = tiled-begin n xs count e;
+      claims = totals_begin claimed_by xs count e;
+      adds = totals_begin (inserted_by m spans keys) xs count e;
+      keeps = totals_begin retained_by xs count e;
+      records = records_begin m spans keys xs count e;
+      tiles = tiled_begin n xs count e;
     }
 
-pub retains-most : (o : Operation) → retainedBy o ≤ o.length
-retains-most o = go (ℕ_discrete o.kind 2)
+pub retains_most : (o : Operation) → retained_by o ≤ o.length
+retains_most o = go (ℕ_discrete o.kind 2)
   where
-    go : Dec (o.kind ≡ 2) → retainedBy o ≤ o.length
+    go : Dec (o.kind ≡ 2) → retained_by o ≤ o.length
     go (yes e) = rw (eq-eqb o.kind 2 e) (omega arith)
     go (no e) = rw (ne_eqb o.kind 2 e) zero-le
 
 module _ {l : Limits} {n m : ℕ} {spans keys xs : List ℕ} {count i at tokens inserted retained : ℕ}
     (h : Passing l n m spans keys xs count i at tokens inserted retained) where
-  module _ (small : Small l) (o : Operation) (j : i < count) (e : o ≡ operationAt xs i) (side : o.side ≤ 1) where
-    pub passes-insert : (r : Run) → o.kind ≡ 1 → o.count ≤ l.tokens - tokens → Inserts m spans keys o r → r.text ≤ l.text - inserted
+  module _ (small : Small l) (o : Operation) (j : i < count) (e : o ≡ operation_at xs i) (side : o.side ≤ 1) where
+    pub passes_insert : (r : Run) → o.kind ≡ 1 → o.count ≤ l.tokens - tokens → Inserts m spans keys o r → r.text ≤ l.text - inserted
         → Passing l n m spans keys xs count (i + 1) at (tokens + o.count) (inserted + r.text) retained
-    passes-insert r k c g d =
-        let none : retainedBy o ≡ 0 = rw (ne_eqb o.kind 2 (λ z. omega arith)) in
+    passes_insert r k c g d =
+        let none : retained_by o ≡ 0 = rw (ne_eqb o.kind 2 (λ z. omega arith)) in
         record {
           few = omega (arith, h.few);
           short = omega (arith, h.short);
           kept = h.kept;
-          claims = totals-on h.claims o o.count (tokens + o.count) j e (rw (eq-eqb o.kind 1 k)) (omega (arith, h.few, small.tokens));
+          claims = totals_on h.claims o o.count (tokens + o.count) j e (rw (eq-eqb o.kind 1 k)) (omega (arith, h.few, small.tokens));
           adds =
-              totals-on h.adds o r.text (inserted + r.text) j e (cap-cap (insertedBy m spans keys o) r.text g.text)
+              totals_on h.adds o r.text (inserted + r.text) j e (cap_cap (inserted_by m spans keys o) r.text g.text)
               (omega (arith, h.short, small.text));
-          keeps = totals-on h.keeps o 0 retained j e (omega arith) (omega (arith, h.keeps.small));
-          records = records-on h.records o j e (sym (record-insert m spans keys o side true k (sym g.good)));
-          tiles = tiled-insert h.tiles o j e k;
+          keeps = totals_on h.keeps o 0 retained j e (omega arith) (omega (arith, h.keeps.small));
+          records = records_on h.records o j e (sym (record_insert m spans keys o side true k (sym g.good)));
+          tiles = tiled_insert h.tiles o j e k;
         }
 
-    pub passes-part : (z : ℕ) → n ≤ 65535 → (o.kind ≡ 1 → ⊥) → o.kind ≤ 2 → (o.length ≡ 0 → ⊥) → o.order ≡ at → o.length ≤ n - at → z ≡ retainedBy o
+    pub passes_part : (z : ℕ) → n ≤ 65535 → (o.kind ≡ 1 → ⊥) → o.kind ≤ 2 → (o.length ≡ 0 → ⊥) → o.order ≡ at → o.length ≤ n - at → z ≡ retained_by o
         → Passing l n m spans keys xs count (i + 1) (at + o.length) tokens inserted (retained + z)
-    passes-part z few k u some q g ez =
-        let none : claimedBy o ≡ 0 = rw (ne_eqb o.kind 1 k) in
+    passes_part z few k u some q g ez =
+        let none : claimed_by o ≡ 0 = rw (ne_eqb o.kind 1 k) in
         record {
           few = h.few;
           short = h.short;
-          kept = omega (arith, h.kept, retains-most o);
-          claims = totals-on h.claims o 0 tokens j e (omega arith) (omega (arith, h.claims.small));
-          adds = totals-on h.adds o 0 inserted j e (omega (arith, inserted-other m spans keys o k)) (omega (arith, h.adds.small));
-          keeps = totals-on h.keeps o z (retained + z) j e (rw ez) (omega (arith, h.kept, h.tiles.inside, retains-most o));
-          records = records-on h.records o j e (sym (record-part m spans keys o side k u) ∙ lt-ltb 0 o.length (omega arith));
-          tiles = tiled-on h.tiles o j e k q g;
+          kept = omega (arith, h.kept, retains_most o);
+          claims = totals_on h.claims o 0 tokens j e (omega arith) (omega (arith, h.claims.small));
+          adds = totals_on h.adds o 0 inserted j e (omega (arith, inserted_other m spans keys o k)) (omega (arith, h.adds.small));
+          keeps = totals_on h.keeps o z (retained + z) j e (rw ez) (omega (arith, h.kept, h.tiles.inside, retains_most o));
+          records = records_on h.records o j e (sym (record_part m spans keys o side k u) ∙ lt-ltb 0 o.length (omega arith));
+          tiles = tiled_on h.tiles o j e k q g;
         }
 
   pub passed : Small l → n ≤ 65535 → count ≤ i → at ≡ n
-      → Summed l n m spans keys (operationsOf xs) (record { good = true; tokens = tokens; inserted = inserted; retained = retained })
+      → Summed l n m spans keys (operations_of xs) (record { good = true; tokens = tokens; inserted = inserted; retained = retained })
   passed small few j q =
       record {
-        tokens = omega (arith, totals-end h.claims j, h.few, small.tokens);
-        text = omega (arith, totals-end h.adds j, h.short, small.text);
-        claimed = omega (arith, totals-end h.claims j, h.few, small.tokens);
-        inserted = omega (arith, totals-end h.adds j, h.short, small.text);
-        retained = omega (arith, totals-end h.keeps j, h.kept);
+        tokens = omega (arith, totals_end h.claims j, h.few, small.tokens);
+        text = omega (arith, totals_end h.adds j, h.short, small.text);
+        claimed = omega (arith, totals_end h.claims j, h.few, small.tokens);
+        inserted = omega (arith, totals_end h.adds j, h.short, small.text);
+        retained = omega (arith, totals_end h.keeps j, h.kept);
         few = omega (arith, h.kept);
-        records = records-end h.records j;
-        tiles = tiled-end h.tiles j q;
+        records = records_end h.records j;
+        tiles = tiled_end h.tiles j q;
       }
 
 -- the sizes and the cursors, behind a pass
-pub good-list : (l : Limits) (n m : ℕ) (spans keys xs ys : List ℕ) (p : Pass) (v : Verdict) → Small l → n ≤ 65535 → length xs / 6 ≤ l.operations → length ys / 2 ≤ l.cursors
-    → Summed l n m spans keys (operationsOf xs) p → v ≡ withinFrom (p.retained + p.inserted) (cursorsOf ys) 0 → v ≡ Accepted
-    → Good l n m spans keys (operationsOf xs) (cursorsOf ys) p
-good-list l n m spans keys xs ys p v s k a b h e f =
+pub good_list : (l : Limits) (n m : ℕ) (spans keys xs ys : List ℕ) (p : Pass) (v : Verdict) → Small l → n ≤ 65535 → length xs / 6 ≤ l.operations → length ys / 2 ≤ l.cursors
+    → Summed l n m spans keys (operations_of xs) p → v ≡ within_from (p.retained + p.inserted) (cursors_of ys) 0 → v ≡ Accepted
+    → Good l n m spans keys (operations_of xs) (cursors_of ys) p
+good_list l n m spans keys xs ys p v s k a b h e f =
     record {
       fits =
           rw (
-            le-leb (length (operationsOf xs)) l.operations (omega (arith, O.length-of xs)),
-            le-leb (length (cursorsOf ys)) l.cursors (omega (arith, C.length-of ys)),
-            le-leb (total claimedBy (operationsOf xs)) l.tokens h.tokens,
-            le-leb (total (insertedBy m spans keys) (operationsOf xs)) l.text h.text,
+            le-leb (length (operations_of xs)) l.operations (omega (arith, O.length_of_lem xs)),
+            le-leb (length (cursors_of ys)) l.cursors (omega (arith, C.length_of_lem ys)),
+            le-leb (total claimed_by (operations_of xs)) l.tokens h.tokens,
+            le-leb (total (inserted_by m spans keys) (operations_of xs)) l.text h.text,
           );
       records = sym h.records;
       tiles = sym h.tiles;
@@ -159,28 +159,28 @@ good-list l n m spans keys xs ys p v s k a b h e f =
       small = omega (arith, h.few, h.inserted, h.text, s.text);
     }
 
-pub lent-few : (original text : List ℕ) → lentFits original text ≡ true → length original ≤ 65535
-lent-few original text h = leb-true (length original) 65535 (and_left (leb (length original) 65535) (leb (length text) 131070) h)
+pub lent_few : (original text : List ℕ) → lent_fits original text ≡ true → length original ≤ 65535
+lent_few original text h = leb-true (length original) 65535 (and_left (leb (length original) 65535) (leb (length text) 131070) h)
 
-pub no_size : (l : Limits) (original text spans keys : List ℕ) (os : List Operation) (cs : List Cursor) → lentFits original text ≡ false
-    → listVerdict l original text spans keys os cs ≡ Refused Size
-unfolding listVerdict
-no_size l original text spans keys os cs e = sym (too-big _ _ (first-no _ _ e))
+pub no_size : (l : Limits) (original text spans keys : List ℕ) (os : List Operation) (cs : List Cursor) → lent_fits original text ≡ false
+    → list_verdict l original text spans keys os cs ≡ Refused Size
+unfolding list_verdict
+no_size l original text spans keys os cs e = sym (too_big _ _ (first_no _ _ e))
 
-then-none : (v : Verdict) → v ≡ and_then v Accepted
+then_none : (v : Verdict) → v ≡ and_then v Accepted
 unfolding and_then
-then-none Accepted = refl
-then-none (Refused r) = refl
+then_none Accepted = refl
+then_none (Refused r) = refl
 
-pub good-alone : (l : Limits) (original text spans keys : List ℕ) (os : List Operation) (cs : List Cursor) (p : Pass) → lentFits original text ≡ true
-    → Good l (length original) (length text) spans keys os cs p → pointsVerdict original text ≡ listVerdict l original text spans keys os cs
-unfolding listVerdict sized and_then
-good-alone l original text spans keys os cs p f g =
-    rw (f, g.fits, g.records, g.tiles, g.within) (then-none (pointsVerdict original text))
+pub good_alone : (l : Limits) (original text spans keys : List ℕ) (os : List Operation) (cs : List Cursor) (p : Pass) → lent_fits original text ≡ true
+    → Good l (length original) (length text) spans keys os cs p → points_verdict original text ≡ list_verdict l original text spans keys os cs
+unfolding list_verdict sized and_then
+good_alone l original text spans keys os cs p f g =
+    rw (f, g.fits, g.records, g.tiles, g.within) (then_none (points_verdict original text))
 
-pub good-lists : (l : Limits) (original text spans keys : List ℕ) (left right : List Operation) (cs ds : List Cursor) (p q : Pass) → lentFits original text ≡ true
+pub good_lists : (l : Limits) (original text spans keys : List ℕ) (left right : List Operation) (cs ds : List Cursor) (p q : Pass) → lent_fits original text ≡ true
     → Good l (length original) (length text) spans keys left cs p → Good l (length original) (length text) spans keys right ds q
-    → pointsVerdict original text ≡ listsVerdict l original text spans keys left right cs ds
-unfolding listsVerdict sized and_then
-good-lists l original text spans keys left right cs ds p q f g h =
-    rw (f, g.fits, h.fits, g.records, h.records, g.tiles, h.tiles, g.within, h.within) (then-none (pointsVerdict original text))
+    → points_verdict original text ≡ lists_verdict l original text spans keys left right cs ds
+unfolding lists_verdict sized and_then
+good_lists l original text spans keys left right cs ds p q f g h =
+    rw (f, g.fits, h.fits, g.records, h.records, g.tiles, h.tiles, g.within, h.within) (then_none (points_verdict original text))

@@ -8,34 +8,34 @@ use Rattle.sizes.specs.declared.Limits.{Limits}
 use Rattle.checks.specs.declared.Checked.{Checked}
 use Rattle.checks.specs.declared.Checked.TheVariants.{Sums, Refused as No}
 use Rattle.verdict.specs.Verdicts.{and_then, sized}
-use Rattle.verdict.specs.Points.{pointsVerdict}
-use Rattle.sizes.specs.Texts.{textLength}
-use Rattle.sizes.specs.Sizes.{lentFits, listFits}
-use Rattle.shapes.specs.Shapes.{recordsFrom}
-use Rattle.shapes.specs.Tiling.{tilingOf, withinFrom}
+use Rattle.verdict.specs.Points.{points_verdict}
+use Rattle.sizes.specs.Texts.{text_length}
+use Rattle.sizes.specs.Sizes.{lent_fits, list_fits}
+use Rattle.shapes.specs.Shapes.{records_from}
+use Rattle.shapes.specs.Tiling.{tiling_of, within_from}
 
 -- "Order for lists: 3, 4, 1, 2, 5, 7": of one list, up to 5
-unfoldable pub listVerdict : Limits → List ℕ → List ℕ → List ℕ → List ℕ → List Operation → List Cursor → Verdict
-listVerdict l original text spans keys os cs =
-    and_then (sized (lentFits original text && listFits l (length text) spans keys os cs))
-    (and_then (pointsVerdict original text)
-    (and_then (recordsFrom (length text) spans keys os 0)
-    (and_then (tilingOf (length original) os) (withinFrom (textLength (length text) spans keys os) cs 0))))
+unfoldable pub list_verdict : Limits → List ℕ → List ℕ → List ℕ → List ℕ → List Operation → List Cursor → Verdict
+list_verdict l original text spans keys os cs =
+    and_then (sized (lent_fits original text && list_fits l (length text) spans keys os cs))
+    (and_then (points_verdict original text)
+    (and_then (records_from (length text) spans keys os 0)
+    (and_then (tiling_of (length original) os) (within_from (text_length (length text) spans keys os) cs 0))))
 
 -- "each check on original, left, right before the next": of the two lists of a merge
-unfoldable pub listsVerdict : Limits → List ℕ → List ℕ → List ℕ → List ℕ → List Operation → List Operation → List Cursor → List Cursor → Verdict
-listsVerdict l original text spans keys left right leftCursors rightCursors =
+unfoldable pub lists_verdict : Limits → List ℕ → List ℕ → List ℕ → List ℕ → List Operation → List Operation → List Cursor → List Cursor → Verdict
+lists_verdict l original text spans keys left right left_cursors right_cursors =
     and_then
     (sized
-    (lentFits original text
-    && (listFits l (length text) spans keys left leftCursors && listFits l (length text) spans keys right rightCursors)))
-    (and_then (pointsVerdict original text)
-    (and_then (and_then (recordsFrom (length text) spans keys left 0) (recordsFrom (length text) spans keys right 0))
-    (and_then (and_then (tilingOf (length original) left) (tilingOf (length original) right))
-    (and_then (withinFrom (textLength (length text) spans keys left) leftCursors 0)
-    (withinFrom (textLength (length text) spans keys right) rightCursors 0)))))
+    (lent_fits original text
+    && (list_fits l (length text) spans keys left left_cursors && list_fits l (length text) spans keys right right_cursors)))
+    (and_then (points_verdict original text)
+    (and_then (and_then (records_from (length text) spans keys left 0) (records_from (length text) spans keys right 0))
+    (and_then (and_then (tiling_of (length original) left) (tiling_of (length original) right))
+    (and_then (within_from (text_length (length text) spans keys left) left_cursors 0)
+    (within_from (text_length (length text) spans keys right) right_cursors 0)))))
 
 -- a verdict with two sums of what is accepted beside it
-unfoldable pub checkedOf : Verdict → ℕ → ℕ → Checked
-checkedOf Accepted n t = Sums n t
-checkedOf (Refused r) n t = No r
+unfoldable pub checked_of : Verdict → ℕ → ℕ → Checked
+checked_of Accepted n t = Sums n t
+checked_of (Refused r) n t = No r

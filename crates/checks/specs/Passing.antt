@@ -7,39 +7,39 @@ use Rattle.verdict.specs.declared.Verdict.TheVariants.{Accepted}
 use Rattle.sizes.specs.declared.Limits.{Limits}
 use Rattle.checks.specs.declared.Run.{Run}
 use Rattle.checks.specs.declared.Pass.{Pass}
-use Rattle.sizes.specs.Texts.{runText, total, claimedBy, insertedBy, retainedBy, textLength}
-use Rattle.sizes.specs.Sizes.{listFits}
-use Rattle.shapes.specs.Shapes.{runGood, isRun, recordsFrom}
-use Rattle.shapes.specs.Tiling.{tilingOf, withinFrom}
+use Rattle.sizes.specs.Texts.{run_text, total, claimed_by, inserted_by, retained_by, text_length}
+use Rattle.sizes.specs.Sizes.{list_fits}
+use Rattle.shapes.specs.Shapes.{run_good, is_run, records_from}
+use Rattle.shapes.specs.Tiling.{tiling_of, within_from}
 
 -- a run's text, capped, and that its tokens are good
 pub record Whole (n : ℕ) (ts : List Token) (r : Run) : Type 0 where
-  pub good : runGood n ts ≡ true
-  pub text : r.text ≡ min 1000000 (runText n ts)
+  pub good : run_good n ts ≡ true
+  pub text : r.text ≡ min 1000000 (run_text n ts)
 
 -- an insert's text, capped, and that its tokens are lent and good
 pub record Inserts (n : ℕ) (spans keys : List ℕ) (o : Operation) (r : Run) : Type 0 where
-  pub good : isRun n spans keys o ≡ true
-  pub text : r.text ≡ min 1000000 (insertedBy n spans keys o)
+  pub good : is_run n spans keys o ≡ true
+  pub text : r.text ≡ min 1000000 (inserted_by n spans keys o)
 
 -- its sums, and that its sizes are kept and refusals 1 and 2 are not given
 pub record Summed (l : Limits) (n m : ℕ) (spans keys : List ℕ) (os : List Operation) (r : Pass) : Type 0 where
-  pub tokens : total claimedBy os ≤ l.tokens
-  pub text : total (insertedBy m spans keys) os ≤ l.text
-  pub claimed : r.tokens ≡ total claimedBy os
-  pub inserted : r.inserted ≡ total (insertedBy m spans keys) os
-  pub retained : r.retained ≡ total retainedBy os
+  pub tokens : total claimed_by os ≤ l.tokens
+  pub text : total (inserted_by m spans keys) os ≤ l.text
+  pub claimed : r.tokens ≡ total claimed_by os
+  pub inserted : r.inserted ≡ total (inserted_by m spans keys) os
+  pub retained : r.retained ≡ total retained_by os
   pub few : r.retained ≤ n
-  pub records : Accepted ≡ recordsFrom m spans keys os 0
-  pub tiles : Accepted ≡ tilingOf n os
+  pub records : Accepted ≡ records_from m spans keys os 0
+  pub tiles : Accepted ≡ tiling_of n os
 
 -- none of refusals 3, 1, 2 and 5 is given; how many tokens and how much text are inserted, and how long the text is
 pub record Good (l : Limits) (n m : ℕ) (spans keys : List ℕ) (os : List Operation) (cs : List Cursor) (r : Pass) : Type 0 where
-  pub fits : listFits l m spans keys os cs ≡ true
-  pub records : recordsFrom m spans keys os 0 ≡ Accepted
-  pub tiles : tilingOf n os ≡ Accepted
-  pub within : withinFrom (textLength m spans keys os) cs 0 ≡ Accepted
-  pub claimed : r.tokens ≡ total claimedBy os
-  pub inserted : r.inserted ≡ total (insertedBy m spans keys) os
-  pub text : r.retained + r.inserted ≡ textLength m spans keys os
+  pub fits : list_fits l m spans keys os cs ≡ true
+  pub records : records_from m spans keys os 0 ≡ Accepted
+  pub tiles : tiling_of n os ≡ Accepted
+  pub within : within_from (text_length m spans keys os) cs 0 ≡ Accepted
+  pub claimed : r.tokens ≡ total claimed_by os
+  pub inserted : r.inserted ≡ total (inserted_by m spans keys) os
+  pub text : r.retained + r.inserted ≡ text_length m spans keys os
   pub small : r.retained + r.inserted ≤ 1000000

@@ -1,12 +1,12 @@
 // The checks of lists: refusals 3, 4, 1, 2 and 5, in this order, of one list and of the two of a
 // merge.
 ghost use Rattle.std.specs.Prelude.{◌≡◌, ◌+◌, ◌≤◌, true, false, length};
-ghost use Rattle.records.specs.Operations.{operationsOf};
-ghost use Rattle.records.specs.Tokens.{tokensLent, tokensFrom};
-ghost use Rattle.records.specs.Cursors.{cursorsOf};
-ghost use Rattle.sizes.specs.Texts.{total, claimedBy, insertedBy, textLength};
-ghost use Rattle.sizes.specs.Sizes.{Small, lentFits};
-ghost use Rattle.checks.specs.Lists.{listVerdict, listsVerdict, checkedOf};
+ghost use Rattle.records.specs.Operations.{operations_of};
+ghost use Rattle.records.specs.Tokens.{tokens_lent, tokens_from};
+ghost use Rattle.records.specs.Cursors.{cursors_of};
+ghost use Rattle.sizes.specs.Texts.{total, claimed_by, inserted_by, text_length};
+ghost use Rattle.sizes.specs.Sizes.{Small, lent_fits};
+ghost use Rattle.checks.specs.Lists.{list_verdict, lists_verdict, checked_of};
 ghost use Rattle.checks.specs.Passing.{Whole, Inserts, Summed, Good};
 
 use sizes::Limits;
@@ -22,8 +22,8 @@ fn judge_list(
     operations: &[usize],
     cursors: &[usize],
 ) -> Verdict
-    requires { Small limits × (lentFits original.now text.now ≡ true) }
-    ensures { result ≡ listVerdict limits original.now text.now spans.now keys.now (operationsOf operations.now) (cursorsOf cursors.now) }
+    requires { Small limits × (lent_fits original.now text.now ≡ true) }
+    ensures { result ≡ list_verdict limits original.now text.now spans.now keys.now (operations_of operations.now) (cursors_of cursors.now) }
 {
     let n = original.len();
     let m = text.len();
@@ -54,8 +54,8 @@ fn judge_lists(
     left_cursors: &[usize],
     right_cursors: &[usize],
 ) -> Verdict
-    requires { Small limits × (lentFits original.now text.now ≡ true) }
-    ensures { result ≡ listsVerdict limits original.now text.now spans.now keys.now (operationsOf left.now) (operationsOf right.now) (cursorsOf left_cursors.now) (cursorsOf right_cursors.now) }
+    requires { Small limits × (lent_fits original.now text.now ≡ true) }
+    ensures { result ≡ lists_verdict limits original.now text.now spans.now keys.now (operations_of left.now) (operations_of right.now) (cursors_of left_cursors.now) (cursors_of right_cursors.now) }
 {
     let n = original.len();
     let m = text.len();
@@ -110,8 +110,8 @@ fn no_run() -> Run
 
 // A run of tokens, looked at and summed up at once.
 fn pass_run(spans: &[u32], keys: &[u32], n: usize, first: usize, count: usize) -> Run
-    requires { first + count ≤ tokensLent spans.now keys.now }
-    ensures { result.good ≡ true → Whole n (tokensFrom spans.now keys.now first count) result }
+    requires { first + count ≤ tokens_lent spans.now keys.now }
+    ensures { result.good ≡ true → Whole n (tokens_from spans.now keys.now first count) result }
 {
     let end = first + count;
     let mut i = first;
@@ -180,7 +180,7 @@ fn pass_list(
     operations: &[usize],
 ) -> Pass
     requires { Small limits × (n ≤ 65535) }
-    ensures { result.good ≡ true → Summed limits n m spans.now keys.now (operationsOf operations.now) result }
+    ensures { result.good ≡ true → Summed limits n m spans.now keys.now (operations_of operations.now) result }
 {
     let count = operations.len() / 6;
     let mut i = 0;
@@ -248,7 +248,7 @@ fn good_sums(
     cursors: &[usize],
 ) -> Pass
     requires { Small limits × (n ≤ 65535) }
-    ensures { result.good ≡ true → Good limits n m spans.now keys.now (operationsOf operations.now) (cursorsOf cursors.now) result }
+    ensures { result.good ≡ true → Good limits n m spans.now keys.now (operations_of operations.now) (cursors_of cursors.now) result }
 {
     if limits.operations < operations.len() / 6 {
         return no_pass();
@@ -286,8 +286,8 @@ fn judge_sums(
     operations: &[usize],
     cursors: &[usize],
 ) -> Checked
-    requires { Small limits × (lentFits original.now text.now ≡ true) }
-    ensures { result ≡ checkedOf (listVerdict limits original.now text.now spans.now keys.now (operationsOf operations.now) (cursorsOf cursors.now)) (total (insertedBy (length text.now) spans.now keys.now) (operationsOf operations.now)) (textLength (length text.now) spans.now keys.now (operationsOf operations.now)) }
+    requires { Small limits × (lent_fits original.now text.now ≡ true) }
+    ensures { result ≡ checked_of (list_verdict limits original.now text.now spans.now keys.now (operations_of operations.now) (cursors_of cursors.now)) (total (inserted_by (length text.now) spans.now keys.now) (operations_of operations.now)) (text_length (length text.now) spans.now keys.now (operations_of operations.now)) }
 {
     match judge_list(limits, original, text, spans, keys, operations, cursors) {
         Verdict::Refused(refusal) => Checked::Refused(refusal),
@@ -314,7 +314,7 @@ pub fn sum_list(
     cursors: &[usize],
 ) -> Checked
     requires { Small limits }
-    ensures { result ≡ checkedOf (listVerdict limits original.now text.now spans.now keys.now (operationsOf operations.now) (cursorsOf cursors.now)) (total (insertedBy (length text.now) spans.now keys.now) (operationsOf operations.now)) (textLength (length text.now) spans.now keys.now (operationsOf operations.now)) }
+    ensures { result ≡ checked_of (list_verdict limits original.now text.now spans.now keys.now (operations_of operations.now) (cursors_of cursors.now)) (total (inserted_by (length text.now) spans.now keys.now) (operations_of operations.now)) (text_length (length text.now) spans.now keys.now (operations_of operations.now)) }
 {
     let n = original.len();
     let m = text.len();
@@ -348,7 +348,7 @@ pub fn check_list(
     cursors: &[usize],
 ) -> Verdict
     requires { Small limits }
-    ensures { result ≡ listVerdict limits original.now text.now spans.now keys.now (operationsOf operations.now) (cursorsOf cursors.now) }
+    ensures { result ≡ list_verdict limits original.now text.now spans.now keys.now (operations_of operations.now) (cursors_of cursors.now) }
 {
     match sum_list(limits, original, text, spans, keys, operations, cursors) {
         Checked::Refused(refusal) => Verdict::Refused(refusal),
@@ -371,8 +371,8 @@ fn judge_claims(
     left_cursors: &[usize],
     right_cursors: &[usize],
 ) -> Checked
-    requires { Small limits × (lentFits original.now text.now ≡ true) }
-    ensures { result ≡ checkedOf (listsVerdict limits original.now text.now spans.now keys.now (operationsOf left.now) (operationsOf right.now) (cursorsOf left_cursors.now) (cursorsOf right_cursors.now)) (total claimedBy (operationsOf left.now)) (total claimedBy (operationsOf right.now)) }
+    requires { Small limits × (lent_fits original.now text.now ≡ true) }
+    ensures { result ≡ checked_of (lists_verdict limits original.now text.now spans.now keys.now (operations_of left.now) (operations_of right.now) (cursors_of left_cursors.now) (cursors_of right_cursors.now)) (total claimed_by (operations_of left.now)) (total claimed_by (operations_of right.now)) }
 {
     match judge_lists(
         limits,
@@ -408,7 +408,7 @@ pub fn sum_lists(
     right_cursors: &[usize],
 ) -> Checked
     requires { Small limits }
-    ensures { result ≡ checkedOf (listsVerdict limits original.now text.now spans.now keys.now (operationsOf left.now) (operationsOf right.now) (cursorsOf left_cursors.now) (cursorsOf right_cursors.now)) (total claimedBy (operationsOf left.now)) (total claimedBy (operationsOf right.now)) }
+    ensures { result ≡ checked_of (lists_verdict limits original.now text.now spans.now keys.now (operations_of left.now) (operations_of right.now) (cursors_of left_cursors.now) (cursors_of right_cursors.now)) (total claimed_by (operations_of left.now)) (total claimed_by (operations_of right.now)) }
 {
     let n = original.len();
     let m = text.len();
@@ -465,7 +465,7 @@ pub fn check_lists(
     right_cursors: &[usize],
 ) -> Verdict
     requires { Small limits }
-    ensures { result ≡ listsVerdict limits original.now text.now spans.now keys.now (operationsOf left.now) (operationsOf right.now) (cursorsOf left_cursors.now) (cursorsOf right_cursors.now) }
+    ensures { result ≡ lists_verdict limits original.now text.now spans.now keys.now (operations_of left.now) (operations_of right.now) (cursors_of left_cursors.now) (cursors_of right_cursors.now) }
 {
     match sum_lists(
         limits,

@@ -3,7 +3,7 @@
 use Rattle.std.specs.Prelude.{ℕ, ◌+◌, ◌-◌, ◌*◌, ◌/◌, ◌≤◌, ◌≡◌, Bool, false, List, [], ◌∷◌, ◌++◌, leb, length}
 use Rattle.room.specs.Placed.{answered}
 use Rattle.records.specs.declared.Cursor.{Cursor}
-use Rattle.records.specs.Cursors.{cursorsFrom, flatCursors}
+use Rattle.records.specs.Cursors.{cursors_from, flat_cursors}
 use Rattle.merging.specs.declared.Shift.{Shift}
 use Rattle.numbers.specs.Sizes.{most}
 use Rattle.cursor_position.specs.declared.Progress.{Progress}
@@ -16,7 +16,7 @@ pub record Fits (t : Shift) : Type 0 where
 
 -- "the cursors lent": those of a side that have not moved
 abbrev pub left_of : List ℕ → Progress → List Cursor
-left_of xs p = cursorsFrom xs p.next (length xs / 2 - p.next)
+left_of xs p = cursors_from xs p.next (length xs / 2 - p.next)
 
 -- "those up to the operation's end in their own text move": whether any does, of cursors sorted by index
 unfoldable pub waits : ℕ → List Cursor → Bool
@@ -34,4 +34,4 @@ pub record Went (xs : List ℕ) (ms bs : List Cursor) (d d' : List ℕ) (p r : P
   pub count : r.count ≡ p.count + length ms
   pub left : left_of xs r ≡ bs
   pub space : r.count + (length xs / 2 - r.next) ≡ p.count + (length xs / 2 - p.next)
-  pub grows : (cs : List Cursor) (d₀ : List ℕ) → p.count ≡ length cs → d ≡ answered (flatCursors cs) d₀ → d' ≡ answered (flatCursors (cs ++ ms)) d₀
+  pub grows : (cs : List Cursor) (d₀ : List ℕ) → p.count ≡ length cs → d ≡ answered (flat_cursors cs) d₀ → d' ≡ answered (flat_cursors (cs ++ ms)) d₀

@@ -1,7 +1,7 @@
 // What a turn does to the cursors of its side. A side's cursors are sorted by index; those that have
 // moved stand in the room, the others are still to come.
 ghost use Rattle.std.specs.Prelude.{◌≡◌, ◌+◌, ◌≤◌, [], length};
-ghost use Rattle.merging.specs.Cursors.{movedIndex, moved, behind, movedBy, behindOf, ended};
+ghost use Rattle.merging.specs.Cursors.{moved_index, moved, behind, moved_by, behind_of, ended};
 ghost use Rattle.cursor_position.specs.Moves.{Fits, left_of, waits, Spacious, Went};
 
 use merging::{Op, Shift};
@@ -11,7 +11,7 @@ use records::{cursor_at, put_cursor};
 // The new index of a cursor that moves with an operation.
 pub fn moved_index(t: Shift, index: usize) -> usize
     requires { Fits t × (index ≤ t.seen + t.length) }
-    ensures { result ≡ movedIndex t index }
+    ensures { result ≡ moved_index t index }
 {
     let offset = past(index, t.seen);
     if offset <= t.removed {
@@ -66,7 +66,7 @@ pub fn move_cursors(cursors: &[usize], p: Progress, t: Shift, out: &mut [usize])
 // With a delete no cursor moves.
 pub fn move_with(a: Op, cursors: &[usize], p: Progress, t: Shift, out: &mut [usize]) -> Progress
     requires { Fits t × Spacious cursors.now p out.old }
-    ensures { Went cursors.now (movedBy a t (left_of cursors.now p)) (behindOf a t (left_of cursors.now p)) out.old out.new p result }
+    ensures { Went cursors.now (moved_by a t (left_of cursors.now p)) (behind_of a t (left_of cursors.now p)) out.old out.new p result }
 {
     match a {
         Op::Delete { order, length } => p,

@@ -16,71 +16,71 @@ use Rattle.verdict.specs.declared.Verdict.{Verdict}
 use Rattle.verdict.specs.declared.Verdict.TheVariants.{Accepted, Refused}
 use Rattle.diff.specs.declared.diff.Item.{Item}
 use Rattle.diff.specs.declared.diff.Item.TheVariants.{Retain, Delete, Insert, Neither}
-use Rattle.diff.specs.Items.{item_at, itemsFrom}
-use Rattle.diff.specs.Replay.{Edit, retain, delete, insert, editOf, editsOf, replayed, mentioned, left, kept, added}
+use Rattle.diff.specs.Items.{item_at, items_from}
+use Rattle.diff.specs.Replay.{Edit, retain, delete, insert, edit_of, edits_of, replayed, mentioned, left, kept, added}
 use Rattle.diff.specs.Checks.{used, numbers, covers}
-use Rattle.diff.proofs.Decoding.{insert-within}
+use Rattle.diff.proofs.Decoding.{insert_within}
 
 -- a choice between a refusal and what follows was accepted: the test failed, and what follows is accepted
-picked-accepted : (t : Bool) (r : Refusal) (v : Verdict) → pick t (Refused r) v ≡ Accepted → (t ≡ false) × (v ≡ Accepted)
-picked-accepted true r v e = let z : true ≡ false = cc in (z, cc)
-picked-accepted false r v e = (refl, e)
+picked_accepted : (t : Bool) (r : Refusal) (v : Verdict) → pick t (Refused r) v ≡ Accepted → (t ≡ false) × (v ≡ Accepted)
+picked_accepted true r v e = let z : true ≡ false = cc in (z, cc)
+picked_accepted false r v e = (refl, e)
 
 -- edits that pass for covering leave nothing
-pub covers-none : (len : ℕ) (es : List Edit) → covers len es ≡ Accepted → left len es ≡ 0
+pub covers_none : (len : ℕ) (es : List Edit) → covers len es ≡ Accepted → left len es ≡ 0
 unfolding covers
-covers-none len es e = let w = picked-accepted (ltb 0 (left len es)) _ Accepted e in omega (arith, ltb-false 0 (left len es) w.0)
+covers_none len es e = let w = picked_accepted (ltb 0 (left len es)) _ Accepted e in omega (arith, ltb-false 0 (left len es) w.0)
 
 -- numbers that never ask too much ask no more than there is
-pub numbers-enough : (at rest : ℕ) (es : List Edit) → numbers at rest es ≡ Accepted → mentioned es ≤ rest
+pub numbers_enough : (at rest : ℕ) (es : List Edit) → numbers at rest es ≡ Accepted → mentioned es ≤ rest
 unfolding numbers mentioned
-numbers-enough at rest [] e = omega arith
-numbers-enough at rest (retain n ∷ es) e =
-    let w = picked-accepted (ltb rest n) _ _ e in
-    omega (arith, ltb-false rest n w.0, numbers-enough (at + n) (rest - n) es w.1)
-numbers-enough at rest (delete n ∷ es) e =
-    let w = picked-accepted (ltb rest n) _ _ e in
-    omega (arith, ltb-false rest n w.0, numbers-enough (at + n) (rest - n) es w.1)
-numbers-enough at rest (insert s ∷ es) e = numbers-enough at rest es e
+numbers_enough at rest [] e = omega arith
+numbers_enough at rest (retain n ∷ es) e =
+    let w = picked_accepted (ltb rest n) _ _ e in
+    omega (arith, ltb-false rest n w.0, numbers_enough (at + n) (rest - n) es w.1)
+numbers_enough at rest (delete n ∷ es) e =
+    let w = picked_accepted (ltb rest n) _ _ e in
+    omega (arith, ltb-false rest n w.0, numbers_enough (at + n) (rest - n) es w.1)
+numbers_enough at rest (insert s ∷ es) e = numbers_enough at rest es e
 
 -- and the other way
-pub enough-numbers : (at rest : ℕ) (es : List Edit) → mentioned es ≤ rest → numbers at rest es ≡ Accepted
+pub enough_numbers : (at rest : ℕ) (es : List Edit) → mentioned es ≤ rest → numbers at rest es ≡ Accepted
 unfolding numbers mentioned
-enough-numbers at rest [] h = refl
-enough-numbers at rest (retain n ∷ es) h =
+enough_numbers at rest [] h = refl
+enough_numbers at rest (retain n ∷ es) h =
     let l : n ≤ rest = omega arith in
-    rw (le-ltb rest n l) (enough-numbers (at + n) (rest - n) es (omega arith))
-enough-numbers at rest (delete n ∷ es) h =
+    rw (le-ltb rest n l) (enough_numbers (at + n) (rest - n) es (omega arith))
+enough_numbers at rest (delete n ∷ es) h =
     let l : n ≤ rest = omega arith in
-    rw (le-ltb rest n l) (enough-numbers (at + n) (rest - n) es (omega arith))
-enough-numbers at rest (insert s ∷ es) h = enough-numbers at rest es h
+    rw (le-ltb rest n l) (enough_numbers (at + n) (rest - n) es (omega arith))
+enough_numbers at rest (insert s ∷ es) h = enough_numbers at rest es h
 
 -- what is retained is part of what is spoken of
-pub kept-mentioned : (es : List Edit) → kept es ≤ mentioned es
+pub kept_mentioned : (es : List Edit) → kept es ≤ mentioned es
 unfolding kept mentioned
-kept-mentioned [] = omega arith
-kept-mentioned (retain n ∷ es) = omega (arith, kept-mentioned es)
-kept-mentioned (delete n ∷ es) = omega (arith, kept-mentioned es)
-kept-mentioned (insert s ∷ es) = kept-mentioned es
+kept_mentioned [] = omega arith
+kept_mentioned (retain n ∷ es) = omega (arith, kept_mentioned es)
+kept_mentioned (delete n ∷ es) = omega (arith, kept_mentioned es)
+kept_mentioned (insert s ∷ es) = kept_mentioned es
 
 -- the replayed text is as long as what is retained and what is inserted
-pub replayed-length : (o : List ℕ) (es : List Edit) → mentioned es ≤ length o → length (replayed o es) ≡ kept es + added es
+pub replayed_length : (o : List ℕ) (es : List Edit) → mentioned es ≤ length o → length (replayed o es) ≡ kept es + added es
 unfolding replayed mentioned kept added
-replayed-length o [] h = refl
-replayed-length o (retain n ∷ es) h =
+replayed_length o [] h = refl
+replayed_length o (retain n ∷ es) h =
     let l : n ≤ length o = omega arith in
-    let t = replayed-length (drop n o) es (rw (length-drop) (omega arith)) in
+    let t = replayed_length (drop n o) es (rw (length-drop) (omega arith)) in
     rw (length-append, length-take-le n o l) (omega arith)
-replayed-length o (delete n ∷ es) h = replayed-length (drop n o) es (rw (length-drop) (omega arith))
-replayed-length o (insert s ∷ es) h =
-    let t = replayed-length o es h in
+replayed_length o (delete n ∷ es) h = replayed_length (drop n o) es (rw (length-drop) (omega arith))
+replayed_length o (insert s ∷ es) h =
+    let t = replayed_length o es h in
     rw (length-append) (omega arith)
 
 -- what is inserted is what the texts use
 one-added :
     (text : List ℕ) (x : Item) (es : List Edit) (is : List Item) → ((s n : ℕ) → x ≡ Insert s n → s + n ≤ length text)
-    → added es ≡ used is → added (editOf text x ∷ es) ≡ used (x ∷ is)
-unfolding editOf added used
+    → added es ≡ used is → added (edit_of text x ∷ es) ≡ used (x ∷ is)
+unfolding edit_of added used
 one-added text (Retain n) es is w e = e
 one-added text (Delete n) es is w e = e
 one-added text (Insert s n) es is w e =
@@ -88,12 +88,12 @@ one-added text (Insert s n) es is w e =
     rw (length-take-le n (drop s text) l, e)
 one-added text Neither es is w e = omega arith
 
-none-added : added [] ≡ used []
+none_added : added [] ≡ used []
 unfolding added used
-none-added = refl
+none_added = refl
 
-pub added-used : (xs : List ℤ) (text : List ℕ) (i k : ℕ) → added (editsOf text (itemsFrom xs (length text) i k)) ≡ used (itemsFrom xs (length text) i k)
-unfolding itemsFrom editsOf
-added-used xs text i zero = none-added
-added-used xs text i (suc k) =
-    one-added text (item_at xs (length text) i) _ _ (λ s n e. insert-within xs (length text) i e) (added-used xs text (i + 1) k)
+pub added_used : (xs : List ℤ) (text : List ℕ) (i k : ℕ) → added (edits_of text (items_from xs (length text) i k)) ≡ used (items_from xs (length text) i k)
+unfolding items_from edits_of
+added_used xs text i zero = none_added
+added_used xs text i (suc k) =
+    one-added text (item_at xs (length text) i) _ _ (λ s n e. insert_within xs (length text) i e) (added_used xs text (i + 1) k)

@@ -11,7 +11,7 @@ use borrow.Author.Tests.{ltb-true}
 use mir.Syntax.{w64}
 use mir.Val.{SFits, to_z, of_z}
 use mir.Facts.{to_z-of_z}
-use Rattle.numbers.proofs.Signs.{neg-fits}
+use Rattle.numbers.proofs.Signs.{neg_fits}
 
 negative' : (z : ℤ) → SFits w64 z → lt_z z (pos 0) ≡ true → (k : ℕ) × (z ≡ negsuc k) × (k < 2 ^ 63)
 negative' (pos n) f e = absurd (not-suc-le-zero (ltb-true n 0 e))
@@ -32,20 +32,20 @@ up : (k : ℕ) → suc_ℤ (negsuc k) ≡ neg_ℤ (pos k)
 up zero = refl
 up (suc k) = refl
 
-pub step-up : (k : ℕ) → negsuc k +ℤ pos 1 ≡ neg_ℤ (pos k)
-step-up k = +ℤ_one (negsuc k) ∙ up k
+pub step_up : (k : ℕ) → negsuc k +ℤ pos 1 ≡ neg_ℤ (pos k)
+step_up k = +ℤ_one (negsuc k) ∙ up k
 
-pub minus-neg : (k : ℕ) → pos 0 -ℤ neg_ℤ (pos k) ≡ pos k
-minus-neg k = +ℤ_idl (neg_ℤ (neg_ℤ (pos k))) ∙ neg_ℤ-neg_ℤ (pos k)
+pub minus_neg : (k : ℕ) → pos 0 -ℤ neg_ℤ (pos k) ≡ pos k
+minus_neg k = +ℤ_idl (neg_ℤ (neg_ℤ (pos k))) ∙ neg_ℤ-neg_ℤ (pos k)
 
-pub negsuc-fits : (k : ℕ) → k < 2 ^ 63 → SFits w64 (negsuc k)
-negsuc-fits k h = record { sfits = h }
+pub negsuc_fits : (k : ℕ) → k < 2 ^ 63 → SFits w64 (negsuc k)
+negsuc_fits k h = record { sfits = h }
 
 -- what the machine has of n + 1, and of -(n + 1), where n is -(k + 1)
 pub plus_one : (k : ℕ) → k < 2 ^ 63 → to_z w64 (of_z w64 (negsuc k)) +ℤ pos 1 ≡ neg_ℤ (pos k)
-plus_one k h = ap (λ (z : ℤ). z +ℤ pos 1) (to_z-of_z (negsuc-fits k h)) ∙ step-up k
+plus_one k h = ap (λ (z : ℤ). z +ℤ pos 1) (to_z-of_z (negsuc_fits k h)) ∙ step_up k
 
 pub minus : (k : ℕ) → k < 2 ^ 63 → pos 0 -ℤ to_z w64 (of_z w64 (to_z w64 (of_z w64 (negsuc k)) +ℤ pos 1)) ≡ pos k
 minus k h =
     ap (λ (z : ℤ). pos 0 -ℤ to_z w64 (of_z w64 z)) (plus_one k h)
-    ∙ ap (λ (z : ℤ). pos 0 -ℤ z) (to_z-of_z (neg-fits k h)) ∙ minus-neg k
+    ∙ ap (λ (z : ℤ). pos 0 -ℤ z) (to_z-of_z (neg_fits k h)) ∙ minus_neg k

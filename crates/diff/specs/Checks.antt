@@ -12,8 +12,8 @@ use Rattle.diff.specs.declared.diff.Item.TheVariants.{Retain, Delete, Insert, Ne
 use Rattle.diff.specs.Replay.{Edit, retain, delete, insert, left}
 
 -- "Given exactly when": refused by a test
-abbrev pub refuseIf : Bool → Refusal → Verdict
-refuseIf t r = pick t (Refused r) Accepted
+abbrev pub refuse_if : Bool → Refusal → Verdict
+refuse_if t r = pick t (Refused r) Accepted
 
 -- "Sums are exact; parts outside what was lent add no text": the code points that the texts use
 unfoldable pub used : List Item → ℕ
@@ -24,23 +24,23 @@ used (Insert s n ∷ is) = n + used is
 used (Neither ∷ is) = used is
 
 -- "original 65,535 code points"
-abbrev pub originalMost : ℕ
-originalMost = 65535
+abbrev pub original_most : ℕ
+original_most = 65535
 
 -- "diff items 8,192 with 131,070 code points of text"
-abbrev pub itemsMost : ℕ
-itemsMost = 8192
+abbrev pub items_most : ℕ
+items_most = 8192
 
 -- "with 131,070 code points of text"
-abbrev pub textMost : ℕ
-textMost = 131070
+abbrev pub text_most : ℕ
+text_most = 131070
 
 -- 3: "a size limit below is passed"; "The limit itself passes": the original, the items, the text as lent, and what the items use of it, ranges counted as often as they are used
 unfoldable pub sizes : List ℕ → List Item → List ℕ → Verdict
 sizes original is lent =
-    and_then (refuseIf (ltb originalMost (length original)) Size)
-    (and_then (refuseIf (ltb itemsMost (length is)) Size)
-    (and_then (refuseIf (ltb textMost (length lent)) Size) (refuseIf (ltb textMost (used is)) Size)))
+    and_then (refuse_if (ltb original_most (length original)) Size)
+    (and_then (refuse_if (ltb items_most (length is)) Size)
+    (and_then (refuse_if (ltb text_most (length lent)) Size) (refuse_if (ltb text_most (used is)) Size)))
 
 -- 1: "unknown kind"; "token or range outside what was lent"; the "index of first such operation or item", counted from the one given
 unfoldable pub records : ℕ → List Item → Verdict
@@ -59,8 +59,8 @@ numbers at rest (insert s ∷ es) = numbers at rest es
 
 -- 9: "a covering replay ends with original text unmentioned": "code points left"
 unfoldable pub covers : ℕ → List Edit → Verdict
-covers len es = refuseIf (ltb 0 (left len es)) (Unmentioned (left len es))
+covers len es = refuse_if (ltb 0 (left len es)) (Unmentioned (left len es))
 
 -- 7: "a lent room is shorter than asked"
 unfoldable pub fits : ℕ → List ℕ → Verdict
-fits asked room = refuseIf (ltb (length room) asked) Room
+fits asked room = refuse_if (ltb (length room) asked) Room

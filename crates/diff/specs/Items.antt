@@ -29,10 +29,10 @@ unfoldable pub item_at : List ℤ → ℕ → ℕ → Item
 item_at xs lent i = item_of (get_or xs (i * 3) (pos 0)) (get_or xs (i * 3 + 1) (pos 0)) (get_or xs (i * 3 + 2) (pos 0)) lent
 
 -- "diff items": so many from a place on
-unfoldable pub itemsFrom : List ℤ → ℕ → ℕ → ℕ → List Item
-itemsFrom xs lent i zero = []
-itemsFrom xs lent i (suc k) = item_at xs lent i ∷ itemsFrom xs lent (i + 1) k
+unfoldable pub items_from : List ℤ → ℕ → ℕ → ℕ → List Item
+items_from xs lent i zero = []
+items_from xs lent i (suc k) = item_at xs lent i ∷ items_from xs lent (i + 1) k
 
 -- "diff items": all whole ones of the slice
 unfoldable pub items_of : List ℤ → ℕ → List Item
-items_of xs lent = itemsFrom xs lent 0 (length xs / 3)
+items_of xs lent = items_from xs lent 0 (length xs / 3)

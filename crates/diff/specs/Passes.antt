@@ -13,7 +13,7 @@ use Rattle.diff.specs.declared.diff.Surveyed.TheVariants.{TooLong, Used, Stopped
 use Rattle.diff.specs.declared.diff.Walked.{Walked}
 use Rattle.diff.specs.declared.diff.Walked.TheVariants.{Reached, Stopped}
 use Rattle.diff.specs.Replay.{Edit, mentioned, kept}
-use Rattle.diff.specs.Checks.{textMost, used, records, numbers}
+use Rattle.diff.specs.Checks.{text_most, used, records, numbers}
 
 -- 4, of one text
 abbrev pub pointed : Bad → Verdict
@@ -27,7 +27,7 @@ recorded (Refused r) n = Broken r
 
 -- the same, of the items
 unfoldable pub surveyed : List Item → Surveyed
-surveyed is = pick (ltb textMost (used is)) TooLong (recorded (records 0 is) (used is))
+surveyed is = pick (ltb text_most (used is)) TooLong (recorded (records 0 is) (used is))
 
 -- 6, and where the numbers lead
 abbrev pub reached : Verdict → ℕ → ℕ → Walked

@@ -11,16 +11,16 @@ pub data Edit : Type 0 where
   insert : List ℕ → Edit
 
 -- "inserts as text": an item's edit; a text is its range of the lent code points; what is neither is refused before any replay
-unfoldable pub editOf : List ℕ → Item → Edit
-editOf lent (Retain n) = retain n
-editOf lent (Delete n) = delete n
-editOf lent (Insert s n) = insert (take n (drop s lent))
-editOf lent Neither = insert []
+unfoldable pub edit_of : List ℕ → Item → Edit
+edit_of lent (Retain n) = retain n
+edit_of lent (Delete n) = delete n
+edit_of lent (Insert s n) = insert (take n (drop s lent))
+edit_of lent Neither = insert []
 
 -- "diff items": the edits of all, in order
-unfoldable pub editsOf : List ℕ → List Item → List Edit
-editsOf lent [] = []
-editsOf lent (i ∷ is) = editOf lent i ∷ editsOf lent is
+unfoldable pub edits_of : List ℕ → List Item → List Edit
+edits_of lent [] = []
+edits_of lent (i ∷ is) = edit_of lent i ∷ edits_of lent is
 
 -- "Plain replay drops unmentioned text": the text of the edits over what is left of the original
 unfoldable pub replayed : List ℕ → List Edit → List ℕ

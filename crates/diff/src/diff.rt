@@ -1,10 +1,10 @@
 // A diff is lent as a flat slice of 64-bit numbers, three to an item: kind, number or start, length.
 // Kind 0 is a number, whose sign chooses retain or delete; kind 1 a text, a range of the lent text.
 ghost use Rattle.std.specs.Prelude.{◌≡◌, true, ◌+◌, ◌*◌, ◌-◌, ◌/◌, ◌≤◌, length, nat_abs, ltb};
-ghost use Rattle.verdict.specs.Points.{pointsFrom, pointsVerdict};
-ghost use Rattle.diff.specs.Items.{numbered, ranged, item_at, itemsFrom, items_of};
-ghost use Rattle.diff.specs.Replay.{editsOf};
-ghost use Rattle.diff.specs.Checks.{used, textMost};
+ghost use Rattle.verdict.specs.Points.{points_from, points_verdict};
+ghost use Rattle.diff.specs.Items.{numbered, ranged, item_at, items_from, items_of};
+ghost use Rattle.diff.specs.Replay.{edits_of};
+ghost use Rattle.diff.specs.Checks.{used, text_most};
 ghost use Rattle.diff.specs.Passes.{pointed, surveyed, walked};
 
 use refusal::Refusal;
@@ -87,7 +87,7 @@ pub enum Bad {
 
 // Where a text has its first number that is no code point.
 pub fn bad_point(text: &[u32]) -> Bad
-    ensures { pointed result ≡ pointsFrom text.now 0 }
+    ensures { pointed result ≡ points_from text.now 0 }
 {
     let first = numbers::scalars_of(text);
     if first < text.len() {
@@ -98,7 +98,7 @@ pub fn bad_point(text: &[u32]) -> Bad
 
 // The same of an original and then of the text of a diff.
 pub fn bad_points(original: &[u32], text: &[u32]) -> Bad
-    ensures { pointed result ≡ pointsVerdict original.now text.now }
+    ensures { pointed result ≡ points_verdict original.now text.now }
 {
     match bad_point(original) {
         Bad::At(index) => Bad::At(index),
@@ -108,8 +108,8 @@ pub fn bad_points(original: &[u32], text: &[u32]) -> Bad
 
 // Whether the texts from an item on use more than the limit, with so much used before it.
 fn passes(items: &[i64], lent: usize, from: usize, before: usize) -> bool
-    requires { before ≤ textMost }
-    ensures { result ≡ ltb textMost (before + used (itemsFrom items.now lent from (length items.now / 3 - from))) }
+    requires { before ≤ text_most }
+    ensures { result ≡ ltb text_most (before + used (items_from items.now lent from (length items.now / 3 - from))) }
 {
     let count = items.len() / 3;
     let mut i = from;
@@ -177,7 +177,7 @@ pub enum Walked {
 }
 
 pub fn walk(items: &[i64], text: &[u32], len: usize) -> Walked
-    ensures { result ≡ walked len (editsOf text.now (items_of items.now (length text.now))) }
+    ensures { result ≡ walked len (edits_of text.now (items_of items.now (length text.now))) }
 {
     let lent = text.len();
     let count = items.len() / 3;

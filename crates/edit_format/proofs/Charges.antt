@@ -11,14 +11,14 @@ use lib.ListN.{length, get_or, length-append}
 use lib.Dec.{ltb, eqb}
 use borrow.Author.Tests.{eqb-true}
 use Rattle.room.specs.Choice.{pick}
-use Rattle.edit_format.specs.Digits.{isDigit}
+use Rattle.edit_format.specs.Digits.{is_digit}
 use Rattle.edit_format.specs.Items.{Item, kept, dropped, added}
 use Rattle.edit_format.specs.Written.{Head}
-use Rattle.edit_format.specs.Reading.{Kind, keeping, dropping, adding, Line, form, original, result, items, item, ending, State, bad, key, gap, num, open', after, line, firstItem, resultLine, lineNo, kindKey, key_of, base, several, fits, kind_of, item_of, opened, next, begun, keyed, numbered, step, run, Found, Accepted, Refused, finish, readFile}
+use Rattle.edit_format.specs.Reading.{Kind, keeping, dropping, adding, Line, form, original, result, items, item, ending, State, bad, key, gap, num, open', after, line, first_item, result_line, line_no, kind_key, key_of, base, several, fits, kind_of, item_of, opened, next, begun, keyed, numbered, step, run, Found, Accepted, Refused, finish, read_file}
 use Rattle.edit_format.specs.Charge.{ends, Starts, Charged}
-use Rattle.room.proofs.Choices.{pick-elim, no_way}
-use Rattle.edit_format.proofs.DigitLaws.{no-digit-lf}
-use Rattle.edit_format.proofs.NoBeginning.{run-append}
+use Rattle.room.proofs.Choices.{pick_elim, no_way}
+use Rattle.edit_format.proofs.DigitLaws.{no_digit_lf}
+use Rattle.edit_format.proofs.NoBeginning.{run_append}
 
 -- not past the end line
 abbrev pub Due : State → Type 0
@@ -37,30 +37,30 @@ Alive (num l cs n) = Unit {0}
 Alive (open' h is) = Unit {0}
 Alive (after h is) = Unit {0}
 
-alive-back : (s : State) (b : ℕ) → Alive (step s b) → Alive s
+alive_back : (s : State) (b : ℕ) → Alive (step s b) → Alive s
 unfolding step
-alive-back (bad l) b a = a
-alive-back (key l i) b a = tt
-alive-back (gap l cs) b a = tt
-alive-back (num l cs n) b a = tt
-alive-back (open' h is) b a = tt
-alive-back (after h is) b a = tt
+alive_back (bad l) b a = a
+alive_back (key l i) b a = tt
+alive_back (gap l cs) b a = tt
+alive_back (num l cs n) b a = tt
+alive_back (open' h is) b a = tt
+alive_back (after h is) b a = tt
 
-starts-alive : (l : ℕ) (s : State) → Starts l s → Alive s
-starts-alive l (bad k) a = a
-starts-alive l (key k i) a = tt
-starts-alive l (gap k cs) a = tt
-starts-alive l (num k cs n) a = tt
-starts-alive l (open' h is) a = tt
-starts-alive l (after h is) a = tt
+starts_alive : (l : ℕ) (s : State) → Starts l s → Alive s
+starts_alive l (bad k) a = a
+starts_alive l (key k i) a = tt
+starts_alive l (gap k cs) a = tt
+starts_alive l (num k cs n) a = tt
+starts_alive l (open' h is) a = tt
+starts_alive l (after h is) a = tt
 
-pub starts-line : (l : ℕ) (s : State) → Starts l s → line s ≡ l
-starts-line l (bad k) a = absurd a
-starts-line l (key k i) a = a.1
-starts-line l (gap k cs) a = absurd a
-starts-line l (num k cs n) a = absurd a
-starts-line l (open' h is) a = a
-starts-line l (after h is) a = a
+pub starts_line : (l : ℕ) (s : State) → Starts l s → line s ≡ l
+starts_line l (bad k) a = absurd a
+starts_line l (key k i) a = a.1
+starts_line l (gap k cs) a = absurd a
+starts_line l (num k cs n) a = absurd a
+starts_line l (open' h is) a = a
+starts_line l (after h is) a = a
 
 -- after the byte b in line n: still in it, and b is no LF unless the line is bad; or b is LF, at the start of the next
 abbrev pub Moves : ℕ → ℕ → State → Type 0
@@ -85,78 +85,78 @@ plain_at (k ∷ ks) (suc i) e = plain_at ks i (go (eqb k 10) e)
     go true g = no_way g
     go false g = g
 
-plain-key : (l : Line) → plain (key_of l) ≡ true
-unfolding plain key_of kindKey
-plain-key form = refl
-plain-key original = refl
-plain-key (result o) = refl
-plain-key (items o r) = refl
-plain-key (item h is keeping) = refl
-plain-key (item h is dropping) = refl
-plain-key (item h is adding) = refl
-plain-key (ending h is) = refl
+plain_key : (l : Line) → plain (key_of l) ≡ true
+unfolding plain key_of kind_key
+plain_key form = refl
+plain_key original = refl
+plain_key (result o) = refl
+plain_key (items o r) = refl
+plain_key (item h is keeping) = refl
+plain_key (item h is dropping) = refl
+plain_key (item h is adding) = refl
+plain_key (ending h is) = refl
 
-digit-plain : (m b : ℕ) → isDigit m b ≡ true → eqb b 10 ≡ false
-digit-plain m b e = go (eqb b 10) refl
+digit_plain : (m b : ℕ) → is_digit m b ≡ true → eqb b 10 ≡ false
+digit_plain m b e = go (eqb b 10) refl
   where
     go : (t : Bool) → eqb b 10 ≡ t → eqb b 10 ≡ false
-    go true f = no_way (sym (ap (isDigit m) (eqb-true b 10 f) ∙ no-digit-lf m) ∙ e)
+    go true f = no_way (sym (ap (is_digit m) (eqb-true b 10 f) ∙ no_digit_lf m) ∙ e)
     go false f = f
 
-bad-moves : (n b : ℕ) → Moves n b (bad n)
-bad-moves n b = inl (refl, tt, λ a. absurd a)
+bad_moves : (n b : ℕ) → Moves n b (bad n)
+bad_moves n b = inl (refl, tt, λ a. absurd a)
 
-begun-moves : (l : Line) (cs : List ℕ) (b : ℕ) → Moves (lineNo l) b (begun l cs b)
+begun_moves : (l : Line) (cs : List ℕ) (b : ℕ) → Moves (line_no l) b (begun l cs b)
 unfolding begun
-begun-moves l cs b = pick-elim (Moves (lineNo l) b) (isDigit (base l) b) (λ e. inl (refl, tt, λ a. digit-plain (base l) b e)) (λ e. bad-moves (lineNo l) b)
+begun_moves l cs b = pick_elim (Moves (line_no l) b) (is_digit (base l) b) (λ e. inl (refl, tt, λ a. digit_plain (base l) b e)) (λ e. bad_moves (line_no l) b)
 
-keyed-moves : (l : Line) (i b : ℕ) → Moves (lineNo l) b (keyed l i b)
+keyed_moves : (l : Line) (i b : ℕ) → Moves (line_no l) b (keyed l i b)
 unfolding keyed
-keyed-moves l i b =
-    pick-elim (Moves (lineNo l) b) (ltb i (length (key_of l)))
-    (λ e. pick-elim (Moves (lineNo l) b) (eqb b (get_or (key_of l) i 0)) (λ f. inl (refl, tt, λ a. rw (eqb-true b (get_or (key_of l) i 0) f) (plain_at (key_of l) i (plain-key l)))) (λ f. bad-moves (lineNo l) b))
-    (λ e. begun-moves l [] b)
+keyed_moves l i b =
+    pick_elim (Moves (line_no l) b) (ltb i (length (key_of l)))
+    (λ e. pick_elim (Moves (line_no l) b) (eqb b (get_or (key_of l) i 0)) (λ f. inl (refl, tt, λ a. rw (eqb-true b (get_or (key_of l) i 0) f) (plain_at (key_of l) i (plain_key l)))) (λ f. bad_moves (line_no l) b))
+    (λ e. begun_moves l [] b)
 
-opened-starts : (h : Head) (is : List Item) (n : ℕ) → firstItem h + length is ≡ n → Starts n (opened h is)
-unfolding opened lineNo
-opened-starts h is n e = pick-elim (Starts n) (eqb (length is) h.count) (λ f. (refl, e)) (λ f. e)
+opened_starts : (h : Head) (is : List Item) (n : ℕ) → first_item h + length is ≡ n → Starts n (opened h is)
+unfolding opened line_no
+opened_starts h is n e = pick_elim (Starts n) (eqb (length is) h.count) (λ f. (refl, e)) (λ f. e)
 
-next-starts : (l : Line) (cs : List ℕ) (n : ℕ) → Starts (lineNo l + 1) (next l cs n)
-unfolding next lineNo firstItem
-next-starts form cs n = (refl, refl)
-next-starts original cs n = (refl, refl)
-next-starts (result o) cs n = (refl, refl)
-next-starts (items o r) cs n = opened-starts (record { original = o; result = r; count = n }) [] 5 refl
-next-starts (item h is k) cs n = opened-starts h (is ++ item_of k cs n ∷ []) (firstItem h + length is + 1) (omega (arith, length-append is (item_of k cs n ∷ [])))
-next-starts (ending h is) cs n = omega arith
+next_starts : (l : Line) (cs : List ℕ) (n : ℕ) → Starts (line_no l + 1) (next l cs n)
+unfolding next line_no first_item
+next_starts form cs n = (refl, refl)
+next_starts original cs n = (refl, refl)
+next_starts (result o) cs n = (refl, refl)
+next_starts (items o r) cs n = opened_starts (record { original = o; result = r; count = n }) [] 5 refl
+next_starts (item h is k) cs n = opened_starts h (is ++ item_of k cs n ∷ []) (first_item h + length is + 1) (omega (arith, length-append is (item_of k cs n ∷ [])))
+next_starts (ending h is) cs n = omega arith
 
-numbered-moves : (l : Line) (cs : List ℕ) (n b : ℕ) → Moves (lineNo l) b (numbered l cs n b)
+numbered_moves : (l : Line) (cs : List ℕ) (n b : ℕ) → Moves (line_no l) b (numbered l cs n b)
 unfolding numbered
-numbered-moves l cs n b =
-    pick-elim (Moves (lineNo l) b) (isDigit (base l) b)
-    (λ e. pick-elim (Moves (lineNo l) b) (eqb n 0) (λ f. bad-moves (lineNo l) b) (λ f. inl (refl, tt, λ a. digit-plain (base l) b e)))
+numbered_moves l cs n b =
+    pick_elim (Moves (line_no l) b) (is_digit (base l) b)
+    (λ e. pick_elim (Moves (line_no l) b) (eqb n 0) (λ f. bad_moves (line_no l) b) (λ f. inl (refl, tt, λ a. digit_plain (base l) b e)))
     (λ e.
-    pick-elim (Moves (lineNo l) b) (fits l cs n)
+    pick_elim (Moves (line_no l) b) (fits l cs n)
     (λ f.
-    pick-elim (Moves (lineNo l) b) (eqb b 10) (λ g. inr (g, next-starts l cs n))
-    (λ g. pick-elim (Moves (lineNo l) b) (several l && eqb b 32) (λ k. inl (refl, tt, λ a. g)) (λ k. bad-moves (lineNo l) b)))
-    (λ f. bad-moves (lineNo l) b))
+    pick_elim (Moves (line_no l) b) (eqb b 10) (λ g. inr (g, next_starts l cs n))
+    (λ g. pick_elim (Moves (line_no l) b) (several l && eqb b 32) (λ k. inl (refl, tt, λ a. g)) (λ k. bad_moves (line_no l) b)))
+    (λ f. bad_moves (line_no l) b))
 
-item-line : (h : Head) (is : List Item) (k : Kind) → lineNo (item h is k) ≡ firstItem h + length is
-unfolding lineNo
-item-line h is k = refl
+item_line : (h : Head) (is : List Item) (k : Kind) → line_no (item h is k) ≡ first_item h + length is
+unfolding line_no
+item_line h is k = refl
 
-pub step-moves : (s : State) (b : ℕ) → Moves (line s) b (step s b)
+pub step_moves : (s : State) (b : ℕ) → Moves (line s) b (step s b)
 unfolding step
-step-moves (bad l) b = bad-moves l b
-step-moves (key l i) b = keyed-moves l i b
-step-moves (gap l cs) b = begun-moves l cs b
-step-moves (num l cs n) b = numbered-moves l cs n b
-step-moves (open' h is) b = item-moves
+step_moves (bad l) b = bad_moves l b
+step_moves (key l i) b = keyed_moves l i b
+step_moves (gap l cs) b = begun_moves l cs b
+step_moves (num l cs n) b = numbered_moves l cs n b
+step_moves (open' h is) b = item_moves
   where
-    item-moves : Moves (firstItem h + length is) b (keyed (item h is (kind_of b)) 0 b)
-    item-moves = subst (λ (n : ℕ). Moves n b (keyed (item h is (kind_of b)) 0 b)) (item-line h is (kind_of b)) (keyed-moves (item h is (kind_of b)) 0 b)
-step-moves (after h is) b = bad-moves (firstItem h + length is + 1) b
+    item_moves : Moves (first_item h + length is) b (keyed (item h is (kind_of b)) 0 b)
+    item_moves = subst (λ (n : ℕ). Moves n b (keyed (item h is (kind_of b)) 0 b)) (item_line h is (kind_of b)) (keyed_moves (item h is (kind_of b)) 0 b)
+step_moves (after h is) b = bad_moves (first_item h + length is + 1) b
 
 -- every line up to the reader's own has a start
 record Lines (p : List ℕ) (s : State) : Type 0 where
@@ -174,7 +174,7 @@ longer b (q, r, e, w) = (q, r ++ b ∷ [], ap (λ (l : List ℕ). l ++ b ∷ [])
 
 step_lines : (p : List ℕ) (b : ℕ) → Lines p (run (key form 0) p) → Lines (p ++ b ∷ []) (run (key form 0) (p ++ b ∷ []))
 unfolding run
-step_lines p b w = rw (run-append (key form 0) p (b ∷ [])) (⊎_elim stays begins (step-moves s b))
+step_lines p b w = rw (run_append (key form 0) p (b ∷ [])) (⊎_elim stays begins (step_moves s b))
   where
     s : State
     s = run (key form 0) p
@@ -186,21 +186,21 @@ step_lines p b w = rw (run-append (key form 0) p (b ∷ [])) (⊎_elim stays beg
       count = λ a.
           let e : eqb b 10 ≡ false = m.2 a in
           let f : ends (p ++ b ∷ []) ≡ ends p + 0 = ends_snoc p b ∙ rw e in
-          omega (arith, m.0, w.count (alive-back s b a));
+          omega (arith, m.0, w.count (alive_back s b a));
     }
 
     begins : (eqb b 10 ≡ true) × Starts (line s + 1) (step s b) → Lines (p ++ b ∷ []) (step s b)
     begins m =
-        let l : line (step s b) ≡ line s + 1 = starts-line (line s + 1) (step s b) m.1 in
+        let l : line (step s b) ≡ line s + 1 = starts_line (line s + 1) (step s b) m.1 in
         let f : ends (p ++ b ∷ []) ≡ ends p + 1 = ends_snoc p b ∙ rw m.0 in
-        let c : ends p + 1 ≡ line s = w.count (alive-back s b (starts-alive (line s + 1) (step s b) m.1)) in
+        let c : ends p + 1 ≡ line s = w.count (alive_back s b (starts_alive (line s + 1) (step s b) m.1)) in
         record {
           some = omega arith;
           each = λ k a d. elim (dec_le k (line s)) [
             | yes g ↦ longer b (w.each k a g)
             | no g ↦
                 let e : line s + 1 ≡ k = omega arith in
-                (p ++ b ∷ [], [], sym (append-nil (p ++ b ∷ [])), record { lines = omega arith; good = subst (λ (n : ℕ). Starts n (run (key form 0) (p ++ b ∷ []))) e (rw (run-append (key form 0) p (b ∷ [])) m.1) })
+                (p ++ b ∷ [], [], sym (append-nil (p ++ b ∷ [])), record { lines = omega arith; good = subst (λ (n : ℕ). Starts n (run (key form 0) (p ++ b ∷ []))) e (rw (run_append (key form 0) p (b ∷ [])) m.1) })
           ];
           count = λ a. omega arith;
         }
@@ -209,9 +209,9 @@ lines_from : (p q : List ℕ) → Lines p (run (key form 0) p) → Lines (p ++ q
 lines_from p [] w = rw (append-nil p) w
 lines_from p (b ∷ q) w = rw (← append_assoc p (b ∷ []) q) (lines_from (p ++ b ∷ []) q (step_lines p b w))
 
-lines-begin : Lines [] (key form 0)
-unfolding lineNo ends run
-lines-begin = record {
+lines_begin : Lines [] (key form 0)
+unfolding line_no ends run
+lines_begin = record {
   some = omega arith;
   each = λ k a c. let e : 1 ≡ k = omega arith in ([], [], refl, record { lines = e; good = (refl, e) });
   count = λ a. refl;
@@ -223,26 +223,26 @@ never e = let z : ◌≡◌ {A = ℕ} 0 1 = cc in omega arith
 same_line : {k l : ℕ} → ◌≡◌ {A = Found} (Refused k) (Refused l) → k ≡ l
 same_line e = cc
 
-at-line : {p : List ℕ} {s : State} {l : ℕ} (k : ℕ) → Lines p s → 1 ≤ k → k ≤ line s → ◌≡◌ {A = Found} (Refused k) (Refused l) → Charged l p
-at-line {p} k w a b e = subst (λ (n : ℕ). Charged n p) (same_line e) (w.each k a b)
+at_line : {p : List ℕ} {s : State} {l : ℕ} (k : ℕ) → Lines p s → 1 ≤ k → k ≤ line s → ◌≡◌ {A = Found} (Refused k) (Refused l) → Charged l p
+at_line {p} k w a b e = subst (λ (n : ℕ). Charged n p) (same_line e) (w.each k a b)
 
-finish-charged : (p : List ℕ) (s : State) {l : ℕ} → Lines p s → finish s ≡ Refused l → Charged l p
-unfolding finish firstItem resultLine
-finish-charged p (bad k) w e = at-line k w w.some (omega arith) e
-finish-charged p (key k i) w e = at-line (lineNo k) w w.some (omega arith) e
-finish-charged p (gap k cs) w e = at-line (lineNo k) w w.some (omega arith) e
-finish-charged p (num k cs n) w e = at-line (lineNo k) w w.some (omega arith) e
-finish-charged p (open' h is) w e = at-line (firstItem h + length is) w w.some (omega arith) e
-finish-charged p (after h is) {l} w e =
-    (pick-elim (λ (x : Found). x ≡ Refused l → Charged l p) (eqb (kept is + dropped is) h.original)
+finish_charged : (p : List ℕ) (s : State) {l : ℕ} → Lines p s → finish s ≡ Refused l → Charged l p
+unfolding finish first_item result_line
+finish_charged p (bad k) w e = at_line k w w.some (omega arith) e
+finish_charged p (key k i) w e = at_line (line_no k) w w.some (omega arith) e
+finish_charged p (gap k cs) w e = at_line (line_no k) w w.some (omega arith) e
+finish_charged p (num k cs n) w e = at_line (line_no k) w w.some (omega arith) e
+finish_charged p (open' h is) w e = at_line (first_item h + length is) w w.some (omega arith) e
+finish_charged p (after h is) {l} w e =
+    (pick_elim (λ (x : Found). x ≡ Refused l → Charged l p) (eqb (kept is + dropped is) h.original)
     (λ a.
-    pick-elim (λ (x : Found). x ≡ Refused l → Charged l p) (eqb (kept is + added is) h.result)
+    pick_elim (λ (x : Found). x ≡ Refused l → Charged l p) (eqb (kept is + added is) h.result)
     (λ b z. absurd (never z))
-    (λ b z. at-line (resultLine h) w (omega arith) (omega arith) z))
-    (λ a z. at-line 2 w (omega arith) (omega arith) z))
+    (λ b z. at_line (result_line h) w (omega arith) (omega arith) z))
+    (λ a z. at_line 2 w (omega arith) (omega arith) z))
     e
 
 -- law 6: the line charged exists or is one past the last, and every line before it is good
-pub charged : (p : List ℕ) {l : ℕ} → readFile p ≡ Refused l → Charged l p
-unfolding readFile run
-charged p e = finish-charged p (run (key form 0) p) (lines_from [] p lines-begin) e
+pub charged : (p : List ℕ) {l : ℕ} → read_file p ≡ Refused l → Charged l p
+unfolding read_file run
+charged p e = finish_charged p (run (key form 0) p) (lines_from [] p lines_begin) e

@@ -10,59 +10,59 @@ use native.Mathlib.Decide.{dec_lt}
 use lib.Dec.{ltb, eqb}
 use borrow.Author.Tests.{ltb-true, ltb-false, eqb-true, lt-ltb, le-ltb, eq-eqb, ne_eqb}
 use Rattle.room.specs.Choice.{pick}
-use Rattle.room.proofs.Bools.{and_left, and_right, and-false}
-use Rattle.edit_format.specs.Digits.{digit, digitOf, isDigit, value_of, digits, digitsIn}
-use Rattle.room.proofs.Choices.{pick-elim}
+use Rattle.room.proofs.Bools.{and_left, and_right, and_false}
+use Rattle.edit_format.specs.Digits.{digit, digit_of, is_digit, value_of, digits, digits_in}
+use Rattle.room.proofs.Choices.{pick_elim}
 
-pub digit-back : (d : ℕ) → digitOf (digit d) ≡ d
-unfolding digit digitOf
-digit-back d =
-    pick-elim (λ (b : ℕ). pick (ltb b 58) (b - 48) (b - 87) ≡ d) (ltb d 10)
+pub digit_back : (d : ℕ) → digit_of (digit d) ≡ d
+unfolding digit digit_of
+digit_back d =
+    pick_elim (λ (b : ℕ). pick (ltb b 58) (b - 48) (b - 87) ≡ d) (ltb d 10)
     (λ e. let h : d < 10 = ltb-true d 10 e in rw (lt-ltb (d + 48) 58 (omega arith)) (omega arith))
     (λ e. let h : 10 ≤ d = ltb-false d 10 e in rw (le-ltb (d + 87) 58 (omega arith)) (omega arith))
 
-pub is_digit : (m d : ℕ) → d < m → isDigit m (digit d) ≡ true
-unfolding isDigit
-is_digit m d h = rw (digit-back d, eq-eqb (digit d) (digit d) refl, lt-ltb d m h)
+pub is_digit : (m d : ℕ) → d < m → is_digit m (digit d) ≡ true
+unfolding is_digit
+is_digit m d h = rw (digit_back d, eq-eqb (digit d) (digit d) refl, lt-ltb d m h)
 
 -- what a digit's byte says
-pub digit-writes : (m b : ℕ) → isDigit m b ≡ true → digit (digitOf b) ≡ b
-unfolding isDigit
-digit-writes m b e = eqb-true (digit (digitOf b)) b (and_left (eqb (digit (digitOf b)) b) (ltb (digitOf b) m) e)
+pub digit_writes : (m b : ℕ) → is_digit m b ≡ true → digit (digit_of b) ≡ b
+unfolding is_digit
+digit_writes m b e = eqb-true (digit (digit_of b)) b (and_left (eqb (digit (digit_of b)) b) (ltb (digit_of b) m) e)
 
-pub digit-below : (m b : ℕ) → isDigit m b ≡ true → digitOf b < m
-unfolding isDigit
-digit-below m b e = ltb-true (digitOf b) m (and_right (eqb (digit (digitOf b)) b) (ltb (digitOf b) m) e)
+pub digit_below : (m b : ℕ) → is_digit m b ≡ true → digit_of b < m
+unfolding is_digit
+digit_below m b e = ltb-true (digit_of b) m (and_right (eqb (digit (digit_of b)) b) (ltb (digit_of b) m) e)
 
-pub no-digit-lf : (m : ℕ) → isDigit m 10 ≡ false
-unfolding isDigit digit digitOf
-no-digit-lf m = refl
+pub no_digit_lf : (m : ℕ) → is_digit m 10 ≡ false
+unfolding is_digit digit digit_of
+no_digit_lf m = refl
 
-pub no-digit-space : (m : ℕ) → isDigit m 32 ≡ false
-unfolding isDigit digit digitOf
-no-digit-space m = refl
+pub no_digit_space : (m : ℕ) → is_digit m 32 ≡ false
+unfolding is_digit digit digit_of
+no_digit_space m = refl
 
 pub shorter : (m f n : ℕ) → 1 < m → n ≤ suc f → n / m ≤ f
 shorter m f zero h g = rw (zero-div m) zero-le
 shorter m f (suc n) h g = let d : suc n / m < suc n = div-lt_self (omega arith) h in omega arith
 
 -- the bound does not matter
-same : (f g m n : ℕ) → 1 < m → n ≤ f → n ≤ g → digitsIn f m n ≡ digitsIn g m n
-unfolding digitsIn
+same : (f g m n : ℕ) → 1 < m → n ≤ f → n ≤ g → digits_in f m n ≡ digits_in g m n
+unfolding digits_in
 same zero zero m n h a b = refl
 same zero (suc g) m n h a b = rw (lt-ltb n m (omega arith))
 same (suc f) zero m n h a b = rw (lt-ltb n m (omega arith))
 same (suc f) (suc g) m n h a b =
     ap (λ (l : List ℕ). pick (ltb n m) (digit n ∷ []) (l ++ digit (n % m) ∷ [])) (same f g m (n / m) h (shorter m f n h a) (shorter m g n h b))
 
-pub digits-one : (m d : ℕ) → d < m → digits m d ≡ digit d ∷ []
-unfolding digits digitsIn
-digits-one m zero h = refl
-digits-one m (suc d) h = rw (lt-ltb (suc d) m h)
+pub digits_one : (m d : ℕ) → d < m → digits m d ≡ digit d ∷ []
+unfolding digits digits_in
+digits_one m zero h = refl
+digits_one m (suc d) h = rw (lt-ltb (suc d) m h)
 
 -- n of at least m, by its last digit
 pub digits_last : (m n : ℕ) → 1 < m → m ≤ n → digits m n ≡ digits m (n / m) ++ digit (n % m) ∷ []
-unfolding digits digitsIn
+unfolding digits digits_in
 digits_last m zero h g = absurd (omega arith)
 digits_last m (suc n) h g =
     rw (le-ltb (suc n) m g)
@@ -76,73 +76,73 @@ digits_more m n d h g e =
     let r : (n * m + d) % m ≡ d = mul-add-mod_self_right n m d ∙ mod-eq_of_lt e in
     digits_last m (n * m + d) h (omega arith) ∙ rw (q, r)
 
-no_digit : (m b : ℕ) → (digit (digitOf b) ≡ b → ⊥) → isDigit m b ≡ false
-unfolding isDigit
-no_digit m b h = rw (ne_eqb (digit (digitOf b)) b h)
+no_digit : (m b : ℕ) → (digit (digit_of b) ≡ b → ⊥) → is_digit m b ≡ false
+unfolding is_digit
+no_digit m b h = rw (ne_eqb (digit (digit_of b)) b h)
 
 -- a byte's place among the digits 0 to 9 and a to f, as the code finds it
 pub value_low : (b : ℕ) → b < 48 → value_of b ≡ 16
-unfolding value_of digit digitOf
+unfolding value_of digit digit_of
 value_low b h =
     let z : b - 48 ≡ 0 = omega arith in
     rw (no_digit 16 b (rw (lt-ltb b 58 (omega arith), z) (λ e. omega arith)))
 
-pub value-ten : (b : ℕ) → 48 ≤ b → b < 58 → value_of b ≡ b - 48
-unfolding value_of isDigit digit digitOf
-value-ten b g h =
+pub value_ten : (b : ℕ) → 48 ≤ b → b < 58 → value_of b ≡ b - 48
+unfolding value_of is_digit digit digit_of
+value_ten b g h =
     let e : b - 48 + 48 ≡ b = omega arith in
     rw (lt-ltb b 58 h, lt-ltb (b - 48) 10 (omega arith), eq-eqb (b - 48 + 48) b e, lt-ltb (b - 48) 16 (omega arith))
 
-pub value-gap : (b : ℕ) → 58 ≤ b → b < 97 → value_of b ≡ 16
-unfolding value_of digit digitOf
-value-gap b g h = rw (no_digit 16 b (rw (le-ltb b 58 g, lt-ltb (b - 87) 10 (omega arith)) (λ e. omega arith)))
+pub value_gap : (b : ℕ) → 58 ≤ b → b < 97 → value_of b ≡ 16
+unfolding value_of digit digit_of
+value_gap b g h = rw (no_digit 16 b (rw (le-ltb b 58 g, lt-ltb (b - 87) 10 (omega arith)) (λ e. omega arith)))
 
-pub value-six : (b : ℕ) → 97 ≤ b → b < 103 → value_of b ≡ b - 87
-unfolding value_of isDigit digit digitOf
-value-six b g h =
+pub value_six : (b : ℕ) → 97 ≤ b → b < 103 → value_of b ≡ b - 87
+unfolding value_of is_digit digit digit_of
+value_six b g h =
     let e : b - 87 + 87 ≡ b = omega arith in
     rw (le-ltb b 58 (omega arith), le-ltb (b - 87) 10 (omega arith), eq-eqb (b - 87 + 87) b e, lt-ltb (b - 87) 16 (omega arith))
 
-pub value-high : (b : ℕ) → 103 ≤ b → value_of b ≡ 16
-unfolding value_of isDigit digitOf
-value-high b h = rw (le-ltb b 58 (omega arith), le-ltb (b - 87) 16 (omega arith), and-false (eqb (digit (b - 87)) b))
+pub value_high : (b : ℕ) → 103 ≤ b → value_of b ≡ 16
+unfolding value_of is_digit digit_of
+value_high b h = rw (le-ltb b 58 (omega arith), le-ltb (b - 87) 16 (omega arith), and_false (eqb (digit (b - 87)) b))
 
 -- what the code finds with no branch: a letter's last four bits are 9 less than its digit
-pub value-bits : (b : ℕ) → value_of b < 16 → b % 16 + 9 * (b / 64) ≡ value_of b
-value-bits b h = elim (dec_lt b 48) [
+pub value_bits : (b : ℕ) → value_of b < 16 → b % 16 + 9 * (b / 64) ≡ value_of b
+value_bits b h = elim (dec_lt b 48) [
   | yes a ↦ absurd (omega (arith, value_low b a))
   | no a ↦ elim (dec_lt b 58) [
-    | yes c ↦ omega (arith, value-ten b (omega arith) c)
+    | yes c ↦ omega (arith, value_ten b (omega arith) c)
     | no c ↦ elim (dec_lt b 97) [
-      | yes d ↦ absurd (omega (arith, value-gap b (omega arith) d))
+      | yes d ↦ absurd (omega (arith, value_gap b (omega arith) d))
       | no d ↦ elim (dec_lt b 103) [
-        | yes e ↦ omega (arith, value-six b (omega arith) e)
-        | no e ↦ absurd (omega (arith, value-high b (omega arith)))
+        | yes e ↦ omega (arith, value_six b (omega arith) e)
+        | no e ↦ absurd (omega (arith, value_high b (omega arith)))
       ]
     ]
   ]
 ]
 
 -- from 0 to f, the bytes between the digits and the letters are those with more than 24
-pub value-between : (b : ℕ) → 48 ≤ b → b ≤ 102 → 24 < (b + 31) % 64 → value_of b ≡ 16
-value-between b g h e = value-gap b (omega arith) (omega arith)
+pub value_between : (b : ℕ) → 48 ≤ b → b ≤ 102 → 24 < (b + 31) % 64 → value_of b ≡ 16
+value_between b g h e = value_gap b (omega arith) (omega arith)
 
-pub value-writes : (b : ℕ) → 48 ≤ b → b ≤ 102 → (b + 31) % 64 ≤ 24 → value_of b < 16
-value-writes b g h e = elim (dec_lt b 58) [
-  | yes a ↦ omega (arith, value-ten b g a)
-  | no a ↦ let c : 97 ≤ b = omega arith in omega (arith, value-six b c (omega arith))
+pub value_writes : (b : ℕ) → 48 ≤ b → b ≤ 102 → (b + 31) % 64 ≤ 24 → value_of b < 16
+value_writes b g h e = elim (dec_lt b 58) [
+  | yes a ↦ omega (arith, value_ten b g a)
+  | no a ↦ let c : 97 ≤ b = omega arith in omega (arith, value_six b c (omega arith))
 ]
 
 -- a digit of base m is one of base 16 that is below m
-pub value-test : (m b : ℕ) → m ≤ 16 → ltb (value_of b) m ≡ isDigit m b
-unfolding value_of isDigit
-value-test m b h = go (eqb (digit (digitOf b)) b) (ltb (digitOf b) 16) refl
+pub value_test : (m b : ℕ) → m ≤ 16 → ltb (value_of b) m ≡ is_digit m b
+unfolding value_of is_digit
+value_test m b h = go (eqb (digit (digit_of b)) b) (ltb (digit_of b) 16) refl
   where
-    go : (t u : Bool) → ltb (digitOf b) 16 ≡ u → ltb (pick (t && u) (digitOf b) 16) m ≡ t && ltb (digitOf b) m
+    go : (t u : Bool) → ltb (digit_of b) 16 ≡ u → ltb (pick (t && u) (digit_of b) 16) m ≡ t && ltb (digit_of b) m
     go true true e = refl
-    go true false e = rw (le-ltb 16 m h) (sym (le-ltb (digitOf b) m (let w : 16 ≤ digitOf b = ltb-false (digitOf b) 16 e in omega arith)))
+    go true false e = rw (le-ltb 16 m h) (sym (le-ltb (digit_of b) m (let w : 16 ≤ digit_of b = ltb-false (digit_of b) 16 e in omega arith)))
     go false u e = le-ltb 16 m h
 
-pub value-of : (m b : ℕ) → m ≤ 16 → isDigit m b ≡ true → value_of b ≡ digitOf b
-unfolding value_of isDigit
-value-of m b h e = rw (and_left (eqb (digit (digitOf b)) b) (ltb (digitOf b) m) e, lt-ltb (digitOf b) 16 (let w : digitOf b < m = digit-below m b e in omega arith))
+pub value_of_lem : (m b : ℕ) → m ≤ 16 → is_digit m b ≡ true → value_of b ≡ digit_of b
+unfolding value_of is_digit
+value_of_lem m b h e = rw (and_left (eqb (digit (digit_of b)) b) (ltb (digit_of b) m) e, lt-ltb (digit_of b) 16 (let w : digit_of b < m = digit_below m b e in omega arith))

@@ -6,17 +6,17 @@ use Prim.Native.Nat.{ℕ, ◌+◌}
 use native.Mathlib.Omega.{arith}
 use lib.ListN.{length}
 use Rattle.edit_format.specs.Items.{Item}
-use Rattle.edit_format.specs.Reading.{State, bad, key, gap, num, open', after, form, firstItem, step, run, Found, Accepted, Refused, finish, readFile}
+use Rattle.edit_format.specs.Reading.{State, bad, key, gap, num, open', after, form, first_item, step, run, Found, Accepted, Refused, finish, read_file}
 
-pub run-append : (s : State) (p q : List ℕ) → run s (p ++ q) ≡ run (run s p) q
+pub run_append : (s : State) (p q : List ℕ) → run s (p ++ q) ≡ run (run s p) q
 unfolding run
-run-append s [] q = refl
-run-append s (b ∷ p) q = run-append (step s b) p q
+run_append s [] q = refl
+run_append s (b ∷ p) q = run_append (step s b) p q
 
-pub run-bad : (l : ℕ) (q : List ℕ) → run (bad l) q ≡ bad l
+pub run_bad : (l : ℕ) (q : List ℕ) → run (bad l) q ≡ bad l
 unfolding run step
-run-bad l [] = refl
-run-bad l (b ∷ q) = run-bad l q
+run_bad l [] = refl
+run_bad l (b ∷ q) = run_bad l q
 
 pub never : {l : ℕ} {is : List Item} → ◌≡◌ {A = Found} (Refused l) (Accepted is) → ⊥
 never p = let z : ◌≡◌ {A = ℕ} 0 1 = cc in omega arith
@@ -29,10 +29,10 @@ more (key l i) b q e = absurd (never e)
 more (gap l cs) b q e = absurd (never e)
 more (num l cs n) b q e = absurd (never e)
 more (open' h is) b q e = absurd (never e)
-more (after h is) b q e = (firstItem h + length is + 1, rw (run-bad (firstItem h + length is + 1) q))
+more (after h is) b q e = (first_item h + length is + 1, rw (run_bad (first_item h + length is + 1) q))
 
-pub no-beginning : (p : List ℕ) (b : ℕ) (q : List ℕ) {is js : List Item} → readFile p ≡ Accepted is → readFile (p ++ b ∷ q) ≡ Accepted js → ⊥
-unfolding readFile
-no-beginning p b q e f =
+pub no_beginning : (p : List ℕ) (b : ℕ) (q : List ℕ) {is js : List Item} → read_file p ≡ Accepted is → read_file (p ++ b ∷ q) ≡ Accepted js → ⊥
+unfolding read_file
+no_beginning p b q e f =
     let m = more (run (key form 0) p) b q e in
-    never (sym m.1 ∙ ap finish (sym (run-append (key form 0) p (b ∷ q))) ∙ f)
+    never (sym m.1 ∙ ap finish (sym (run_append (key form 0) p (b ∷ q))) ∙ f)

@@ -7,36 +7,36 @@ use native.Mathlib.Nat.{add-zero, add_assoc}
 use native.Mathlib.Omega.{arith}
 use lib.ListN.{length, length-append}
 use Rattle.edit_format.specs.Items.{Item, Keep, Drop, Add, added}
-use Rattle.edit_format.specs.Records.{recordOf, size, recordsFrom, recordsOf}
+use Rattle.edit_format.specs.Records.{record_of, size, records_from, records_of}
 
-pub length-record : (at : ℕ) (x : Item) → length (recordOf at x) ≡ 3
-unfolding recordOf
-length-record at (Keep n) = refl
-length-record at (Drop n) = refl
-length-record at (Add cs) = refl
+pub length_record : (at : ℕ) (x : Item) → length (record_of at x) ≡ 3
+unfolding record_of
+length_record at (Keep n) = refl
+length_record at (Drop n) = refl
+length_record at (Add cs) = refl
 
-length_from : (at : ℕ) (is : List Item) → length (recordsFrom at is) ≡ 3 * length is
-unfolding recordsFrom
+length_from : (at : ℕ) (is : List Item) → length (records_from at is) ≡ 3 * length is
+unfolding records_from
 length_from at [] = refl
-length_from at (x ∷ is) = length-append (recordOf at x) (recordsFrom (at + size x) is) ∙ omega (arith, length-record at x, length_from (at + size x) is)
+length_from at (x ∷ is) = length-append (record_of at x) (records_from (at + size x) is) ∙ omega (arith, length_record at x, length_from (at + size x) is)
 
-pub length-records : (is : List Item) → length (recordsOf is) ≡ 3 * length is
-unfolding recordsOf
-length-records is = length_from 0 is
+pub length_records : (is : List Item) → length (records_of is) ≡ 3 * length is
+unfolding records_of
+length_records is = length_from 0 is
 
-pub added-cons : (x : Item) (is : List Item) → added (x ∷ is) ≡ size x + added is
+pub added_cons : (x : Item) (is : List Item) → added (x ∷ is) ≡ size x + added is
 unfolding added size
-added-cons (Keep n) is = omega arith
-added-cons (Drop n) is = omega arith
-added-cons (Add cs) is = refl
+added_cons (Keep n) is = omega arith
+added_cons (Drop n) is = omega arith
+added_cons (Add cs) is = refl
 
-from-snoc : (at : ℕ) (is : List Item) (x : Item) → recordsFrom at (is ++ x ∷ []) ≡ recordsFrom at is ++ recordOf (at + added is) x
-unfolding recordsFrom added
-from-snoc at [] x = rw (add-zero at) (append-nil (recordOf at x))
-from-snoc at (y ∷ is) x =
-    rw (from-snoc (at + size y) is x, added-cons y is, ← add_assoc at (size y) (added is))
-    (sym (append_assoc (recordOf at y) (recordsFrom (at + size y) is) (recordOf (at + size y + added is) x)))
+from_snoc : (at : ℕ) (is : List Item) (x : Item) → records_from at (is ++ x ∷ []) ≡ records_from at is ++ record_of (at + added is) x
+unfolding records_from added
+from_snoc at [] x = rw (add-zero at) (append-nil (record_of at x))
+from_snoc at (y ∷ is) x =
+    rw (from_snoc (at + size y) is x, added_cons y is, ← add_assoc at (size y) (added is))
+    (sym (append_assoc (record_of at y) (records_from (at + size y) is) (record_of (at + size y + added is) x)))
 
-pub records-snoc : (is : List Item) (x : Item) → recordsOf (is ++ x ∷ []) ≡ recordsOf is ++ recordOf (added is) x
-unfolding recordsOf
-records-snoc is x = from-snoc 0 is x ∙ (let e : 0 + added is ≡ added is = omega arith in rw e)
+pub records_snoc : (is : List Item) (x : Item) → records_of (is ++ x ∷ []) ≡ records_of is ++ record_of (added is) x
+unfolding records_of
+records_snoc is x = from_snoc 0 is x ∙ (let e : 0 + added is ≡ added is = omega arith in rw e)

@@ -6,16 +6,16 @@ use native.Mathlib.Omega.{arith}
 use lib.ListN.{length, length-append}
 use Rattle.edit_format.specs.Items.{Item, Keep, Drop, Add, added, texts}
 
-pub texts-append : (p q : List Item) → texts (p ++ q) ≡ texts p ++ texts q
+pub texts_append : (p q : List Item) → texts (p ++ q) ≡ texts p ++ texts q
 unfolding texts
-texts-append [] q = refl
-texts-append (Keep n ∷ p) q = texts-append p q
-texts-append (Drop n ∷ p) q = texts-append p q
-texts-append (Add cs ∷ p) q = rw (texts-append p q) (sym (append_assoc cs (texts p) (texts q)))
+texts_append [] q = refl
+texts_append (Keep n ∷ p) q = texts_append p q
+texts_append (Drop n ∷ p) q = texts_append p q
+texts_append (Add cs ∷ p) q = rw (texts_append p q) (sym (append_assoc cs (texts p) (texts q)))
 
-pub texts-length : (is : List Item) → length (texts is) ≡ added is
+pub texts_length : (is : List Item) → length (texts is) ≡ added is
 unfolding texts added
-texts-length [] = refl
-texts-length (Keep n ∷ is) = texts-length is
-texts-length (Drop n ∷ is) = texts-length is
-texts-length (Add cs ∷ is) = omega (arith, length-append cs (texts is), texts-length is)
+texts_length [] = refl
+texts_length (Keep n ∷ is) = texts_length is
+texts_length (Drop n ∷ is) = texts_length is
+texts_length (Add cs ∷ is) = omega (arith, length-append cs (texts is), texts_length is)

@@ -1,7 +1,7 @@
 -- What it is for the lines before a line to be good. Assumes nothing.
 use Rattle.std.specs.Prelude.{◌≡◌, ℕ, ◌+◌, List, [], ◌∷◌, ◌++◌, length, eqb}
 use Rattle.room.specs.Choice.{pick}
-use Rattle.edit_format.specs.Reading.{State, bad, key, gap, num, open', after, form, firstItem, lineNo, run}
+use Rattle.edit_format.specs.Reading.{State, bad, key, gap, num, open', after, form, first_item, line_no, run}
 
 -- "Lines end in LF": how many lines end in these bytes
 unfoldable pub ends : List ℕ → ℕ
@@ -11,11 +11,11 @@ ends (b ∷ bs) = pick (eqb b 10) 1 0 + ends bs
 -- the reader stands at the start of line l: every line before it was read, and is good
 abbrev pub Starts : ℕ → State → Type 0
 Starts l (bad k) = ⊥
-Starts l (key k i) = (i ≡ 0) × (lineNo k ≡ l)
+Starts l (key k i) = (i ≡ 0) × (line_no k ≡ l)
 Starts l (gap k cs) = ⊥
 Starts l (num k cs n) = ⊥
-Starts l (open' h is) = firstItem h + length is ≡ l
-Starts l (after h is) = firstItem h + length is + 1 ≡ l
+Starts l (open' h is) = first_item h + length is ≡ l
+Starts l (after h is) = first_item h + length is + 1 ≡ l
 
 -- q is all lines before line l, and each of them is good
 pub record Before (l : ℕ) (q : List ℕ) : Type 0 where

@@ -2,10 +2,10 @@
 -- read, so what is found so far is in plain sight, and a file read in parts takes the same steps. Assumes nothing.
 use Rattle.std.specs.Prelude.{◌≡◌, ℕ, suc, ◌+◌, ◌*◌, Bool, true, false, not, ◌&&◌, List, [], ◌∷◌, ◌++◌, length, get_or, ltb, leb, eqb}
 use Rattle.room.specs.Choice.{pick}
-use Rattle.edit_format.specs.Digits.{digitOf, isDigit}
-use Rattle.numbers.specs.Points.{isPoint}
-use Rattle.edit_format.specs.Items.{Item, Keep, Drop, Add, kept, dropped, added, endsKeep}
-use Rattle.edit_format.specs.Written.{Head, formKey, originalKey, resultKey, itemsKey, keepKey, dropKey, addKey, endKey}
+use Rattle.edit_format.specs.Digits.{digit_of, is_digit}
+use Rattle.numbers.specs.Points.{is_point}
+use Rattle.edit_format.specs.Items.{Item, Keep, Drop, Add, kept, dropped, added, ends_keep}
+use Rattle.edit_format.specs.Written.{Head, form_key, original_key, result_key, items_key, keep_key, drop_key, add_key, end_key}
 
 -- "`keep=`, `drop=` or `add=`": the kinds of an item's line
 pub data Kind : Type 0 where
@@ -20,12 +20,12 @@ pub data Line : Type 0 where
   ending : Head → List Item → Line
 
 -- "`form=1`, `original=`, `result=`, `items=`, that many of ..": the line of the first item, behind the header's lines
-unfoldable pub firstItem : Head → ℕ
-firstItem h = 5
+unfoldable pub first_item : Head → ℕ
+first_item h = 5
 
 -- "a false sum is charged to line 2, then 3": the line of `result=`
-unfoldable pub resultLine : Head → ℕ
-resultLine h = 3
+unfoldable pub result_line : Head → ℕ
+result_line h = 3
 
 -- "`form=1`, `original=`, `result=`, `items=`": the lines of the header
 unfoldable pub heading : Line → Bool
@@ -37,29 +37,29 @@ heading (item h is k) = false
 heading (ending h is) = false
 
 -- "first bad line, from 1"
-unfoldable pub lineNo : Line → ℕ
-lineNo form = 1
-lineNo original = 2
-lineNo (result o) = 3
-lineNo (items o r) = 4
-lineNo (item h is k) = firstItem h + length is
-lineNo (ending h is) = firstItem h + length is
+unfoldable pub line_no : Line → ℕ
+line_no form = 1
+line_no original = 2
+line_no (result o) = 3
+line_no (items o r) = 4
+line_no (item h is k) = first_item h + length is
+line_no (ending h is) = first_item h + length is
 
 -- "`keep=`, `drop=` or `add=`": the key of each kind
-unfoldable pub kindKey : Kind → List ℕ
-kindKey keeping = keepKey
-kindKey dropping = dropKey
-kindKey adding = addKey
+unfoldable pub kind_key : Kind → List ℕ
+kind_key keeping = keep_key
+kind_key dropping = drop_key
+kind_key adding = add_key
 
 -- "`form=1`, `original=`, `result=`, `items=`, that many of `keep=`, `drop=` or `add=`, then `end=`"
 unfoldable pub key_of : Line → List ℕ
-unfolding kindKey
-key_of form = formKey
-key_of original = originalKey
-key_of (result o) = resultKey
-key_of (items o r) = itemsKey
-key_of (item h is k) = kindKey k
-key_of (ending h is) = endKey
+unfolding kind_key
+key_of form = form_key
+key_of original = original_key
+key_of (result o) = result_key
+key_of (items o r) = items_key
+key_of (item h is k) = kind_key k
+key_of (ending h is) = end_key
 
 -- "`add=` one or more code points in lower-case hex": this kind alone
 unfoldable pub hexes : Kind → Bool
@@ -83,20 +83,20 @@ unfolding several
 base l = pick (several l) 16 10
 
 -- "keep and drop are at least 1; two keeps never follow each other", "a total over its size to the line that passes it"
-unfoldable pub fitsItem : List Item → Kind → List ℕ → ℕ → Bool
-fitsItem is keeping cs n = not (endsKeep is) && (leb 1 n && leb (kept is + dropped is + n) 65535)
-fitsItem is dropping cs n = leb 1 n && leb (kept is + dropped is + n) 65535
-fitsItem is adding cs n = isPoint n && leb (added is + length cs + 1) 131070
+unfoldable pub fits_item : List Item → Kind → List ℕ → ℕ → Bool
+fits_item is keeping cs n = not (ends_keep is) && (leb 1 n && leb (kept is + dropped is + n) 65535)
+fits_item is dropping cs n = leb 1 n && leb (kept is + dropped is + n) 65535
+fits_item is adding cs n = is_point n && leb (added is + length cs + 1) 131070
 
 -- the number n, with the numbers cs before it in its line, breaks no rule there: "`form=1`", "Sizes as above", "`result=` has no size",
 -- "`end=` with the item count"
 unfoldable pub fits : Line → List ℕ → ℕ → Bool
-unfolding fitsItem
+unfolding fits_item
 fits form cs n = eqb n 1
 fits original cs n = leb n 65535
 fits (result o) cs n = true
 fits (items o r) cs n = leb n 8192
-fits (item h is k) cs n = ltb (length is) 8192 && fitsItem is k cs n
+fits (item h is k) cs n = ltb (length is) 8192 && fits_item is k cs n
 fits (ending h is) cs n = eqb n h.count
 
 -- "Lines end in LF, in this order": where the reader stands between two bytes
@@ -117,11 +117,11 @@ pub data State : Type 0 where
 -- "first bad line, from 1": the line that the reader is in
 abbrev pub line : State → ℕ
 line (bad l) = l
-line (key l i) = lineNo l
-line (gap l cs) = lineNo l
-line (num l cs n) = lineNo l
-line (open' h is) = firstItem h + length is
-line (after h is) = firstItem h + length is + 1
+line (key l i) = line_no l
+line (gap l cs) = line_no l
+line (num l cs n) = line_no l
+line (open' h is) = first_item h + length is
+line (after h is) = first_item h + length is + 1
 
 -- "`keep=`, `drop=` or `add=`": an item's kind, by the first byte of its line; a byte that begins no key is found to be bad by the key
 unfoldable pub kind_of : ℕ → Kind
@@ -149,23 +149,23 @@ next (ending h is) cs n = after h is
 
 -- "Numbers are decimal", "in lower-case hex": a number's first digit
 unfoldable pub begun : Line → List ℕ → ℕ → State
-begun l cs b = pick (isDigit (base l) b) (num l cs (digitOf b)) (bad (lineNo l))
+begun l cs b = pick (is_digit (base l) b) (num l cs (digit_of b)) (bad (line_no l))
 
 -- "`form=1`, `original=`, `result=`, `items=`, that many of `keep=`, `drop=` or `add=`": a byte of the key, or past it
 unfoldable pub keyed : Line → ℕ → ℕ → State
 keyed l i b =
     pick (ltb i (length (key_of l)))
-    (pick (eqb b (get_or (key_of l) i 0)) (key l (suc i)) (bad (lineNo l)))
+    (pick (eqb b (get_or (key_of l) i 0)) (key l (suc i)) (bad (line_no l)))
     (begun l [] b)
 
 -- "no leading zeros", "one space between", "Lines end in LF": a number's next digit, or LF, or a space
 unfoldable pub numbered : Line → List ℕ → ℕ → ℕ → State
 numbered l cs n b =
-    pick (isDigit (base l) b)
-    (pick (eqb n 0) (bad (lineNo l)) (num l cs (n * base l + digitOf b)))
+    pick (is_digit (base l) b)
+    (pick (eqb n 0) (bad (line_no l)) (num l cs (n * base l + digit_of b)))
     (pick (fits l cs n)
-    (pick (eqb b 10) (next l cs n) (pick (several l && eqb b 32) (gap l (cs ++ n ∷ [])) (bad (lineNo l))))
-    (bad (lineNo l)))
+    (pick (eqb b 10) (next l cs n) (pick (several l && eqb b 32) (gap l (cs ++ n ∷ [])) (bad (line_no l))))
+    (bad (line_no l)))
 
 -- one byte more; "bytes after the end to the line after"
 unfoldable pub step : State → ℕ → State
@@ -175,7 +175,7 @@ step (key l i) b = keyed l i b
 step (gap l cs) b = begun l cs b
 step (num l cs n) b = numbered l cs n b
 step (open' h is) b = keyed (item h is (kind_of b)) 0 b
-step (after h is) b = bad (firstItem h + length is + 1)
+step (after h is) b = bad (first_item h + length is + 1)
 
 -- "Lines end in LF, in this order": one step for each byte
 unfoldable pub run : State → List ℕ → State
@@ -197,13 +197,13 @@ pub data Found : Type 0 where
 -- "An early end is charged to the line cut or missing"; "with all lines good a false sum is charged to line 2, then 3"
 unfoldable pub finish : State → Found
 finish (bad l) = Refused l
-finish (key l i) = Refused (lineNo l)
-finish (gap l cs) = Refused (lineNo l)
-finish (num l cs n) = Refused (lineNo l)
-finish (open' h is) = Refused (firstItem h + length is)
+finish (key l i) = Refused (line_no l)
+finish (gap l cs) = Refused (line_no l)
+finish (num l cs n) = Refused (line_no l)
+finish (open' h is) = Refused (first_item h + length is)
 finish (after h is) =
     pick (eqb (kept is + dropped is) h.original)
-    (pick (eqb (kept is + added is) h.result) (Accepted is) (Refused (resultLine h)))
+    (pick (eqb (kept is + added is) h.result) (Accepted is) (Refused (result_line h)))
     (Refused 2)
 
 -- what is found in the bytes that are left
@@ -211,8 +211,8 @@ abbrev pub found : State → List ℕ → Found
 found s bs = finish (run s bs)
 
 -- "Lines end in LF, in this order: `form=1`, ..": what is found in the bytes of a file
-unfoldable pub readFile : List ℕ → Found
-readFile bs = finish (run (key form 0) bs)
+unfoldable pub read_file : List ℕ → Found
+read_file bs = finish (run (key form 0) bs)
 
 -- "A file is believed for an original when it is accepted and its counts fit, `original=` being its length"
 unfoldable pub believes : Found → ℕ → Bool

@@ -4,40 +4,40 @@ use Rattle.edit_format.specs.Digits.{digits}
 use Rattle.edit_format.specs.Items.{Item, Keep, Drop, Add, kept, dropped, added}
 
 -- "`form=1`, `original=`, `result=`, `items=`, that many of `keep=`, `drop=` or `add=`, then `end=`": the keys, in ASCII
-abbrev pub formKey : List ℕ
-formKey = 102 ∷ 111 ∷ 114 ∷ 109 ∷ 61 ∷ []
+abbrev pub form_key : List ℕ
+form_key = 102 ∷ 111 ∷ 114 ∷ 109 ∷ 61 ∷ []
 
 -- "`original=`"
-abbrev pub originalKey : List ℕ
-originalKey = 111 ∷ 114 ∷ 105 ∷ 103 ∷ 105 ∷ 110 ∷ 97 ∷ 108 ∷ 61 ∷ []
+abbrev pub original_key : List ℕ
+original_key = 111 ∷ 114 ∷ 105 ∷ 103 ∷ 105 ∷ 110 ∷ 97 ∷ 108 ∷ 61 ∷ []
 
 -- "`result=`"
-abbrev pub resultKey : List ℕ
-resultKey = 114 ∷ 101 ∷ 115 ∷ 117 ∷ 108 ∷ 116 ∷ 61 ∷ []
+abbrev pub result_key : List ℕ
+result_key = 114 ∷ 101 ∷ 115 ∷ 117 ∷ 108 ∷ 116 ∷ 61 ∷ []
 
 -- "`items=`"
-abbrev pub itemsKey : List ℕ
-itemsKey = 105 ∷ 116 ∷ 101 ∷ 109 ∷ 115 ∷ 61 ∷ []
+abbrev pub items_key : List ℕ
+items_key = 105 ∷ 116 ∷ 101 ∷ 109 ∷ 115 ∷ 61 ∷ []
 
 -- "`keep=`"
-abbrev pub keepKey : List ℕ
-keepKey = 107 ∷ 101 ∷ 101 ∷ 112 ∷ 61 ∷ []
+abbrev pub keep_key : List ℕ
+keep_key = 107 ∷ 101 ∷ 101 ∷ 112 ∷ 61 ∷ []
 
 -- "`drop=`"
-abbrev pub dropKey : List ℕ
-dropKey = 100 ∷ 114 ∷ 111 ∷ 112 ∷ 61 ∷ []
+abbrev pub drop_key : List ℕ
+drop_key = 100 ∷ 114 ∷ 111 ∷ 112 ∷ 61 ∷ []
 
 -- "`add=`"
-abbrev pub addKey : List ℕ
-addKey = 97 ∷ 100 ∷ 100 ∷ 61 ∷ []
+abbrev pub add_key : List ℕ
+add_key = 97 ∷ 100 ∷ 100 ∷ 61 ∷ []
 
 -- "`end=`"
-abbrev pub endKey : List ℕ
-endKey = 101 ∷ 110 ∷ 100 ∷ 61 ∷ []
+abbrev pub end_key : List ℕ
+end_key = 101 ∷ 110 ∷ 100 ∷ 61 ∷ []
 
 -- "Numbers are decimal", "Lines end in LF"
-unfoldable pub numberLine : List ℕ → ℕ → List ℕ
-numberLine k n = k ++ digits 10 n ++ 10 ∷ []
+unfoldable pub number_line : List ℕ → ℕ → List ℕ
+number_line k n = k ++ digits 10 n ++ 10 ∷ []
 
 -- "one or more code points in lower-case hex, one space between"
 unfoldable pub points : List ℕ → List ℕ
@@ -46,15 +46,15 @@ points (c ∷ []) = digits 16 c
 points (c ∷ d ∷ cs) = digits 16 c ++ 32 ∷ points (d ∷ cs)
 
 -- "`keep=`, `drop=` or `add=`": an item's line
-unfoldable pub itemLine : Item → List ℕ
-itemLine (Keep n) = numberLine keepKey n
-itemLine (Drop n) = numberLine dropKey n
-itemLine (Add cs) = addKey ++ points cs ++ 10 ∷ []
+unfoldable pub item_line : Item → List ℕ
+item_line (Keep n) = number_line keep_key n
+item_line (Drop n) = number_line drop_key n
+item_line (Add cs) = add_key ++ points cs ++ 10 ∷ []
 
 -- "that many of `keep=`, `drop=` or `add=`": the items' lines, in order
-unfoldable pub itemLines : List Item → List ℕ
-itemLines [] = []
-itemLines (i ∷ is) = itemLine i ++ itemLines is
+unfoldable pub item_lines : List Item → List ℕ
+item_lines [] = []
+item_lines (i ∷ is) = item_line i ++ item_lines is
 
 -- "`original=`, `result=`, `items=`": what the header says
 pub record Head : Type 0 where
@@ -63,8 +63,8 @@ pub record Head : Type 0 where
   pub count : ℕ
 
 -- "in this order: `form=1`, `original=`, `result=`, `items=`"
-unfoldable pub headLines : Head → List ℕ
-headLines h = numberLine formKey 1 ++ numberLine originalKey h.original ++ numberLine resultKey h.result ++ numberLine itemsKey h.count
+unfoldable pub head_lines : Head → List ℕ
+head_lines h = number_line form_key 1 ++ number_line original_key h.original ++ number_line result_key h.result ++ number_line items_key h.count
 
 -- "Keep plus drop is original, keep plus added is result"
 unfoldable pub head_of : List Item → Head
@@ -72,4 +72,4 @@ head_of is = record { original = kept is + dropped is; result = kept is + added 
 
 -- "then `end=` with the item count, and nothing after"
 unfoldable pub written : List Item → List ℕ
-written is = headLines (head_of is) ++ itemLines is ++ numberLine endKey (length is)
+written is = head_lines (head_of is) ++ item_lines is ++ number_line end_key (length is)

@@ -11,7 +11,7 @@ use lib.ListN.{length, get_or, drop}
 use lib.Seq.{drop-cons, drop-length}
 use lib.Dec.{eqb}
 use borrow.Author.Tests.{eq-eqb, ne_eqb}
-use Rattle.room.proofs.Bools.{and_right, and-false}
+use Rattle.room.proofs.Bools.{and_right, and_false}
 use Rattle.room.proofs.Choices.{no_way}
 use Rattle.edit_format.specs.Tests.{begins}
 
@@ -19,7 +19,7 @@ pub short : (k s : List ℕ) → length s < length k → begins k s ≡ false
 unfolding begins
 short [] s h = absurd (not-suc-le-zero h)
 short (k ∷ ks) [] h = refl
-short (k ∷ ks) (x ∷ xs) h = ap (λ (t : Bool). eqb x k && t) (short ks xs (le_of_suc-le-suc h)) ∙ and-false (eqb x k)
+short (k ∷ ks) (x ∷ xs) h = ap (λ (t : Bool). eqb x k && t) (short ks xs (le_of_suc-le-suc h)) ∙ and_false (eqb x k)
 
 -- one byte more of both
 step : (k s : List ℕ) (i j : ℕ) → i < length k → j < length s → begins (drop i k) (drop j s) ≡ eqb (get_or s j 0) (get_or k i 0) && begins (drop (suc i) k) (drop (suc j) s)

@@ -11,51 +11,51 @@ use lib.ListN.{length, get_or, drop, drop_of_length-le, get_or-eq_default}
 use lib.Seq.{drop-cons}
 use lib.Dec.{eqb}
 use borrow.Author.Tests.{lt-ltb, le-ltb, eq-eqb, ne_eqb}
-use Rattle.edit_format.specs.Digits.{isDigit, value_of}
-use Rattle.edit_format.proofs.DigitLaws.{value-test, value-of}
+use Rattle.edit_format.specs.Digits.{is_digit, value_of}
+use Rattle.edit_format.proofs.DigitLaws.{value_test, value_of_lem}
 use Rattle.edit_lines.specs.Scan.{cap, more, scan}
 use Rattle.edit_lines.specs.declared.Number.TheVariants.{Value, Bad}
 
-pub product-fits : {n m d : ℕ} → n ≤ 2000000 → m ≤ 16 → d ≤ 16 → n * m + d ≤ 32000016
-product-fits h g f = let w = mul-le-mul h g in omega (arith, w)
+pub product_fits : {n m d : ℕ} → n ≤ 2000000 → m ≤ 16 → d ≤ 16 → n * m + d ≤ 32000016
+product_fits h g f = let w = mul-le-mul h g in omega (arith, w)
 
-is_digit : (m b : ℕ) → m ≤ 16 → value_of b < m → isDigit m b ≡ true
-is_digit m b h g = sym (value-test m b h) ∙ lt-ltb (value_of b) m g
+is_digit : (m b : ℕ) → m ≤ 16 → value_of b < m → is_digit m b ≡ true
+is_digit m b h g = sym (value_test m b h) ∙ lt-ltb (value_of b) m g
 
-is_none : (m b : ℕ) → m ≤ 16 → m ≤ value_of b → isDigit m b ≡ false
-is_none m b h g = sym (value-test m b h) ∙ le-ltb (value_of b) m g
+is_none : (m b : ℕ) → m ≤ 16 → m ≤ value_of b → is_digit m b ≡ false
+is_none m b h g = sym (value_test m b h) ∙ le-ltb (value_of b) m g
 
 pub at_byte : (p : List ℕ) (i : ℕ) → i < length p → drop i p ≡ get_or p i 0 ∷ drop (i + 1) p
 at_byte p i h = rw (add-one i) (drop-cons p i 0 h)
 
 module _ (p : List ℕ) (m i : ℕ) (small : m ≤ 16) where
-  pub scan-end : length p ≤ i → scan m i (drop i p) ≡ Bad
+  pub scan_end : length p ≤ i → scan m i (drop i p) ≡ Bad
   unfolding scan
-  scan-end h = rw (drop_of_length-le p h)
+  scan_end h = rw (drop_of_length-le p h)
 
-  pub scan-none : i < length p → m ≤ value_of (get_or p i 0) → scan m i (drop i p) ≡ Bad
+  pub scan_none : i < length p → m ≤ value_of (get_or p i 0) → scan m i (drop i p) ≡ Bad
   unfolding scan
-  scan-none h g = rw (at_byte p i h, is_none m (get_or p i 0) small g)
+  scan_none h g = rw (at_byte p i h, is_none m (get_or p i 0) small g)
 
-  pub scan-on : i < length p → value_of (get_or p i 0) < m → scan m i (drop i p) ≡ more m (value_of (get_or p i 0)) (i + 1) (drop (i + 1) p)
+  pub scan_on : i < length p → value_of (get_or p i 0) < m → scan m i (drop i p) ≡ more m (value_of (get_or p i 0)) (i + 1) (drop (i + 1) p)
   unfolding scan
-  scan-on h g = rw (at_byte p i h, is_digit m (get_or p i 0) small g, value-of m (get_or p i 0) small (is_digit m (get_or p i 0) small g))
+  scan_on h g = rw (at_byte p i h, is_digit m (get_or p i 0) small g, value_of_lem m (get_or p i 0) small (is_digit m (get_or p i 0) small g))
 
-  pub more-end : (n : ℕ) → length p ≤ i → more m n i (drop i p) ≡ Value n i
+  pub more_end : (n : ℕ) → length p ≤ i → more m n i (drop i p) ≡ Value n i
   unfolding more
-  more-end n h = rw (drop_of_length-le p h)
+  more_end n h = rw (drop_of_length-le p h)
 
-  pub more-none : (n : ℕ) → i < length p → m ≤ value_of (get_or p i 0) → more m n i (drop i p) ≡ Value n i
+  pub more_none : (n : ℕ) → i < length p → m ≤ value_of (get_or p i 0) → more m n i (drop i p) ≡ Value n i
   unfolding more
-  more-none n h g = rw (at_byte p i h, is_none m (get_or p i 0) small g)
+  more_none n h g = rw (at_byte p i h, is_none m (get_or p i 0) small g)
 
-  pub more-zero : (n : ℕ) → i < length p → value_of (get_or p i 0) < m → n ≡ 0 → more m n i (drop i p) ≡ Bad
+  pub more_zero : (n : ℕ) → i < length p → value_of (get_or p i 0) < m → n ≡ 0 → more m n i (drop i p) ≡ Bad
   unfolding more
-  more-zero n h g z = rw (at_byte p i h, is_digit m (get_or p i 0) small g, eq-eqb n 0 z)
+  more_zero n h g z = rw (at_byte p i h, is_digit m (get_or p i 0) small g, eq-eqb n 0 z)
 
-  pub more-on : (n : ℕ) → i < length p → value_of (get_or p i 0) < m → (n ≡ 0 → ⊥) → more m n i (drop i p) ≡ more m (cap (n * m + value_of (get_or p i 0))) (i + 1) (drop (i + 1) p)
+  pub more_on : (n : ℕ) → i < length p → value_of (get_or p i 0) < m → (n ≡ 0 → ⊥) → more m n i (drop i p) ≡ more m (cap (n * m + value_of (get_or p i 0))) (i + 1) (drop (i + 1) p)
   unfolding more
-  more-on n h g z = rw (at_byte p i h, is_digit m (get_or p i 0) small g, ne_eqb n 0 z, value-of m (get_or p i 0) small (is_digit m (get_or p i 0) small g))
+  more_on n h g z = rw (at_byte p i h, is_digit m (get_or p i 0) small g, ne_eqb n 0 z, value_of_lem m (get_or p i 0) small (is_digit m (get_or p i 0) small g))
 
 -- past the end stands no LF and no space
 pub past_end : (p : List ℕ) (i b : ℕ) → length p ≤ i → 0 < b → eqb (get_or p i 0) b ≡ false

@@ -11,33 +11,33 @@ use lib.Dec.{eqb}
 use borrow.Author.Tests.{eqb-true, eq-eqb}
 use Rattle.room.specs.Choice.{pick}
 use Rattle.edit_format.specs.Tests.{begins}
-use Rattle.edit_format.specs.Digits.{digitOf, isDigit, value_of}
-use Rattle.edit_format.proofs.DigitLaws.{value_low, value-ten, value-gap, value-six, value-high}
-use Rattle.edit_lines.specs.Scan.{cap, more, scan, closedAt, line_at, Closes}
+use Rattle.edit_format.specs.Digits.{digit_of, is_digit, value_of}
+use Rattle.edit_format.proofs.DigitLaws.{value_low, value_ten, value_gap, value_six, value_high}
+use Rattle.edit_lines.specs.Scan.{cap, more, scan, closed_at, line_at, Closes}
 use Rattle.edit_lines.specs.declared.Number.{Number}
 use Rattle.edit_lines.specs.declared.Number.TheVariants.{Value, Bad}
-use Rattle.edit_lines.proofs.Leaves.{scan-end, scan-none, scan-on, more-end, more-none, more-zero, more-on}
+use Rattle.edit_lines.proofs.Leaves.{scan_end, scan_none, scan_on, more_end, more_none, more_zero, more_on}
 
 never : {A : Type 0} {n i : ℕ} → Bad ≡ Value n i → A
 never e = let z : ◌≡◌ {A = ℕ} 0 1 = cc in absurd (omega arith)
 
-same-value : {n m i j : ℕ} → Value n i ≡ Value m j → n ≡ m
-same-value e = cc
+same_value : {n m i j : ℕ} → Value n i ≡ Value m j → n ≡ m
+same_value e = cc
 
 same_next : {n m i j : ℕ} → Value n i ≡ Value m j → i ≡ j
 same_next e = cc
 
 -- a decimal digit is one of ten bytes
-ten-only : (b : ℕ) → value_of b < 10 → (48 ≤ b) × (b < 58)
-ten-only b h = elim (dec_lt b 48) [
+ten_only : (b : ℕ) → value_of b < 10 → (48 ≤ b) × (b < 58)
+ten_only b h = elim (dec_lt b 48) [
   | yes a ↦ absurd (omega (arith, value_low b a))
   | no a ↦ elim (dec_lt b 58) [
     | yes c ↦ (omega arith, c)
     | no c ↦ elim (dec_lt b 97) [
-      | yes d ↦ absurd (omega (arith, value-gap b (omega arith) d))
+      | yes d ↦ absurd (omega (arith, value_gap b (omega arith) d))
       | no d ↦ elim (dec_lt b 103) [
-        | yes e ↦ absurd (omega (arith, value-six b (omega arith) e))
-        | no e ↦ absurd (omega (arith, value-high b (omega arith)))
+        | yes e ↦ absurd (omega (arith, value_six b (omega arith) e))
+        | no e ↦ absurd (omega (arith, value_high b (omega arith)))
       ]
     ]
   ]
@@ -46,33 +46,33 @@ ten-only b h = elim (dec_lt b 48) [
 -- a number only grows
 grows : (n i : ℕ) (bs : List ℕ) (v j : ℕ) → n ≤ 2000000 → more 10 n i bs ≡ Value v j → n ≤ v
 unfolding more
-grows n i [] v j h e = omega (arith, same-value e)
-grows n i (b ∷ bs) v j h e = go (isDigit 10 b) (eqb n 0) (grows (cap (n * 10 + digitOf b)) (i + 1) bs v j (omega arith)) e
+grows n i [] v j h e = omega (arith, same_value e)
+grows n i (b ∷ bs) v j h e = go (is_digit 10 b) (eqb n 0) (grows (cap (n * 10 + digit_of b)) (i + 1) bs v j (omega arith)) e
   where
-    go : (t u : Bool) → (more 10 (cap (n * 10 + digitOf b)) (i + 1) bs ≡ Value v j → cap (n * 10 + digitOf b) ≤ v)
-        → pick t (pick u Bad (more 10 (cap (n * 10 + digitOf b)) (i + 1) bs)) (Value n i) ≡ Value v j → n ≤ v
+    go : (t u : Bool) → (more 10 (cap (n * 10 + digit_of b)) (i + 1) bs ≡ Value v j → cap (n * 10 + digit_of b) ≤ v)
+        → pick t (pick u Bad (more 10 (cap (n * 10 + digit_of b)) (i + 1) bs)) (Value n i) ≡ Value v j → n ≤ v
     go true true f e = never e
-    go true false f e = let w : cap (n * 10 + digitOf b) ≤ v = f e in omega arith
-    go false u f e = omega (arith, same-value e)
+    go true false f e = let w : cap (n * 10 + digit_of b) ≤ v = f e in omega arith
+    go false u f e = omega (arith, same_value e)
 
 -- a number with LF after it
-closes : (p : List ℕ) (r : Number) (v j : ℕ) → closedAt p r ≡ Value v j → (k : ℕ) × (r ≡ Value v k) × (get_or p k 0 ≡ 10)
-unfolding closedAt
+closes : (p : List ℕ) (r : Number) (v j : ℕ) → closed_at p r ≡ Value v j → (k : ℕ) × (r ≡ Value v k) × (get_or p k 0 ≡ 10)
+unfolding closed_at
 closes p Bad v j e = never e
 closes p (Value n i) v j e = go (eqb (get_or p i 0) 10) refl e
   where
     go : (t : Bool) → eqb (get_or p i 0) 10 ≡ t → pick t (Value n (i + 1)) Bad ≡ Value v j → (k : ℕ) × (Value n i ≡ Value v k) × (get_or p k 0 ≡ 10)
-    go true f e = (i, ap (λ (x : ℕ). Value x i) (same-value e), eqb-true (get_or p i 0) 10 f)
+    go true f e = (i, ap (λ (x : ℕ). Value x i) (same_value e), eqb-true (get_or p i 0) 10 f)
     go false f e = never e
 
 -- a line's key, and its number
-pub line-parts : (k p : List ℕ) (at v j : ℕ) → line_at k p at ≡ Value v j
-    → (begins k (drop at p) ≡ true) × (closedAt p (scan 10 (at + length k) (drop (at + length k) p)) ≡ Value v j)
+pub line_parts : (k p : List ℕ) (at v j : ℕ) → line_at k p at ≡ Value v j
+    → (begins k (drop at p) ≡ true) × (closed_at p (scan 10 (at + length k) (drop (at + length k) p)) ≡ Value v j)
 unfolding line_at
-line-parts k p at v j e = go (begins k (drop at p)) refl e
+line_parts k p at v j e = go (begins k (drop at p)) refl e
   where
-    go : (t : Bool) → begins k (drop at p) ≡ t → pick t (closedAt p (scan 10 (at + length k) (drop (at + length k) p))) Bad ≡ Value v j
-        → (begins k (drop at p) ≡ true) × (closedAt p (scan 10 (at + length k) (drop (at + length k) p)) ≡ Value v j)
+    go : (t : Bool) → begins k (drop at p) ≡ t → pick t (closed_at p (scan 10 (at + length k) (drop (at + length k) p))) Bad ≡ Value v j
+        → (begins k (drop at p) ≡ true) × (closed_at p (scan 10 (at + length k) (drop (at + length k) p)) ≡ Value v j)
     go true f e = (f, e)
     go false f e = never e
 
@@ -88,27 +88,27 @@ module _ {p : List ℕ} {at : ℕ} (a : Closes p at) where
   pub starts : at < length p
   starts = elim (dec_lt at (length p)) [
     | yes h ↦ h
-    | no h ↦ never (sym (scan-end p 10 at (omega arith) (omega arith)) ∙ end.1)
+    | no h ↦ never (sym (scan_end p 10 at (omega arith) (omega arith)) ∙ end.1)
   ]
 
   first_small : value_of (get_or p at 0) < 10
   first_small = elim (dec_lt (value_of (get_or p at 0)) 10) [
     | yes h ↦ h
-    | no h ↦ never (sym (scan-none p 10 at (omega arith) starts (omega arith)) ∙ end.1)
+    | no h ↦ never (sym (scan_none p 10 at (omega arith) starts (omega arith)) ∙ end.1)
   ]
 
-  pub first-digit : (48 ≤ get_or p at 0) × (get_or p at 0 < 58)
-  first-digit = ten-only (get_or p at 0) first_small
+  pub first_digit : (48 ≤ get_or p at 0) × (get_or p at 0 < 58)
+  first_digit = ten_only (get_or p at 0) first_small
 
   pub first_read : Reads p at (get_or p at 0 - 48) (at + 1)
   first_read =
-      let e = value-ten (get_or p at 0) first-digit.0 first-digit.1 in
-      record { small = omega (arith, first-digit.1); same = scan-on p 10 at (omega arith) starts first_small ∙ rw e }
+      let e = value_ten (get_or p at 0) first_digit.0 first_digit.1 in
+      record { small = omega (arith, first_digit.1); same = scan_on p 10 at (omega arith) starts first_small ∙ rw e }
 
   module _ {n i : ℕ} (q : Reads p at n i) where
     -- the number ends here
-    here : Value n i ≡ Value a.value end.0 → (get_or p i 0 ≡ 10) × (closedAt p (scan 10 at (drop at p)) ≡ Value n (i + 1))
-    unfolding closedAt
+    here : Value n i ≡ Value a.value end.0 → (get_or p i 0 ≡ 10) × (closed_at p (scan 10 at (drop at p)) ≡ Value n (i + 1))
+    unfolding closed_at
     here e =
         let l : get_or p i 0 ≡ 10 = rw (same_next e) end.2 in
         (l, rw (end.1 ∙ sym e, eq-eqb (get_or p i 0) 10 l))
@@ -118,32 +118,32 @@ module _ {p : List ℕ} {at : ℕ} (a : Closes p at) where
       | yes h ↦ h
       | no h ↦
           let k : length p ≤ i = omega arith in
-          let l = (here (sym (more-end p 10 i (omega arith) n k) ∙ (sym q.same ∙ end.1))).0 in
+          let l = (here (sym (more_end p 10 i (omega arith) n k) ∙ (sym q.same ∙ end.1))).0 in
           absurd (omega (arith, l, get_or-eq_default p 0 k))
     ]
 
-    no_digit : 10 ≤ value_of (get_or p i 0) → (get_or p i 0 ≡ 10) × (closedAt p (scan 10 at (drop at p)) ≡ Value n (i + 1))
-    no_digit g = here (sym (more-none p 10 i (omega arith) n inside g) ∙ (sym q.same ∙ end.1))
+    no_digit : 10 ≤ value_of (get_or p i 0) → (get_or p i 0 ≡ 10) × (closed_at p (scan 10 at (drop at p)) ≡ Value n (i + 1))
+    no_digit g = here (sym (more_none p 10 i (omega arith) n inside g) ∙ (sym q.same ∙ end.1))
 
-    pub ends : get_or p i 0 < 48 → closedAt p (scan 10 at (drop at p)) ≡ Value n (i + 1)
+    pub ends : get_or p i 0 < 48 → closed_at p (scan 10 at (drop at p)) ≡ Value n (i + 1)
     ends g = (no_digit (omega (arith, value_low (get_or p i 0) g))).1
 
-    digit-small : 48 ≤ get_or p i 0 → value_of (get_or p i 0) < 10
-    digit-small g = elim (dec_lt (value_of (get_or p i 0)) 10) [
+    digit_small : 48 ≤ get_or p i 0 → value_of (get_or p i 0) < 10
+    digit_small g = elim (dec_lt (value_of (get_or p i 0)) 10) [
       | yes h ↦ h
       | no h ↦ absurd (let l = (no_digit (omega arith)).0 in omega (arith, l))
     ]
 
-    pub digit-most : 48 ≤ get_or p i 0 → get_or p i 0 < 58
-    digit-most g = (ten-only (get_or p i 0) (digit-small g)).1
+    pub digit_most : 48 ≤ get_or p i 0 → get_or p i 0 < 58
+    digit_most g = (ten_only (get_or p i 0) (digit_small g)).1
 
     pub goes_on : 48 ≤ get_or p i 0 → Reads p at (n * 10 + (get_or p i 0 - 48)) (i + 1)
     goes_on g = elim (ℕ_discrete n 0) [
-      | yes z ↦ never (sym (more-zero p 10 i (omega arith) n inside (digit-small g) z) ∙ (sym q.same ∙ end.1))
+      | yes z ↦ never (sym (more_zero p 10 i (omega arith) n inside (digit_small g) z) ∙ (sym q.same ∙ end.1))
       | no z ↦
-          let v : value_of (get_or p i 0) ≡ get_or p i 0 - 48 = value-ten (get_or p i 0) g (digit-most g) in
+          let v : value_of (get_or p i 0) ≡ get_or p i 0 - 48 = value_ten (get_or p i 0) g (digit_most g) in
           let e : scan 10 at (drop at p) ≡ more 10 (cap (n * 10 + (get_or p i 0 - 48))) (i + 1) (drop (i + 1) p) =
-          rw v at (q.same ∙ more-on p 10 i (omega arith) n inside (digit-small g) z)
+          rw v at (q.same ∙ more_on p 10 i (omega arith) n inside (digit_small g) z)
           in
           let m : cap (n * 10 + (get_or p i 0 - 48)) ≤ a.value = grows _ (i + 1) (drop (i + 1) p) a.value end.0 (omega arith) (sym e ∙ end.1) in
           let c : cap (n * 10 + (get_or p i 0 - 48)) ≡ n * 10 + (get_or p i 0 - 48) = omega (arith, a.small) in

@@ -2,8 +2,8 @@
 use Rattle.std.specs.Prelude.{◌≡◌, ℕ, ◌+◌, ◌*◌, ◌≤◌, min, List, [], ◌∷◌, length, get_or, drop, eqb}
 use Rattle.room.specs.Choice.{pick}
 use Rattle.edit_format.specs.Tests.{begins}
-use Rattle.edit_format.specs.Digits.{digitOf, isDigit}
-use Rattle.numbers.specs.Points.{isPoint}
+use Rattle.edit_format.specs.Digits.{digit_of, is_digit}
+use Rattle.numbers.specs.Points.{is_point}
 use Rattle.edit_lines.specs.declared.Number.{Number}
 use Rattle.edit_lines.specs.declared.Number.TheVariants.{Value, Bad}
 use Rattle.edit_lines.specs.declared.Point.{Point}
@@ -16,41 +16,41 @@ cap n = min n 2000000
 -- the rest of a number in base m, n having been read, at place i of the bytes
 unfoldable pub more : ℕ → ℕ → ℕ → List ℕ → Number
 more m n i [] = Value n i
-more m n i (b ∷ bs) = pick (isDigit m b) (pick (eqb n 0) Bad (more m (cap (n * m + digitOf b)) (i + 1) bs)) (Value n i)
+more m n i (b ∷ bs) = pick (is_digit m b) (pick (eqb n 0) Bad (more m (cap (n * m + digit_of b)) (i + 1) bs)) (Value n i)
 
 -- a number in base m at place i
 unfoldable pub scan : ℕ → ℕ → List ℕ → Number
 unfolding more
 scan m i [] = Bad
-scan m i (b ∷ bs) = pick (isDigit m b) (more m (digitOf b) (i + 1) bs) Bad
+scan m i (b ∷ bs) = pick (is_digit m b) (more m (digit_of b) (i + 1) bs) Bad
 
 -- LF after a number
-unfoldable pub closedAt : List ℕ → Number → Number
-closedAt p (Value n i) = pick (eqb (get_or p i 0) 10) (Value n (i + 1)) Bad
-closedAt p Bad = Bad
+unfoldable pub closed_at : List ℕ → Number → Number
+closed_at p (Value n i) = pick (eqb (get_or p i 0) 10) (Value n (i + 1)) Bad
+closed_at p Bad = Bad
 
 -- a line of one decimal number at a place of p
 unfoldable pub line_at : List ℕ → List ℕ → ℕ → Number
-unfolding scan closedAt
-line_at k p at = pick (begins k (drop at p)) (closedAt p (scan 10 (at + length k) (drop (at + length k) p))) Bad
+unfolding scan closed_at
+line_at k p at = pick (begins k (drop at p)) (closed_at p (scan 10 (at + length k) (drop (at + length k) p))) Bad
 
 -- a line's number stands at a place of p, no larger than any original, and LF after it
 pub record Closes (p : List ℕ) (at : ℕ) : Type 0 where
   pub value : ℕ
   pub next : ℕ
   pub small : value ≤ 65535
-  pub number : closedAt p (scan 10 at (drop at p)) ≡ Value value next
+  pub number : closed_at p (scan 10 at (drop at p)) ≡ Value value next
 
 -- after a number: LF ends the line, a space says that one more follows
-unfoldable pub endedAt : List ℕ → Number → Point
-endedAt p (Value n i) = pick (isPoint n) (pick (eqb (get_or p i 0) 10) (Last n (i + 1)) (pick (eqb (get_or p i 0) 32) (More n (i + 1)) NoPoint)) NoPoint
-endedAt p Bad = NoPoint
+unfoldable pub ended_at : List ℕ → Number → Point
+ended_at p (Value n i) = pick (is_point n) (pick (eqb (get_or p i 0) 10) (Last n (i + 1)) (pick (eqb (get_or p i 0) 32) (More n (i + 1)) NoPoint)) NoPoint
+ended_at p Bad = NoPoint
 
 -- a code point in hex at a place of p
-unfoldable pub pointAt : List ℕ → ℕ → Point
-unfolding scan endedAt
-pointAt p i = endedAt p (scan 16 i (drop i p))
+unfoldable pub point_at : List ℕ → ℕ → Point
+unfolding scan ended_at
+point_at p i = ended_at p (scan 16 i (drop i p))
 
 -- a code point stands at a place of p
 abbrev pub Stands : List ℕ → ℕ → Type 0
-Stands p i = pointAt p i ≡ NoPoint → ⊥
+Stands p i = point_at p i ≡ NoPoint → ⊥

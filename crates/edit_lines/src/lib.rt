@@ -1,7 +1,7 @@
 // The leaves of an edit file's lines, at a place of any bytes: a number, a line of one number, a code point. Line keys are byte strings.
 ghost use Rattle.std.specs.Prelude.{◌≡◌, ◌+◌, ◌*◌, ◌≤◌, ◌<◌, length, drop};
 ghost use Rattle.edit_format.specs.Tests.{begins};
-ghost use Rattle.edit_lines.specs.Scan.{cap, scan, closedAt, line_at, endedAt, pointAt, Stands, Closes};
+ghost use Rattle.edit_lines.specs.Scan.{cap, scan, closed_at, line_at, ended_at, point_at, Stands, Closes};
 
 use numbers::bytes::wide;
 
@@ -86,7 +86,7 @@ pub fn has_key(bytes: &[u8], at: usize, key: &[u8]) -> bool
 
 // LF after a number.
 fn closed(bytes: &[u8], n: Number) -> Number
-    ensures { result ≡ closedAt bytes.now n }
+    ensures { result ≡ closed_at bytes.now n }
 {
     match n {
         Number::Value { value, next } => {
@@ -118,7 +118,7 @@ pub fn number_line(bytes: &[u8], at: usize, key: &[u8]) -> Number
 // The number of a line that was judged: every byte from 0 on is a digit, and the first other is LF.
 pub fn judged_line(bytes: &[u8], at: usize) -> Judged
     requires { Closes bytes.now at }
-    ensures { closedAt bytes.now (scan 10 at (drop at bytes.now)) ≡ Number.Value result.value result.next }
+    ensures { closed_at bytes.now (scan 10 at (drop at bytes.now)) ≡ Number.Value result.value result.next }
 {
     let mut n = wide(bytes[at]) - 48;
     let mut i = at + 1;
@@ -134,7 +134,7 @@ pub fn judged_line(bytes: &[u8], at: usize) -> Judged
 
 // What follows a number of an add line.
 fn ended(bytes: &[u8], n: Number) -> Point
-    ensures { result ≡ endedAt bytes.now n }
+    ensures { result ≡ ended_at bytes.now n }
 {
     match n {
         Number::Value { value, next } => {
@@ -165,7 +165,7 @@ fn ended(bytes: &[u8], n: Number) -> Point
 // 10fff in hex; so the loop has six turns, which a compiler lays out one after the other.
 fn short_number(bytes: &[u8], at: usize) -> Number
     requires { at + 6 ≤ length bytes.now }
-    ensures { pointAt bytes.now at ≡ endedAt bytes.now result }
+    ensures { point_at bytes.now at ≡ ended_at bytes.now result }
 {
     let first = edit_format::hex_value(bytes[at]);
     if 16 <= first {
@@ -199,7 +199,7 @@ fn short_number(bytes: &[u8], at: usize) -> Number
 // The number of a code point at any place.
 fn hex_number(bytes: &[u8], at: usize) -> Number
     requires { at ≤ length bytes.now }
-    ensures { pointAt bytes.now at ≡ endedAt bytes.now result }
+    ensures { point_at bytes.now at ≡ ended_at bytes.now result }
 {
     if bytes.len() - at < 6 {
         return number_at(bytes, at, 16);
@@ -210,7 +210,7 @@ fn hex_number(bytes: &[u8], at: usize) -> Number
 // A code point of an add line.
 pub fn point_at(bytes: &[u8], at: usize) -> Point
     requires { at ≤ length bytes.now }
-    ensures { result ≡ pointAt bytes.now at }
+    ensures { result ≡ point_at bytes.now at }
 {
     ended(bytes, hex_number(bytes, at))
 }
@@ -218,7 +218,7 @@ pub fn point_at(bytes: &[u8], at: usize) -> Point
 // The number of a code point that was judged: every byte from 0 on is a digit, and the first other ends it.
 fn judged_number(bytes: &[u8], at: usize) -> Judged
     requires { Stands bytes.now at }
-    ensures { pointAt bytes.now at ≡ endedAt bytes.now (Number.Value result.value result.next) }
+    ensures { point_at bytes.now at ≡ ended_at bytes.now (Number.Value result.value result.next) }
 {
     let mut n = edit_format::digit(bytes[at]);
     let mut k: usize = 1;
@@ -242,7 +242,7 @@ fn judged_number(bytes: &[u8], at: usize) -> Judged
 // A code point that was judged.
 pub fn judged_at(bytes: &[u8], at: usize) -> Point
     requires { Stands bytes.now at }
-    ensures { result ≡ pointAt bytes.now at }
+    ensures { result ≡ point_at bytes.now at }
 {
     let number = judged_number(bytes, at);
     let point = number.value;

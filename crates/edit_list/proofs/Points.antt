@@ -10,24 +10,24 @@ use Rattle.room.specs.Placed.{placed}
 use Rattle.room.proofs.Bools.{and_left, and_right}
 use Rattle.refusal.specs.declared.Refusal.TheVariants.{CodePoint}
 use Rattle.verdict.specs.declared.Verdict.TheVariants.{Accepted}
-use Rattle.numbers.specs.Points.{isPoint}
-use Rattle.verdict.specs.Points.{pointsFrom}
+use Rattle.numbers.specs.Points.{is_point}
+use Rattle.verdict.specs.Points.{points_from}
 use Rattle.verdict.proofs.Chains.{went}
-use Rattle.edit_format.specs.Items.{Item, Keep, Drop, Add, texts, allPoints, itemsGood}
+use Rattle.edit_format.specs.Items.{Item, Keep, Drop, Add, texts, all_points, items_good}
 
 unfoldable AllPoints : List ℕ → Type 0
 AllPoints [] = Unit
-AllPoints (c ∷ cs) = (isPoint c ≡ true) × AllPoints cs
+AllPoints (c ∷ cs) = (is_point c ≡ true) × AllPoints cs
 
-told : (cs : List ℕ) (i : ℕ) → pointsFrom cs i ≡ Accepted → AllPoints cs
-unfolding pointsFrom AllPoints
+told : (cs : List ℕ) (i : ℕ) → points_from cs i ≡ Accepted → AllPoints cs
+unfolding points_from AllPoints
 told [] i h = tt
-told (c ∷ cs) i h = let w = went (isPoint c) (pointsFrom cs (i + 1)) (CodePoint i) h in (w.0, told cs (i + 1) w.1)
+told (c ∷ cs) i h = let w = went (is_point c) (points_from cs (i + 1)) (CodePoint i) h in (w.0, told cs (i + 1) w.1)
 
-tells : (cs : List ℕ) (i : ℕ) → AllPoints cs → pointsFrom cs i ≡ Accepted
-unfolding pointsFrom AllPoints
+tells : (cs : List ℕ) (i : ℕ) → AllPoints cs → points_from cs i ≡ Accepted
+unfolding points_from AllPoints
 tells [] i h = refl
-tells (c ∷ cs) i h = rw (h.0, pointsFrom) (tells cs (i + 1) h.1)
+tells (c ∷ cs) i h = rw (h.0, points_from) (tells cs (i + 1) h.1)
 
 all_append : (cs ds : List ℕ) → AllPoints cs → AllPoints ds → AllPoints (cs ++ ds)
 unfolding AllPoints
@@ -46,25 +46,25 @@ all_drop zero cs h = h
 all_drop (suc n) [] h = tt
 all_drop (suc n) (c ∷ cs) h = all_drop n cs h.1
 
-all-points : (cs : List ℕ) → allPoints cs ≡ true → AllPoints cs
-unfolding AllPoints allPoints
-all-points [] h = tt
-all-points (c ∷ cs) h = (and_left (isPoint c) (allPoints cs) h, all-points cs (and_right (isPoint c) (allPoints cs) h))
+all_points : (cs : List ℕ) → all_points cs ≡ true → AllPoints cs
+unfolding AllPoints all_points
+all_points [] h = tt
+all_points (c ∷ cs) h = (and_left (is_point c) (all_points cs) h, all_points cs (and_right (is_point c) (all_points cs) h))
 
-all-texts : (k : Bool) (is : List Item) → itemsGood k is ≡ true → AllPoints (texts is)
-unfolding texts itemsGood AllPoints
-all-texts k [] g = tt
-all-texts k (Keep n ∷ is) g = all-texts true is (and_right (leb 1 n && not k) (itemsGood true is) g)
-all-texts k (Drop n ∷ is) g = all-texts false is (and_right (leb 1 n) (itemsGood false is) g)
-all-texts k (Add cs ∷ is) g =
-    let h = and_left (leb 1 (length cs) && allPoints cs) (itemsGood false is) g in
-    all_append cs (texts is) (all-points cs (and_right (leb 1 (length cs)) (allPoints cs) h))
-    (all-texts false is (and_right (leb 1 (length cs) && allPoints cs) (itemsGood false is) g))
+all_texts : (k : Bool) (is : List Item) → items_good k is ≡ true → AllPoints (texts is)
+unfolding texts items_good AllPoints
+all_texts k [] g = tt
+all_texts k (Keep n ∷ is) g = all_texts true is (and_right (leb 1 n && not k) (items_good true is) g)
+all_texts k (Drop n ∷ is) g = all_texts false is (and_right (leb 1 n) (items_good false is) g)
+all_texts k (Add cs ∷ is) g =
+    let h = and_left (leb 1 (length cs) && all_points cs) (items_good false is) g in
+    all_append cs (texts is) (all_points cs (and_right (leb 1 (length cs)) (all_points cs) h))
+    (all_texts false is (and_right (leb 1 (length cs) && all_points cs) (items_good false is) g))
 
-pub good-text : (d : List ℕ) (at : ℕ) (is : List Item) → pointsFrom d 0 ≡ Accepted → itemsGood false is ≡ true → pointsFrom (placed d at (texts is)) 0 ≡ Accepted
+pub good_text : (d : List ℕ) (at : ℕ) (is : List Item) → points_from d 0 ≡ Accepted → items_good false is ≡ true → points_from (placed d at (texts is)) 0 ≡ Accepted
 unfolding placed
-good-text d at is h g =
+good_text d at is h g =
     let a = told d 0 h in
     tells (take at d ++ texts is ++ drop (at + length (texts is)) d) 0
-    (all_append (take at d ++ texts is) (drop (at + length (texts is)) d) (all_append (take at d) (texts is) (all_take at d a) (all-texts false is g))
+    (all_append (take at d ++ texts is) (drop (at + length (texts is)) d) (all_append (take at d) (texts is) (all_take at d a) (all_texts false is g))
     (all_drop (at + length (texts is)) d a))

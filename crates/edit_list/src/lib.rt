@@ -2,11 +2,11 @@
 // elongated. What the program does with each of its two edit files before it merges them.
 ghost use Rattle.std.specs.Prelude.{◌≡◌, [], ◌∷◌, ◌+◌, ◌*◌, ◌≤◌, ◌<◌, length, take, drop};
 ghost use Rattle.room.specs.Placed.{placed};
-ghost use Rattle.diff.specs.Items.{item_at, itemsFrom};
-ghost use Rattle.edit_format.specs.Reading.{readFile};
-ghost use Rattle.edit_list.specs.Raws.{pointTokens, partToken, items_in};
+ghost use Rattle.diff.specs.Items.{item_at, items_from};
+ghost use Rattle.edit_format.specs.Reading.{read_file};
+ghost use Rattle.edit_list.specs.Raws.{point_tokens, part_token, items_in};
 ghost use Rattle.edit_list.specs.Lists.{Listable, Lists};
-ghost use Rattle.edit_list.specs.Steps.{TokensPut, PointsFit, RunPut, RunFits, ItemsLent, Fits, Filled, runIn, runsIn, Readable, ItemsRead, Makeable, RawsMade, shiftedFrom, Shiftable, Elongable, Raised};
+ghost use Rattle.edit_list.specs.Steps.{TokensPut, PointsFit, RunPut, RunFits, ItemsLent, Fits, Filled, run_in, runs_in, Readable, ItemsRead, Makeable, RawsMade, shifted_from, Shiftable, Elongable, Raised};
 
 use diff::diff::Item;
 
@@ -65,7 +65,7 @@ fn put_points(
     at: usize,
 )
     requires { PointsFit text.now from count spans.old keys.old at }
-    ensures { TokensPut (pointTokens from (take count (drop from text.now))) at spans.old keys.old spans.new keys.new }
+    ensures { TokensPut (point_tokens from (take count (drop from text.now))) at spans.old keys.old spans.new keys.new }
 {
     let mut j = 0;
     'points: while j < count {
@@ -85,8 +85,8 @@ fn put_part(
     keys: &mut [u32],
     first: usize,
 ) -> usize
-    requires { RunFits (record { kind = kind; tokens = partToken n ∷ [] }) i first raw.old spans.old keys.old }
-    ensures { RunPut (record { kind = kind; tokens = partToken n ∷ [] }) i first raw.old spans.old keys.old raw.new spans.new keys.new result }
+    requires { RunFits (record { kind = kind; tokens = part_token n ∷ [] }) i first raw.old spans.old keys.old }
+    ensures { RunPut (record { kind = kind; tokens = part_token n ∷ [] }) i first raw.old spans.old keys.old raw.new spans.new keys.new result }
 {
     put_raw(raw, i, kind, first, 1);
     put_token(spans, keys, first, 0, n as u32, 0);
@@ -105,8 +105,8 @@ fn put_item(
     keys: &mut [u32],
     first: usize,
 ) -> usize
-    requires { ItemsLent items.now (i + 1) lent text.now at × RunFits (runIn text.now at (item_at items.now lent i)) i first raw.old spans.old keys.old }
-    ensures { RunPut (runIn text.now at (item_at items.now lent i)) i first raw.old spans.old keys.old raw.new spans.new keys.new result }
+    requires { ItemsLent items.now (i + 1) lent text.now at × RunFits (run_in text.now at (item_at items.now lent i)) i first raw.old spans.old keys.old }
+    ensures { RunPut (run_in text.now at (item_at items.now lent i)) i first raw.old spans.old keys.old raw.new spans.new keys.new result }
 {
     match diff::diff::item_at(items, lent, i) {
         Item::Retain(n) => put_part(raw, i, 2, n, spans, keys, first),
@@ -131,8 +131,8 @@ fn fill(
     spans: &mut [u32],
     keys: &mut [u32],
 ) -> usize
-    requires { ItemsLent items.now count lent text.now at × Fits (runsIn text.now at (itemsFrom items.now lent 0 count)) raw.old spans.old keys.old }
-    ensures { Filled (runsIn text.now at (itemsFrom items.now lent 0 count)) raw.old spans.old keys.old raw.new spans.new keys.new result }
+    requires { ItemsLent items.now count lent text.now at × Fits (runs_in text.now at (items_from items.now lent 0 count)) raw.old spans.old keys.old }
+    ensures { Filled (runs_in text.now at (items_from items.now lent 0 count)) raw.old spans.old keys.old raw.new spans.new keys.new result }
 {
     let mut i = 0;
     let mut tokens = 0;
@@ -146,7 +146,7 @@ fn fill(
 // The file's items into their room, its text to place `at` of the lent text.
 fn read_at(file: &[u8], at: usize, text: &mut [u32], items: &mut [i64]) -> Sizes
     requires { Readable file.now at text.old items.old }
-    ensures { ItemsRead (items_in (readFile file.now)) at text.old text.new items.old items.new result }
+    ensures { ItemsRead (items_in (read_file file.now)) at text.old text.new items.old items.new result }
 {
     match edit_read::read(file, items, &mut text[at..]) {
         edit_read::FileRead::Counts { items: n, text: m } => Sizes { items: n, text: m },
@@ -164,7 +164,7 @@ fn raws_of(
     keys: &mut [u32],
 ) -> Made
     requires { Makeable file.now at text.old raw.old spans.old keys.old }
-    ensures { RawsMade (items_in (readFile file.now)) at text.old text.new raw.old spans.old keys.old raw.new spans.new keys.new result }
+    ensures { RawsMade (items_in (read_file file.now)) at text.old text.new raw.old spans.old keys.old raw.new spans.new keys.new result }
 {
     let mut items = [0i64; 1023];
     let sizes = read_at(file, at, text, &mut items);
@@ -179,7 +179,7 @@ fn raws_of(
 // The first tokens of so many operations, each so much further on.
 fn shift(operations: &mut [usize], count: usize, by: usize)
     requires { Shiftable operations.old count by }
-    ensures { operations.new ≡ shiftedFrom operations.old by 0 count }
+    ensures { operations.new ≡ shifted_from operations.old by 0 count }
 {
     let mut i = 0;
     'shift: while i < count {
@@ -233,7 +233,7 @@ pub fn list_of(
     keys: &mut [u32],
 ) -> Listed
     requires { Listable file.now at first text.old operations.old spans.old keys.old }
-    ensures { Lists (items_in (readFile file.now)) at first text.old text.new operations.old operations.new spans.old spans.new keys.old keys.new result }
+    ensures { Lists (items_in (read_file file.now)) at first text.old text.new operations.old operations.new spans.old spans.new keys.old keys.new result }
 {
     let mut raw = [0usize; 1023];
     let mut raw_spans = [0u32; 2048];

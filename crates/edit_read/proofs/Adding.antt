@@ -8,8 +8,8 @@ use lib.ListN.{length, drop, length-append}
 use Rattle.edit_format.specs.Items.{Item, added}
 use Rattle.edit_format.specs.Written.{Head}
 use Rattle.edit_format.specs.Reading.{gap, item, adding, Leads}
-use Rattle.edit_format.proofs.Leading.{leads-none, leads-on, stays_on}
-use Rattle.edit_lines.specs.Scan.{pointAt}
+use Rattle.edit_format.proofs.Leading.{leads_none, leads_on, stays_on}
+use Rattle.edit_lines.specs.Scan.{point_at}
 use Rattle.edit_read.specs.Judged.{PointsRead}
 use Rattle.edit_lines.specs.declared.Point.{Point}
 use Rattle.edit_lines.specs.declared.Point.TheVariants.{More, Last, Bad as NoPoint}
@@ -27,11 +27,11 @@ inside_of h p i (More v j) q = q.0
 inside_of h p i (Last v j) q = q.0
 inside_of h p i NoPoint q = tt
 
-pub inside : (p : List ℕ) (i : ℕ) → Inside p (pointAt p i)
+pub inside : (p : List ℕ) (i : ℕ) → Inside p (point_at p i)
 unfolding added
 inside p i =
     let h : Head = record { original = 0; result = 0; count = 0 } in
-    inside_of h p i (pointAt p i) (pointed h [] (omega arith) [] p i (omega arith))
+    inside_of h p i (point_at p i) (pointed h [] (omega arith) [] p i (omega arith))
 
 pub record SoFar (p : List ℕ) (at a k i : ℕ) : Type 0 where
   pub most : i ≤ length p
@@ -41,10 +41,10 @@ pub record SoFar (p : List ℕ) (at a k i : ℕ) : Type 0 where
       → (cs : List ℕ) × (length cs ≡ k) × Leads (gap (item h is adding) []) (drop at p) (gap (item h is adding) cs) (drop i p)
 
 pub starts : (p : List ℕ) (at a : ℕ) → at ≤ length p → a ≤ 131070 → SoFar p at a 0 at
-starts p at a h g = record { most = h; room = omega arith; reads = λ x is e f. ([], refl, leads-none (gap (item x is adding) []) (drop at p)) }
+starts p at a h g = record { most = h; room = omega arith; reads = λ x is e f. ([], refl, leads_none (gap (item x is adding) []) (drop at p)) }
 
 module _ (p : List ℕ) (at a k i : ℕ) (s : SoFar p at a k i) where
-  pub goes_on : {v j : ℕ} → a + k < 131070 → pointAt p i ≡ More v j → SoFar p at a (k + 1) j
+  pub goes_on : {v j : ℕ} → a + k < 131070 → point_at p i ≡ More v j → SoFar p at a (k + 1) j
   goes_on {v} {j} g e = record {
     most = (rw e at (inside p i));
     room = omega arith;
@@ -57,19 +57,19 @@ module _ (p : List ℕ) (at a k i : ℕ) (s : SoFar p at a k i) where
           → (cs : List ℕ) × (length cs ≡ k + 1) × Leads (gap (item h is adding) []) (drop at p) (gap (item h is adding) cs) (drop j p)
       turned h is f w (cs, l, q) =
           let t : Pointed h is cs p i (More v j) = rw e at (pointed h is w cs p i (omega arith)) in
-          (cs ++ v ∷ [], length-append cs (v ∷ []) ∙ omega arith, leads-on q t.1)
+          (cs ++ v ∷ [], length-append cs (v ∷ []) ∙ omega arith, leads_on q t.1)
 
-  pub ends : {v j : ℕ} → a + k < 131070 → pointAt p i ≡ Last v j → PointsRead p at a (GoodPoints (k + 1) j)
+  pub ends : {v j : ℕ} → a + k < 131070 → point_at p i ≡ Last v j → PointsRead p at a (GoodPoints (k + 1) j)
   ends {v} {j} g e = record {
     fit = (omega arith, rw e at (inside p i));
     says = λ h is f w.
         let r = s.reads h is f w in
         let l : length r.0 ≡ k = r.1 in
         let t : Pointed h is r.0 p i (Last v j) = rw e at (pointed h is w r.0 p i (omega arith)) in
-        (r.0 ++ v ∷ [], length-append r.0 (v ∷ []) ∙ omega arith, leads-on r.2 t.1);
+        (r.0 ++ v ∷ [], length-append r.0 (v ∷ []) ∙ omega arith, leads_on r.2 t.1);
   }
 
-  pub fails : a + k < 131070 → pointAt p i ≡ NoPoint → PointsRead p at a BadPoints
+  pub fails : a + k < 131070 → point_at p i ≡ NoPoint → PointsRead p at a BadPoints
   fails g e = record {
     fit = tt;
     says = λ h is f w.
@@ -79,8 +79,8 @@ module _ (p : List ℕ) (at a k i : ℕ) (s : SoFar p at a k i) where
         stays_on r.2 t;
   }
 
-  pub is-full : 131070 ≤ a + k → PointsRead p at a BadPoints
-  is-full g = record {
+  pub is_full : 131070 ≤ a + k → PointsRead p at a BadPoints
+  is_full g = record {
     fit = tt;
     says = λ h is f w.
         let r = s.reads h is f w in

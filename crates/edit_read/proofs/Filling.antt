@@ -12,34 +12,34 @@ use lib.IntN.{ℤ, pos}
 use lib.Dec.{ltb, leb}
 use borrow.Author.Tests.{leb-true}
 use Rattle.room.specs.Placed.{placed}
-use Rattle.room.proofs.Placing.{placed-none}
+use Rattle.room.proofs.Placing.{placed_none}
 use Rattle.room.proofs.Bools.{and_right}
 use Rattle.room.proofs.Choices.{no_way}
-pub use Rattle.item_records.proofs.Storing.{three-stores}
+pub use Rattle.item_records.proofs.Storing.{three_stores}
 use Rattle.edit_format.specs.Tests.{begins}
-use Rattle.edit_format.specs.Items.{Item, Add, kept, dropped, added, texts, endsKeep}
-use Rattle.edit_format.specs.Written.{Head, addKey}
-use Rattle.edit_format.specs.Reading.{Kind, keeping, dropping, adding, Line, item, key, gap, open', firstItem, lineNo, line, kindKey, key_of, hexes, several, fits, fitsItem, kind_of, item_of, next, Accepted, finish, run, found}
-use Rattle.edit_format.specs.Records.{recordOf, size}
+use Rattle.edit_format.specs.Items.{Item, Add, kept, dropped, added, texts, ends_keep}
+use Rattle.edit_format.specs.Written.{Head, add_key}
+use Rattle.edit_format.specs.Reading.{Kind, keeping, dropping, adding, Line, item, key, gap, open', first_item, line_no, line, kind_key, key_of, hexes, several, fits, fits_item, kind_of, item_of, next, Accepted, finish, run, found}
+use Rattle.edit_format.specs.Records.{record_of, size}
 use Rattle.edit_format.proofs.NoBeginning.{never}
-use Rattle.edit_format.proofs.Leading.{leads-found, stays-found}
-use Rattle.edit_format.proofs.Finding.{key-on, key-off, past-found, open-found}
+use Rattle.edit_format.proofs.Leading.{leads_found, stays_found}
+use Rattle.edit_format.proofs.Finding.{key_on, key_off, past_found, open_found}
 use Rattle.edit_format.proofs.Rests.{one_more}
 use Rattle.edit_lines.proofs.Leaves.{at_byte}
-use Rattle.edit_lines.specs.Scan.{scan, closedAt, line_at, pointAt, Stands}
+use Rattle.edit_lines.specs.Scan.{scan, closed_at, line_at, point_at, Stands}
 use Rattle.edit_lines.specs.declared.Number.{Number}
 use Rattle.edit_lines.specs.declared.Number.TheVariants.{Value, Bad}
 use Rattle.edit_lines.specs.declared.Point.TheVariants.{More, Last, Bad as NoPoint}
-use Rattle.edit_lines.proofs.Lines.{line-parts}
+use Rattle.edit_lines.proofs.Lines.{line_parts}
 use Rattle.edit_lines.proofs.Scanning.{Lined, lined, Pointed, pointed, crowded}
 use Rattle.edit_read.specs.Filled.{PointsPut, Numbered, NumberIn, NumberPut, ItemIn, ItemPut, Accepting}
 use Rattle.edit_read.specs.declared.Spot.{Spot}
 use Rattle.edit_read.specs.declared.Spot.TheVariants.{Good as GoodSpot, Bad as BadSpot}
 
 -- one store where a run ends makes it longer
-placed-more : (d cs : List ℕ) (at v : ℕ) → at + length cs < length d → set (placed d at cs) (at + length cs) v ≡ placed d at (cs ++ v ∷ [])
+placed_more : (d cs : List ℕ) (at v : ℕ) → at + length cs < length d → set (placed d at cs) (at + length cs) v ≡ placed d at (cs ++ v ∷ [])
 unfolding placed
-placed-more d cs at v h =
+placed_more d cs at v h =
     let e : length (take at d ++ cs) ≡ at + length cs = length-append (take at d) cs ∙ ap (λ (n : ℕ). n + length cs) (length-take-le at d (omega arith)) in
     let f : at + (length cs + 1) ≡ suc (at + length cs) = omega arith in
     rw (length-append cs (v ∷ []), f, drop-cons d (at + length cs) 0 h)
@@ -47,18 +47,18 @@ placed-more d cs at v h =
     ∙ sym (ap (λ (l : List ℕ). l ++ drop (suc (at + length cs)) d) (sym (append_assoc (take at d) cs (v ∷ []))) ∙ append_assoc (take at d ++ cs) (v ∷ []) (drop (suc (at + length cs)) d)))
 
 -- no line of an accepted file is one that the reader never leaves
-left-gap : (h : Head) (is : List Item) (cs bs : List ℕ) {js : List Item} → found (gap (item h is adding) cs) bs ≡ Accepted js → line (run (gap (item h is adding) cs) bs) ≡ firstItem h + length is → ⊥
-unfolding lineNo
-left-gap h is cs bs e s = never (sym (stays-found (gap (item h is adding) cs) bs tt refl s) ∙ e)
+left_gap : (h : Head) (is : List Item) (cs bs : List ℕ) {js : List Item} → found (gap (item h is adding) cs) bs ≡ Accepted js → line (run (gap (item h is adding) cs) bs) ≡ first_item h + length is → ⊥
+unfolding line_no
+left_gap h is cs bs e s = never (sym (stays_found (gap (item h is adding) cs) bs tt refl s) ∙ e)
 
-left_key : (l : Line) (bs : List ℕ) {js : List Item} → found (key l 0) bs ≡ Accepted js → line (run (key l 0) bs) ≡ lineNo l → ⊥
-left_key l bs e s = never (sym (stays-found (key l 0) bs tt refl s) ∙ e)
+left_key : (l : Line) (bs : List ℕ) {js : List Item} → found (key l 0) bs ≡ Accepted js → line (run (key l 0) bs) ≡ line_no l → ⊥
+left_key l bs e s = never (sym (stays_found (key l 0) bs tt refl s) ∙ e)
 
 -- an accepted add line passes no size
 roomy : (h : Head) (is : List Item) → length is < 8192 → (cs p : List ℕ) (i : ℕ) {js : List Item} → found (gap (item h is adding) cs) (drop i p) ≡ Accepted js → added is + length cs + 1 ≤ 131070
 roomy h is few cs p i e = elim (dec_le (added is + length cs + 1) 131070) [
   | yes g ↦ g
-  | no g ↦ absurd (left-gap h is cs (drop i p) e (crowded h is few cs p i (omega arith)))
+  | no g ↦ absurd (left_gap h is cs (drop i p) e (crowded h is few cs p i (omega arith)))
 ]
 
 pub record Putting (p : List ℕ) (at start : ℕ) (d o : List ℕ) (place i : ℕ) : Type 0 where
@@ -75,11 +75,11 @@ starts p at start d g = record {
   low = omega arith;
   high = g;
   same = refl;
-  reads = λ x is js a b c e. ([], omega arith, sym (placed-none d start), e);
+  reads = λ x is js a b c e. ([], omega arith, sym (placed_none d start), e);
 }
 
 module _ {p : List ℕ} {at start : ℕ} {d o : List ℕ} {place i : ℕ} (q : Putting p at start d o place i) where
-  pub goes_on : {v j : ℕ} → place < length o → pointAt p i ≡ More v j → Putting p at start d (set o place v) (place + 1) j
+  pub goes_on : {v j : ℕ} → place < length o → point_at p i ≡ More v j → Putting p at start d (set o place v) (place + 1) j
   goes_on {v} {j} g e = record {
     low = omega (arith, q.low);
     high = omega (arith, q.same);
@@ -90,12 +90,12 @@ module _ {p : List ℕ} {at start : ℕ} {d o : List ℕ} {place i : ℕ} (q : P
         let t : Pointed h is r.0 p i (More v j) = rw e at (pointed h is a r.0 p i (roomy h is a r.0 p i r.3)) in (
           r.0 ++ v ∷ [],
           (rw (length-append r.0 (v ∷ [])) (omega arith)),
-          (rw (r.2, l) (placed-more d r.0 start v (omega (arith, q.same)))),
-          sym (leads-found t.1) ∙ r.3,
+          (rw (r.2, l) (placed_more d r.0 start v (omega (arith, q.same)))),
+          sym (leads_found t.1) ∙ r.3,
         );
   }
 
-  pub ends : {v j : ℕ} → place < length o → pointAt p i ≡ Last v j → PointsPut p at start d (set o place v) (GoodSpot (place + 1) j)
+  pub ends : {v j : ℕ} → place < length o → point_at p i ≡ Last v j → PointsPut p at start d (set o place v) (GoodSpot (place + 1) j)
   ends {v} {j} g e = record {
     inside = (omega (arith, q.low), omega (arith, q.same));
     says = λ h is js a b c f.
@@ -104,8 +104,8 @@ module _ {p : List ℕ} {at start : ℕ} {d o : List ℕ} {place i : ℕ} (q : P
         let t : Pointed h is r.0 p i (Last v j) = rw e at (pointed h is a r.0 p i (roomy h is a r.0 p i r.3)) in (
           r.0 ++ v ∷ [],
           (rw (length-append r.0 (v ∷ [])) (omega arith)),
-          (rw (r.2, l) (placed-more d r.0 start v (omega (arith, q.same)))),
-          sym (leads-found t.1) ∙ r.3,
+          (rw (r.2, l) (placed_more d r.0 start v (omega (arith, q.same)))),
+          sym (leads_found t.1) ∙ r.3,
         );
   }
 
@@ -114,19 +114,19 @@ module _ {p : List ℕ} {at start : ℕ} {d o : List ℕ} {place i : ℕ} (q : P
   stands a e =
       let r = q.reads a.head a.done a.items a.few a.place a.text a.left in
       let t : Pointed a.head a.done r.0 p i NoPoint = rw e at (pointed a.head a.done a.few r.0 p i (roomy a.head a.done a.few r.0 p i r.3)) in
-      left-gap a.head a.done r.0 (drop i p) r.3 t
+      left_gap a.head a.done r.0 (drop i p) r.3 t
 
-  pub fails : pointAt p i ≡ NoPoint → PointsPut p at start d o BadSpot
+  pub fails : point_at p i ≡ NoPoint → PointsPut p at start d o BadSpot
   fails e = record {
     inside = tt;
     says = λ h is js a b c f.
         let r = q.reads h is js a b c f in
         let t : Pointed h is r.0 p i NoPoint = rw e at (pointed h is a r.0 p i (roomy h is a r.0 p i r.3)) in
-        left-gap h is r.0 (drop i p) r.3 t;
+        left_gap h is r.0 (drop i p) r.3 t;
   }
 
-  pub is-full : length o ≤ place → PointsPut p at start d o BadSpot
-  is-full g = record {
+  pub is_full : length o ≤ place → PointsPut p at start d o BadSpot
+  is_full g = record {
     inside = tt;
     says = λ h is js a b c f.
         let r = q.reads h is js a b c f in
@@ -136,9 +136,9 @@ module _ {p : List ℕ} {at start : ℕ} {d o : List ℕ} {place i : ℕ} (q : P
   }
 
 -- a keep or a drop of an accepted file
-number_small : (is : List Item) (k : Kind) (m : ℕ) → hexes k ≡ false → fitsItem is k [] m ≡ true → m ≤ 65535
-unfolding fitsItem hexes
-number_small is keeping m o e = let w : kept is + dropped is + m ≤ 65535 = leb-true (kept is + dropped is + m) 65535 (and_right (leb 1 m) _ (and_right (not (endsKeep is)) _ e)) in omega arith
+number_small : (is : List Item) (k : Kind) (m : ℕ) → hexes k ≡ false → fits_item is k [] m ≡ true → m ≤ 65535
+unfolding fits_item hexes
+number_small is keeping m o e = let w : kept is + dropped is + m ≤ 65535 = leb-true (kept is + dropped is + m) 65535 (and_right (leb 1 m) _ (and_right (not (ends_keep is)) _ e)) in omega arith
 number_small is dropping m o e = let w : kept is + dropped is + m ≤ 65535 = leb-true (kept is + dropped is + m) 65535 (and_right (leb 1 m) _ e) in omega arith
 number_small is adding m o e = no_way (sym o)
 
@@ -149,83 +149,83 @@ number_size dropping m o = (refl, refl)
 number_size adding m o = no_way (sym o)
 
 module _ (p : List ℕ) (k : Kind) (one : hexes k ≡ false) (at : ℕ) where
-  found-line : (h : Head) (is : List Item) (r : Number) → line_at (kindKey k) p at ≡ r → Lined (item h is k) p at r
+  found_line : (h : Head) (is : List Item) (r : Number) → line_at (kind_key k) p at ≡ r → Lined (item h is k) p at r
   unfolding key_of several
-  found-line h is r e = rw e at (lined (item h is k) p at one)
+  found_line h is r e = rw e at (lined (item h is k) p at one)
 
   -- so its number stands behind its key
-  stands-as : (h : Head) (is js : List Item) → found (key (item h is k) 0) (drop at p) ≡ Accepted js → {v j : ℕ} → line_at (kindKey k) p at ≡ Value v j → length (kindKey k) ≡ 5 → (t : Lined (item h is k) p at (Value v j)) (u : Bool) → fits (item h is k) [] t.0 ≡ u → Numbered k p at
+  stands_as : (h : Head) (is js : List Item) → found (key (item h is k) 0) (drop at p) ≡ Accepted js → {v j : ℕ} → line_at (kind_key k) p at ≡ Value v j → length (kind_key k) ≡ 5 → (t : Lined (item h is k) p at (Value v j)) (u : Bool) → fits (item h is k) [] t.0 ≡ u → Numbered k p at
   unfolding fits
-  stands-as h is js g e l (m, b, c, w, y, n) false u = absurd (left_key (item h is k) (drop at p) g (n u))
-  stands-as h is js g {v} {j} e l (m, b, c, w, y, n) true u =
+  stands_as h is js g e l (m, b, c, w, y, n) false u = absurd (left_key (item h is k) (drop at p) g (n u))
+  stands_as h is js g {v} {j} e l (m, b, c, w, y, n) true u =
       let s : m ≤ 65535 = number_small is k m one (and_right (ltb (length is) 8192) _ u) in
-      let q = line-parts (kindKey k) p at v j e in
+      let q = line_parts (kind_key k) p at v j e in
       record { keyed = q.0; number = record { value = v; next = j; small = omega arith; number = rw l at q.1 } }
 
-  pub number-stands : length (kindKey k) ≡ 5 → (h : Head) (is js : List Item) → found (key (item h is k) 0) (drop at p) ≡ Accepted js → Numbered k p at
-  number-stands l h is js g = go (line_at (kindKey k) p at) refl
+  pub number_stands : length (kind_key k) ≡ 5 → (h : Head) (is js : List Item) → found (key (item h is k) 0) (drop at p) ≡ Accepted js → Numbered k p at
+  number_stands l h is js g = go (line_at (kind_key k) p at) refl
     where
-      go : (r : Number) → line_at (kindKey k) p at ≡ r → Numbered k p at
-      go Bad e = absurd (left_key (item h is k) (drop at p) g (found-line h is Bad e))
-      go (Value v j) e = let t = found-line h is (Value v j) e in stands-as h is js g e l t (fits (item h is k) [] t.0) refl
+      go : (r : Number) → line_at (kind_key k) p at ≡ r → Numbered k p at
+      go Bad e = absurd (left_key (item h is k) (drop at p) g (found_line h is Bad e))
+      go (Value v j) e = let t = found_line h is (Value v j) e in stands_as h is js g e l t (fits (item h is k) [] t.0) refl
 
   -- and is that of the line
-  pub number-line : length (kindKey k) ≡ 5 → Numbered k p at → {v j : ℕ} → closedAt p (scan 10 (at + 5) (drop (at + 5) p)) ≡ Value v j → line_at (kindKey k) p at ≡ Value v j
+  pub number_line : length (kind_key k) ≡ 5 → Numbered k p at → {v j : ℕ} → closed_at p (scan 10 (at + 5) (drop (at + 5) p)) ≡ Value v j → line_at (kind_key k) p at ≡ Value v j
   unfolding line_at
-  number-line l q e = rw (q.keyed, l) e
+  number_line l q e = rw (q.keyed, l) e
 
 module _ (p : List ℕ) (k : Kind) (one : hexes k ≡ false) (at start place : ℕ) (d : List ℤ) where
-  fitted : {d' : List ℤ} {v j : ℕ} → d' ≡ placed d place (recordOf start (item_of k [] v)) → (h : Head) (is js : List Item) → found (key (item h is k) 0) (drop at p) ≡ Accepted js → (t : Lined (item h is k) p at (Value v j)) (u : Bool) → fits (item h is k) [] t.0 ≡ u → NumberIn h is js p start place d d' (GoodSpot start j)
+  fitted : {d' : List ℤ} {v j : ℕ} → d' ≡ placed d place (record_of start (item_of k [] v)) → (h : Head) (is js : List Item) → found (key (item h is k) 0) (drop at p) ≡ Accepted js → (t : Lined (item h is k) p at (Value v j)) (u : Bool) → fits (item h is k) [] t.0 ≡ u → NumberIn h is js p start place d d' (GoodSpot start j)
   unfolding fits next
   fitted f h is js g (m, b, c, w, y, n) false u = absurd (left_key (item h is k) (drop at p) g (n u))
   fitted {d'} {v} {j} f h is js g (m, b, c, w, y, n) true u =
       let s : m ≤ 65535 = number_small is k m one (and_right (ltb (length is) 8192) _ u) in
       let x : v ≡ m = omega arith in
-      (item_of k [] m, refl, (number_size k m one).0, (number_size k m one).1, f ∙ rw x, sym (leads-found (y u)) ∙ g)
+      (item_of k [] m, refl, (number_size k m one).0, (number_size k m one).1, f ∙ rw x, sym (leads_found (y u)) ∙ g)
 
-  pub number_put : {d' : List ℤ} {v j : ℕ} → line_at (kindKey k) p at ≡ Value v j → d' ≡ placed d place (recordOf start (item_of k [] v)) → NumberPut p k at start place d d' (GoodSpot start j)
-  number_put {d'} {v} {j} e f = record { says = λ h is js a g. let t = found-line p k one at h is (Value v j) e in fitted f h is js g t (fits (item h is k) [] t.0) refl }
+  pub number_put : {d' : List ℤ} {v j : ℕ} → line_at (kind_key k) p at ≡ Value v j → d' ≡ placed d place (record_of start (item_of k [] v)) → NumberPut p k at start place d d' (GoodSpot start j)
+  number_put {d'} {v} {j} e f = record { says = λ h is js a g. let t = found_line p k one at h is (Value v j) e in fitted f h is js g t (fits (item h is k) [] t.0) refl }
 
 -- what stands at a place, and what is left there, as the line's kind and its key are read
 module _ (p : List ℕ) (at : ℕ) where
-  to-points : (h : Head) (is : List Item) → begins addKey (drop at p) ≡ true → found (key (item h is adding) 0) (drop at p) ≡ found (gap (item h is adding) []) (drop (at + 4) p)
-  unfolding key_of kindKey
-  to-points h is b = leads-found (key-on (item h is adding) (drop at p) b) ∙ past-found (item h is adding) (drop 4 (drop at p)) ∙ rw (drop-drop 4 at p)
+  to_points : (h : Head) (is : List Item) → begins add_key (drop at p) ≡ true → found (key (item h is adding) 0) (drop at p) ≡ found (gap (item h is adding) []) (drop (at + 4) p)
+  unfolding key_of kind_key
+  to_points h is b = leads_found (key_on (item h is adding) (drop at p) b) ∙ past_found (item h is adding) (drop 4 (drop at p)) ∙ rw (drop-drop 4 at p)
 
   -- an accepted add line has its key
-  pub add-keyed : {start m : ℕ} → Accepting (λ (h : Head). λ (is : List Item). key (item h is adding) 0) p at start m → begins addKey (drop at p) ≡ true
-  unfolding key_of kindKey
-  add-keyed a = go (begins addKey (drop at p)) refl
+  pub add_keyed : {start m : ℕ} → Accepting (λ (h : Head). λ (is : List Item). key (item h is adding) 0) p at start m → begins add_key (drop at p) ≡ true
+  unfolding key_of kind_key
+  add_keyed a = go (begins add_key (drop at p)) refl
     where
-      go : (t : Bool) → begins addKey (drop at p) ≡ t → begins addKey (drop at p) ≡ true
+      go : (t : Bool) → begins add_key (drop at p) ≡ t → begins add_key (drop at p) ≡ true
       go true e = e
-      go false e = absurd (left_key (item a.head a.done adding) (drop at p) a.left (key-off (item a.head a.done adding) (drop at p) e))
+      go false e = absurd (left_key (item a.head a.done adding) (drop at p) a.left (key_off (item a.head a.done adding) (drop at p) e))
 
-  pub to-text : {start m : ℕ} → begins addKey (drop at p) ≡ true → Accepting (λ (h : Head). λ (is : List Item). key (item h is adding) 0) p at start m → Accepting (λ (h : Head). λ (is : List Item). gap (item h is adding) []) p (at + 4) start m
-  to-text b a = record {
+  pub to_text : {start m : ℕ} → begins add_key (drop at p) ≡ true → Accepting (λ (h : Head). λ (is : List Item). key (item h is adding) 0) p at start m → Accepting (λ (h : Head). λ (is : List Item). gap (item h is adding) []) p (at + 4) start m
+  to_text b a = record {
     head = a.head;
     done = a.done;
     items = a.items;
     few = a.few;
     place = a.place;
     text = a.text;
-    left = sym (to-points a.head a.done b) ∙ a.left;
+    left = sym (to_points a.head a.done b) ∙ a.left;
   }
 
   -- an accepted item has a line
-  pub starts-in : {start m : ℕ} → Accepting open' p at start m → at < length p
+  pub starts_in : {start m : ℕ} → Accepting open' p at start m → at < length p
   unfolding finish run
-  starts-in a = elim (dec_lt at (length p)) [
+  starts_in a = elim (dec_lt at (length p)) [
     | yes h ↦ h
     | no h ↦ let l : length p ≤ at = omega arith in absurd (never (sym (ap (found (open' a.head a.done)) (drop_of_length-le p l)) ∙ a.left))
   ]
 
   -- the kind by the line's first byte
   same_line : (k : Kind) (h : Head) (is : List Item) → at < length p → kind_of (get_or p at 0) ≡ k → found (open' h is) (drop at p) ≡ found (key (item h is k) 0) (drop at p)
-  same_line k h is g f = open-found h is (at_byte p at g) f
+  same_line k h is g f = open_found h is (at_byte p at g) f
 
-  pub to-add : {start m : ℕ} → at < length p → kind_of (get_or p at 0) ≡ adding → Accepting open' p at start m → Accepting (λ (h : Head). λ (is : List Item). key (item h is adding) 0) p at start m
-  to-add g f a = record {
+  pub to_add : {start m : ℕ} → at < length p → kind_of (get_or p at 0) ≡ adding → Accepting open' p at start m → Accepting (λ (h : Head). λ (is : List Item). key (item h is adding) 0) p at start m
+  to_add g f a = record {
     head = a.head;
     done = a.done;
     items = a.items;
@@ -235,30 +235,30 @@ module _ (p : List ℕ) (at : ℕ) where
     left = sym (same_line adding a.head a.done g f) ∙ a.left;
   }
 
-  pub to_number : (k : Kind) {start m : ℕ} → hexes k ≡ false → length (kindKey k) ≡ 5 → at < length p → kind_of (get_or p at 0) ≡ k → Accepting open' p at start m → Numbered k p at
-  to_number k o l g f a = number-stands p k o at l a.head a.done a.items (sym (same_line k a.head a.done g f) ∙ a.left)
+  pub to_number : (k : Kind) {start m : ℕ} → hexes k ≡ false → length (kind_key k) ≡ 5 → at < length p → kind_of (get_or p at 0) ≡ k → Accepting open' p at start m → Numbered k p at
+  to_number k o l g f a = number_stands p k o at l a.head a.done a.items (sym (same_line k a.head a.done g f) ∙ a.left)
 
 -- an add line of an accepted file
 module _ (p : List ℕ) (at start place : ℕ) (d : List ℤ) (e : List ℕ) where
-  pub add-put : {d' : List ℤ} {e' : List ℕ} {s j : ℕ} → begins addKey (drop at p) ≡ true → PointsPut p (at + 4) start e e' (GoodSpot s j) → d' ≡ placed d place (pos 1 ∷ pos start ∷ pos (s - start) ∷ []) → ItemPut (λ (h : Head). λ (is : List Item). key (item h is adding) 0) p at start place d d' e e' (GoodSpot s j)
-  unfolding recordOf size texts
-  add-put {d'} {e'} {s} {j} b q f = record {
+  pub add_put : {d' : List ℤ} {e' : List ℕ} {s j : ℕ} → begins add_key (drop at p) ≡ true → PointsPut p (at + 4) start e e' (GoodSpot s j) → d' ≡ placed d place (pos 1 ∷ pos start ∷ pos (s - start) ∷ []) → ItemPut (λ (h : Head). λ (is : List Item). key (item h is adding) 0) p at start place d d' e e' (GoodSpot s j)
+  unfolding record_of size texts
+  add_put {d'} {e'} {s} {j} b q f = record {
     says = λ h is js x y z g.
-        let t = q.says h is js x y z (sym (to-points p at h is b) ∙ g) in
+        let t = q.says h is js x y z (sym (to_points p at h is b) ∙ g) in
         let w : s ≡ start + length t.0 = t.1 in
         let l : s - start ≡ length t.0 = omega arith in
         (Add t.0, w, f ∙ rw l, t.2 ∙ rw (append-nil t.0), t.3);
   }
 
-  pub add_none : {e' : List ℕ} → begins addKey (drop at p) ≡ true → PointsPut p (at + 4) start e e' BadSpot → ItemPut (λ (h : Head). λ (is : List Item). key (item h is adding) 0) p at start place d d e e' BadSpot
-  add_none b q = record { says = λ h is js x y z g. q.says h is js x y z (sym (to-points p at h is b) ∙ g) }
+  pub add_none : {e' : List ℕ} → begins add_key (drop at p) ≡ true → PointsPut p (at + 4) start e e' BadSpot → ItemPut (λ (h : Head). λ (is : List Item). key (item h is adding) 0) p at start place d d e e' BadSpot
+  add_none b q = record { says = λ h is js x y z g. q.says h is js x y z (sym (to_points p at h is b) ∙ g) }
 
   number_in : (d' : List ℤ) (h : Head) (is js : List Item) (r : Spot) → NumberIn h is js p start place d d' r → ItemIn h is js p start place d d' e e r
-  number_in d' h is js (GoodSpot s j) (x, a, b, t, f, g) = (x, omega arith, f, rw t (sym (placed-none e start)), g)
+  number_in d' h is js (GoodSpot s j) (x, a, b, t, f, g) = (x, omega arith, f, rw t (sym (placed_none e start)), g)
   number_in d' h is js BadSpot q = q
 
   pub as_number : (k : Kind) {d' : List ℤ} {r : Spot} → at < length p → kind_of (get_or p at 0) ≡ k → NumberPut p k at start place d d' r → ItemPut open' p at start place d d' e e r
   as_number k {d'} {r} g f q = record { says = λ h is js x y z w. number_in d' h is js r (q.says h is js x (sym (same_line p at k h is g f) ∙ w)) }
 
-  pub as-add : {d' : List ℤ} {e' : List ℕ} {r : Spot} → at < length p → kind_of (get_or p at 0) ≡ adding → ItemPut (λ (h : Head). λ (is : List Item). key (item h is adding) 0) p at start place d d' e e' r → ItemPut open' p at start place d d' e e' r
-  as-add g f q = record { says = λ h is js x y z w. q.says h is js x y z (sym (same_line p at adding h is g f) ∙ w) }
+  pub as_add : {d' : List ℤ} {e' : List ℕ} {r : Spot} → at < length p → kind_of (get_or p at 0) ≡ adding → ItemPut (λ (h : Head). λ (is : List Item). key (item h is adding) 0) p at start place d d' e e' r → ItemPut open' p at start place d d' e e' r
+  as_add g f q = record { says = λ h is js x y z w. q.says h is js x y z (sym (same_line p at adding h is g f) ∙ w) }

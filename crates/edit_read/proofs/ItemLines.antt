@@ -9,15 +9,15 @@ use lib.ListN.{length, get_or, drop, drop_of_length-le}
 use lib.Seq.{drop-drop}
 use lib.Dec.{ltb, leb}
 use borrow.Author.Tests.{lt-ltb, le-leb, lt-leb}
-use Rattle.room.proofs.Bools.{and-false}
+use Rattle.room.proofs.Bools.{and_false}
 use Rattle.edit_format.specs.Tests.{begins}
-use Rattle.edit_format.specs.Items.{Item, Keep, Drop, Add, kept, dropped, added, isKeep, endsKeep}
-use Rattle.edit_format.specs.Written.{Head, addKey, itemLine}
-use Rattle.edit_format.specs.Reading.{Kind, keeping, dropping, adding, item, key, open', lineNo, line, kindKey, key_of, hexes, several, fits, fitsItem, kind_of, item_of, next, run, Leads}
-use Rattle.edit_format.proofs.ReadBack.{kept_append, dropped-append, added-append, ends_snoc}
-use Rattle.edit_format.proofs.Canonical.{line-bytes}
-use Rattle.edit_format.proofs.Leading.{leads-on, stays_on}
-use Rattle.edit_format.proofs.Finding.{key-on, key-off, past-leads, past-stays, gap-opened, open-leads, open_stays}
+use Rattle.edit_format.specs.Items.{Item, Keep, Drop, Add, kept, dropped, added, is_keep, ends_keep}
+use Rattle.edit_format.specs.Written.{Head, add_key, item_line}
+use Rattle.edit_format.specs.Reading.{Kind, keeping, dropping, adding, item, key, open', line_no, line, kind_key, key_of, hexes, several, fits, fits_item, kind_of, item_of, next, run, Leads}
+use Rattle.edit_format.proofs.ReadBack.{kept_append, dropped_append, added_append, ends_snoc}
+use Rattle.edit_format.proofs.Canonical.{line_bytes}
+use Rattle.edit_format.proofs.Leading.{leads_on, stays_on}
+use Rattle.edit_format.proofs.Finding.{key_on, key_off, past_leads, past_stays, gap_opened, open_leads, open_stays}
 use Rattle.edit_lines.specs.Scan.{cap, line_at}
 use Rattle.edit_read.specs.Judged.{PointsRead, Holds, Within, ItemFound, ItemRead}
 use Rattle.edit_lines.specs.declared.Number.{Number}
@@ -34,113 +34,113 @@ abbrev pub Reads : Kind → List ℕ → Sums → Turn → Type 0
 Reads k = ItemRead (λ (h : Head). λ (is : List Item). key (item h is k) 0)
 
 module _ (p : List ℕ) (s : Sums) (k : Kind) (one : hexes k ≡ false) where
-  found-line : (h : Head) (is : List Item) (r : Number) → line_at (kindKey k) p s.next ≡ r → Lined (item h is k) p s.next r
+  found_line : (h : Head) (is : List Item) (r : Number) → line_at (kind_key k) p s.next ≡ r → Lined (item h is k) p s.next r
   unfolding key_of several
-  found-line h is r e = rw e at (lined (item h is k) p s.next one)
+  found_line h is r e = rw e at (lined (item h is k) p s.next one)
 
-  pub no_line : line_at (kindKey k) p s.next ≡ Bad → Reads k p s BadItem
-  unfolding lineNo
-  no_line e = record { says = λ h is o f. found-line h is Bad e }
+  pub no_line : line_at (kind_key k) p s.next ≡ Bad → Reads k p s BadItem
+  unfolding line_no
+  no_line e = record { says = λ h is o f. found_line h is Bad e }
 
-  pub unfit : {v j : ℕ} → line_at (kindKey k) p s.next ≡ Value v j → ((is : List Item) → Holds s is → (m : ℕ) → v ≡ cap m → fitsItem is k [] m ≡ false) → Reads k p s BadItem
-  unfolding lineNo fits
+  pub unfit : {v j : ℕ} → line_at (kind_key k) p s.next ≡ Value v j → ((is : List Item) → Holds s is → (m : ℕ) → v ≡ cap m → fits_item is k [] m ≡ false) → Reads k p s BadItem
+  unfolding line_no fits
   unfit {v} {j} e u = record {
     says = λ h is o f.
-        let t : Lined (item h is k) p s.next (Value v j) = found-line h is (Value v j) e in
-        t.5 (rw (u is o t.0 t.3) (and-false (ltb (length is) 8192)));
+        let t : Lined (item h is k) p s.next (Value v j) = found_line h is (Value v j) e in
+        t.5 (rw (u is o t.0 t.3) (and_false (ltb (length is) 8192)));
   }
 
-  pub fit : {v : ℕ} {t : Sums} → line_at (kindKey k) p s.next ≡ Value v t.next → Within p t → ((is : List Item) → Holds s is → (m : ℕ) → v ≡ cap m → (fitsItem is k [] m ≡ true) × Holds t (is ++ item_of k [] m ∷ [])) → Reads k p s (GoodItem t)
+  pub fit : {v : ℕ} {t : Sums} → line_at (kind_key k) p s.next ≡ Value v t.next → Within p t → ((is : List Item) → Holds s is → (m : ℕ) → v ≡ cap m → (fits_item is k [] m ≡ true) × Holds t (is ++ item_of k [] m ∷ [])) → Reads k p s (GoodItem t)
   unfolding next fits
   fit {v} {t} e w u = record {
     says = λ h is o f.
-        let d : Lined (item h is k) p s.next (Value v t.next) = found-line h is (Value v t.next) e in
+        let d : Lined (item h is k) p s.next (Value v t.next) = found_line h is (Value v t.next) e in
         let x = u is o d.0 d.3 in
         (item_of k [] d.0, x.1, w, d.4 (rw (lt-ltb (length is) 8192 f) x.0));
   }
 
 -- the sums with one item more
-more-holds : (t : Sums) (is : List Item) (x : Item) → t.used ≡ kept (is ++ x ∷ []) + dropped (is ++ x ∷ []) → t.kept ≡ kept (is ++ x ∷ []) → t.added ≡ added (is ++ x ∷ []) → t.joined ≡ isKeep x → Holds t (is ++ x ∷ [])
-more-holds t is x a b c d = record { used = a; keeps = b; text = c; joined = d ∙ sym (ends_snoc is x) }
+more_holds : (t : Sums) (is : List Item) (x : Item) → t.used ≡ kept (is ++ x ∷ []) + dropped (is ++ x ∷ []) → t.kept ≡ kept (is ++ x ∷ []) → t.added ≡ added (is ++ x ∷ []) → t.joined ≡ is_keep x → Holds t (is ++ x ∷ [])
+more_holds t is x a b c d = record { used = a; keeps = b; text = c; joined = d ∙ sym (ends_snoc is x) }
 
 module _ (p : List ℕ) (s : Sums) {v j : ℕ} where
-  pub keep-joined : line_at (kindKey keeping) p s.next ≡ Value v j → s.joined ≡ true → Reads keeping p s BadItem
-  unfolding fitsItem hexes
-  keep-joined e g = unfit p s keeping refl e (λ is o m w. rw (sym o.joined ∙ g))
+  pub keep_joined : line_at (kind_key keeping) p s.next ≡ Value v j → s.joined ≡ true → Reads keeping p s BadItem
+  unfolding fits_item hexes
+  keep_joined e g = unfit p s keeping refl e (λ is o m w. rw (sym o.joined ∙ g))
 
-  pub keep-none : line_at (kindKey keeping) p s.next ≡ Value v j → v < 1 → Reads keeping p s BadItem
-  unfolding fitsItem hexes
-  keep-none e g = unfit p s keeping refl e (λ is o m w. rw (lt-leb 1 m (omega arith)) (and-false (not (endsKeep is))))
+  pub keep_none : line_at (kind_key keeping) p s.next ≡ Value v j → v < 1 → Reads keeping p s BadItem
+  unfolding fits_item hexes
+  keep_none e g = unfit p s keeping refl e (λ is o m w. rw (lt-leb 1 m (omega arith)) (and_false (not (ends_keep is))))
 
-  pub keep-over : line_at (kindKey keeping) p s.next ≡ Value v j → 65535 < s.used + v → Reads keeping p s BadItem
-  unfolding fitsItem hexes
-  keep-over e g = unfit p s keeping refl e (λ is o m w. rw (lt-leb (kept is + dropped is + m) 65535 (omega (arith, o.used)), and-false (leb 1 m)) (and-false (not (endsKeep is))))
+  pub keep_over : line_at (kind_key keeping) p s.next ≡ Value v j → 65535 < s.used + v → Reads keeping p s BadItem
+  unfolding fits_item hexes
+  keep_over e g = unfit p s keeping refl e (λ is o m w. rw (lt-leb (kept is + dropped is + m) 65535 (omega (arith, o.used)), and_false (leb 1 m)) (and_false (not (ends_keep is))))
 
-  pub drop-none : line_at (kindKey dropping) p s.next ≡ Value v j → v < 1 → Reads dropping p s BadItem
-  unfolding fitsItem hexes
-  drop-none e g = unfit p s dropping refl e (λ is o m w. rw (lt-leb 1 m (omega arith)))
+  pub drop_none : line_at (kind_key dropping) p s.next ≡ Value v j → v < 1 → Reads dropping p s BadItem
+  unfolding fits_item hexes
+  drop_none e g = unfit p s dropping refl e (λ is o m w. rw (lt-leb 1 m (omega arith)))
 
-  pub drop-over : line_at (kindKey dropping) p s.next ≡ Value v j → 65535 < s.used + v → Reads dropping p s BadItem
-  unfolding fitsItem hexes
-  drop-over e g = unfit p s dropping refl e (λ is o m w. rw (lt-leb (kept is + dropped is + m) 65535 (omega (arith, o.used))) (and-false (leb 1 m)))
+  pub drop_over : line_at (kind_key dropping) p s.next ≡ Value v j → 65535 < s.used + v → Reads dropping p s BadItem
+  unfolding fits_item hexes
+  drop_over e g = unfit p s dropping refl e (λ is o m w. rw (lt-leb (kept is + dropped is + m) 65535 (omega (arith, o.used))) (and_false (leb 1 m)))
 
   -- every number line ends in the bytes
-  pub in_bytes : (k : Kind) → hexes k ≡ false → line_at (kindKey k) p s.next ≡ Value v j → j ≤ length p
-  in_bytes k one e = (found-line p s k one (record { original = 0; result = 0; count = 0 }) [] (Value v j) e).2
+  pub in_bytes : (k : Kind) → hexes k ≡ false → line_at (kind_key k) p s.next ≡ Value v j → j ≤ length p
+  in_bytes k one e = (found_line p s k one (record { original = 0; result = 0; count = 0 }) [] (Value v j) e).2
 
-  pub keep-fits : Within p s → line_at (kindKey keeping) p s.next ≡ Value v j → s.joined ≡ false → 1 ≤ v → s.used + v ≤ 65535
+  pub keep_fits : Within p s → line_at (kind_key keeping) p s.next ≡ Value v j → s.joined ≡ false → 1 ≤ v → s.used + v ≤ 65535
       → Reads keeping p s (GoodItem (record { next = j; used = s.used + v; kept = s.kept + v; added = s.added; joined = true }))
-  unfolding fitsItem hexes item_of kept dropped added isKeep
-  keep-fits w e g a b =
+  unfolding fits_item hexes item_of kept dropped added is_keep
+  keep_fits w e g a b =
       fit p s keeping refl e (record { next = in_bytes keeping refl e; used = b; keeps = omega (arith, w.keeps); text = w.text })
       (λ is o m f. (
         rw (sym o.joined ∙ g, le-leb 1 m (omega arith), le-leb (kept is + dropped is + m) 65535 (omega (arith, o.used))),
-        more-holds _ is (Keep m) (omega (arith, o.used, kept_append is (Keep m ∷ []), dropped-append is (Keep m ∷ []))) (omega (arith, o.keeps, kept_append is (Keep m ∷ []))) (omega (arith, o.text, added-append is (Keep m ∷ []))) refl,
+        more_holds _ is (Keep m) (omega (arith, o.used, kept_append is (Keep m ∷ []), dropped_append is (Keep m ∷ []))) (omega (arith, o.keeps, kept_append is (Keep m ∷ []))) (omega (arith, o.text, added_append is (Keep m ∷ []))) refl,
       ))
 
-  pub drop-fits : Within p s → line_at (kindKey dropping) p s.next ≡ Value v j → 1 ≤ v → s.used + v ≤ 65535
+  pub drop_fits : Within p s → line_at (kind_key dropping) p s.next ≡ Value v j → 1 ≤ v → s.used + v ≤ 65535
       → Reads dropping p s (GoodItem (record { next = j; used = s.used + v; kept = s.kept; added = s.added; joined = false }))
-  unfolding fitsItem hexes item_of kept dropped added isKeep
-  drop-fits w e a b =
+  unfolding fits_item hexes item_of kept dropped added is_keep
+  drop_fits w e a b =
       fit p s dropping refl e (record { next = in_bytes dropping refl e; used = b; keeps = omega (arith, w.keeps); text = w.text })
       (λ is o m f. (
         rw (le-leb 1 m (omega arith), le-leb (kept is + dropped is + m) 65535 (omega (arith, o.used))),
-        more-holds _ is (Drop m) (omega (arith, o.used, kept_append is (Drop m ∷ []), dropped-append is (Drop m ∷ []))) (omega (arith, o.keeps, kept_append is (Drop m ∷ []))) (omega (arith, o.text, added-append is (Drop m ∷ []))) refl,
+        more_holds _ is (Drop m) (omega (arith, o.used, kept_append is (Drop m ∷ []), dropped_append is (Drop m ∷ []))) (omega (arith, o.keeps, kept_append is (Drop m ∷ []))) (omega (arith, o.text, added_append is (Drop m ∷ []))) refl,
       ))
 
 module _ (p : List ℕ) (s : Sums) where
-  pub add-off : begins addKey (drop s.next p) ≡ false → Reads adding p s BadItem
-  unfolding key_of kindKey lineNo
-  add-off e = record { says = λ h is o f. key-off (item h is adding) (drop s.next p) e }
+  pub add_off : begins add_key (drop s.next p) ≡ false → Reads adding p s BadItem
+  unfolding key_of kind_key line_no
+  add_off e = record { says = λ h is o f. key_off (item h is adding) (drop s.next p) e }
 
-  add-on : (h : Head) (is : List Item) → begins addKey (drop s.next p) ≡ true → Leads (key (item h is adding) 0) (drop s.next p) (key (item h is adding) (length (key_of (item h is adding)))) (drop (s.next + 4) p)
-  unfolding key_of kindKey
-  add-on h is e = rw (drop-drop 4 s.next p) at (key-on (item h is adding) (drop s.next p) e)
+  add_on : (h : Head) (is : List Item) → begins add_key (drop s.next p) ≡ true → Leads (key (item h is adding) 0) (drop s.next p) (key (item h is adding) (length (key_of (item h is adding)))) (drop (s.next + 4) p)
+  unfolding key_of kind_key
+  add_on h is e = rw (drop-drop 4 s.next p) at (key_on (item h is adding) (drop s.next p) e)
 
-  pub add-fails : begins addKey (drop s.next p) ≡ true → PointsRead p (s.next + 4) s.added BadPoints → Reads adding p s BadItem
-  add-fails e r = record { says = λ h is o f. stays_on (add-on h is e) (past-stays (item h is adding) (drop (s.next + 4) p) ∙ r.says h is (sym o.text) f) }
+  pub add_fails : begins add_key (drop s.next p) ≡ true → PointsRead p (s.next + 4) s.added BadPoints → Reads adding p s BadItem
+  add_fails e r = record { says = λ h is o f. stays_on (add_on h is e) (past_stays (item h is adding) (drop (s.next + 4) p) ∙ r.says h is (sym o.text) f) }
 
-  pub add-fits : {n j : ℕ} → Within p s → begins addKey (drop s.next p) ≡ true → PointsRead p (s.next + 4) s.added (GoodPoints n j)
+  pub add_fits : {n j : ℕ} → Within p s → begins add_key (drop s.next p) ≡ true → PointsRead p (s.next + 4) s.added (GoodPoints n j)
       → Reads adding p s (GoodItem (record { next = j; used = s.used; kept = s.kept; added = s.added + n; joined = false }))
-  unfolding kept dropped added isKeep
-  add-fits {n} {j} w e r = record {
+  unfolding kept dropped added is_keep
+  add_fits {n} {j} w e r = record {
     says = λ h is o f.
         let q = r.says h is (sym o.text) f in
         let l : length q.0 ≡ n = q.1 in
         let x : Item = Add q.0 in (
           x,
-          more-holds _ is x (omega (arith, o.used, kept_append is (x ∷ []), dropped-append is (x ∷ []))) (omega (arith, o.keeps, kept_append is (x ∷ []))) (omega (arith, o.text, added-append is (x ∷ []))) refl,
+          more_holds _ is x (omega (arith, o.used, kept_append is (x ∷ []), dropped_append is (x ∷ []))) (omega (arith, o.keeps, kept_append is (x ∷ []))) (omega (arith, o.text, added_append is (x ∷ []))) refl,
           record { next = r.fit.1; used = w.used; keeps = w.keeps; text = r.fit.0 },
-          leads-on (add-on h is e) (past-leads (item h is adding) (gap-opened (item h is adding) [] h (is ++ x ∷ [])) q.2),
+          leads_on (add_on h is e) (past_leads (item h is adding) (gap_opened (item h is adding) [] h (is ++ x ∷ [])) q.2),
         );
   }
 
   -- the kind by the line's first byte
-  pub as-kind : (k : Kind) {r : Turn} → s.next < length p → kind_of (get_or p s.next 0) ≡ k → Reads k p s r → ItemRead open' p s r
-  as-kind k {r} h e q = record { says = λ g is o f. go g is r (q.says g is o f) }
+  pub as_kind : (k : Kind) {r : Turn} → s.next < length p → kind_of (get_or p s.next 0) ≡ k → Reads k p s r → ItemRead open' p s r
+  as_kind k {r} h e q = record { says = λ g is o f. go g is r (q.says g is o f) }
     where
       go : (g : Head) (is : List Item) (r : Turn) → ItemFound (key (item g is k) 0) g is p s r → ItemFound (open' g is) g is p s r
-      go g is (GoodItem t) (x, o, w, d) = (x, o, w, open-leads g is (at_byte p s.next h) e g (is ++ x ∷ []) d)
+      go g is (GoodItem t) (x, o, w, d) = (x, o, w, open_leads g is (at_byte p s.next h) e g (is ++ x ∷ []) d)
       go g is BadItem d = open_stays g is (at_byte p s.next h) e ∙ d
 
   pub cut_off : length p ≤ s.next → ItemRead open' p s BadItem
@@ -148,8 +148,8 @@ module _ (p : List ℕ) (s : Sums) where
   cut_off h = record { says = λ g is o f. ap (λ (x : List ℕ). line (run (open' g is) x)) (drop_of_length-le p h) }
 
 -- the item taken is the one whose line stands there, also in a file that is refused further on
-pub takes-line : {p : List ℕ} {s t : Sums} {is : List Item} → ItemRead open' p s (GoodItem t) → Holds s is → length is < 8192 → (x : Item) × Holds t (is ++ x ∷ []) × (drop s.next p ≡ itemLine x ++ drop t.next p)
-takes-line {p} {s} {t} {is} r o f =
+pub takes_line : {p : List ℕ} {s t : Sums} {is : List Item} → ItemRead open' p s (GoodItem t) → Holds s is → length is < 8192 → (x : Item) × Holds t (is ++ x ∷ []) × (drop s.next p ≡ item_line x ++ drop t.next p)
+takes_line {p} {s} {t} {is} r o f =
     let h : Head = record { original = 0; result = 0; count = 0 } in
     let q = r.says h is o f in
-    (q.0, q.1, line-bytes h is q.0 (drop s.next p) (drop t.next p) q.3)
+    (q.0, q.1, line_bytes h is q.0 (drop s.next p) (drop t.next p) q.3)

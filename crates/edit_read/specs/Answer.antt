@@ -5,14 +5,14 @@ use Rattle.room.specs.Placed.{answered}
 use Rattle.refusal.specs.declared.Refusal.TheVariants.{Line, Room}
 use Rattle.edit_format.specs.Items.{texts}
 use Rattle.edit_format.specs.Reading.{Found, Accepted, Refused}
-use Rattle.edit_format.specs.Records.{recordsOf}
+use Rattle.edit_format.specs.Records.{records_of}
 use Rattle.edit_read.specs.declared.FileRead.{FileRead}
 use Rattle.edit_read.specs.declared.FileRead.TheVariants.{Counts, Refused as No}
 
 -- "All others: the exact length of the answer": the counts of items and of code points
-unfoldable pub lengthsOf : Found → FileRead
-lengthsOf (Refused l) = No (Line l)
-lengthsOf (Accepted is) = Counts (length is) (length (texts is))
+unfoldable pub lengths_of : Found → FileRead
+lengths_of (Refused l) = No (Line l)
+lengths_of (Accepted is) = Counts (length is) (length (texts is))
 
 -- "Edit files: 8 then 7", for rooms of so many numbers and so many code points; a record is three numbers
 unfoldable pub answer_of : Found → ℕ → ℕ → FileRead
@@ -21,19 +21,19 @@ answer_of (Accepted is) a b =
     pick (ltb a (3 * length is)) (No Room) (pick (ltb b (length (texts is))) (No Room) (Counts (length is) (length (texts is))))
 
 -- "A refusal writes nothing. On success a room past its answer is unchanged"
-unfoldable pub itemsLeft : FileRead → Found → List ℤ → List ℤ
-itemsLeft (Counts n m) (Accepted is) d = answered (recordsOf is) d
-itemsLeft (Counts n m) (Refused l) d = d
-itemsLeft (No e) f d = d
+unfoldable pub items_left : FileRead → Found → List ℤ → List ℤ
+items_left (Counts n m) (Accepted is) d = answered (records_of is) d
+items_left (Counts n m) (Refused l) d = d
+items_left (No e) f d = d
 
 -- "A refusal writes nothing. On success a room past its answer is unchanged": the text's room
-unfoldable pub textLeft : FileRead → Found → List ℕ → List ℕ
-textLeft (Counts n m) (Accepted is) d = answered (texts is) d
-textLeft (Counts n m) (Refused l) d = d
-textLeft (No e) f d = d
+unfoldable pub text_left : FileRead → Found → List ℕ → List ℕ
+text_left (Counts n m) (Accepted is) d = answered (texts is) d
+text_left (Counts n m) (Refused l) d = d
+text_left (No e) f d = d
 
 -- "Edit files: 8 then 7": what the call answers, and what stands in both rooms after it
 pub record ReadInto (f : Found) (d : List ℤ) (e : List ℕ) (d' : List ℤ) (e' : List ℕ) (r : FileRead) : Type 0 where
   pub answer : r ≡ answer_of f (length d) (length e)
-  pub items : d' ≡ itemsLeft r f d
-  pub text : e' ≡ textLeft r f e
+  pub items : d' ≡ items_left r f d
+  pub text : e' ≡ text_left r f e

@@ -5,8 +5,8 @@ use Rattle.room.specs.Placed.{placed}
 use Rattle.edit_format.specs.Tests.{begins}
 use Rattle.edit_format.specs.Items.{Item, Add, added, texts}
 use Rattle.edit_format.specs.Written.{Head}
-use Rattle.edit_format.specs.Reading.{Kind, State, kindKey, key, gap, item, adding, opened, Found, Accepted, Refused, found, readFile}
-use Rattle.edit_format.specs.Records.{recordOf, recordsOf, size}
+use Rattle.edit_format.specs.Reading.{Kind, State, kind_key, key, gap, item, adding, opened, Found, Accepted, Refused, found, read_file}
+use Rattle.edit_format.specs.Records.{record_of, records_of, size}
 use Rattle.edit_lines.specs.Scan.{Closes}
 use Rattle.edit_read.specs.declared.Spot.{Spot}
 use Rattle.edit_read.specs.declared.Spot.TheVariants.{Good as GoodSpot, Bad as BadSpot}
@@ -41,13 +41,13 @@ pub record PointsPut (p : List ℕ) (at start : ℕ) (d d' : List ℕ) (r : Spot
 
 -- the line of a keep or a drop stands at a place: its key, and a number no larger than any original
 pub record Numbered (k : Kind) (p : List ℕ) (at : ℕ) : Type 0 where
-  pub keyed : begins (kindKey k) (drop at p) ≡ true
+  pub keyed : begins (kind_key k) (drop at p) ≡ true
   pub number : Closes p (at + 5)
 
 -- a keep or a drop uses no text
 abbrev pub NumberIn : Head → List Item → List Item → List ℕ → ℕ → ℕ → List ℤ → List ℤ → Spot → Type 0
 NumberIn h is js p start place d d' (GoodSpot e j) =
-    (x : Item) × (e ≡ start) × (size x ≡ 0) × (texts (x ∷ []) ≡ []) × (d' ≡ placed d place (recordOf start x))
+    (x : Item) × (e ≡ start) × (size x ≡ 0) × (texts (x ∷ []) ≡ []) × (d' ≡ placed d place (record_of start x))
     × (found (opened h (is ++ x ∷ [])) (drop j p) ≡ Accepted js)
 NumberIn h is js p start place d d' BadSpot = ⊥
 
@@ -60,7 +60,7 @@ pub record NumberPut (p : List ℕ) (k : Kind) (at start place : ℕ) (d d' : Li
 -- one item in both rooms
 abbrev pub ItemIn : Head → List Item → List Item → List ℕ → ℕ → ℕ → List ℤ → List ℤ → List ℕ → List ℕ → Spot → Type 0
 ItemIn h is js p start place d d' e e' (GoodSpot s j) =
-    (x : Item) × (s ≡ start + size x) × (d' ≡ placed d place (recordOf start x)) × (e' ≡ placed e start (texts (x ∷ [])))
+    (x : Item) × (s ≡ start + size x) × (d' ≡ placed d place (record_of start x)) × (e' ≡ placed e start (texts (x ∷ [])))
     × (found (opened h (is ++ x ∷ [])) (drop j p) ≡ Accepted js)
 ItemIn h is js p start place d d' e e' BadSpot = ⊥
 
@@ -71,20 +71,20 @@ pub record ItemPut (st : Head → List Item → State) (p : List ℕ) (at start 
       → ItemIn h is js p start place d d' e e' r
 
 -- what an accepted file puts into the rooms
-unfoldable pub recordsFound : Found → List ℤ
-recordsFound (Accepted is) = recordsOf is
-recordsFound (Refused l) = []
+unfoldable pub records_found : Found → List ℤ
+records_found (Accepted is) = records_of is
+records_found (Refused l) = []
 
 -- the same of the text's room
-unfoldable pub textFound : Found → List ℕ
-textFound (Accepted is) = texts is
-textFound (Refused l) = []
+unfoldable pub text_found : Found → List ℕ
+text_found (Accepted is) = texts is
+text_found (Refused l) = []
 
 -- a file that was judged, and rooms that its answer fits into
 pub record Fillable (p : List ℕ) (first count n m : ℕ) : Type 0 where
   pub items : List Item
   pub head : Head
-  pub accepted : readFile p ≡ Accepted items
+  pub accepted : read_file p ≡ Accepted items
   pub many : count ≡ length items
   pub counted : head.count ≡ length items
   pub records : 3 * length items ≤ n

@@ -1,9 +1,9 @@
 -- What the reader knows between two lines: the code's numbers, and the items that they stand for. A good line is said by its bytes and where
 -- they led, a bad one by the line that the reader never leaves; so each says the same in a file that is refused further on. Assumes nothing.
 use Rattle.std.specs.Prelude.{◌≡◌, true, ℕ, ◌+◌, ◌≤◌, ◌<◌, List, [], ◌∷◌, ◌++◌, length, drop}
-use Rattle.edit_format.specs.Items.{Item, Add, kept, dropped, added, endsKeep}
+use Rattle.edit_format.specs.Items.{Item, Add, kept, dropped, added, ends_keep}
 use Rattle.edit_format.specs.Written.{Head}
-use Rattle.edit_format.specs.Reading.{State, Line, form, item, adding, key, gap, firstItem, heading, lineNo, line, opened, run, Leads, Accepted, Refused, found, readFile}
+use Rattle.edit_format.specs.Reading.{State, Line, form, item, adding, key, gap, first_item, heading, line_no, line, opened, run, Leads, Accepted, Refused, found, read_file}
 use Rattle.edit_lines.specs.Scan.{cap}
 use Rattle.edit_read.specs.declared.Header.{Header}
 use Rattle.edit_read.specs.declared.Heading.{Heading}
@@ -22,7 +22,7 @@ HeadFound p (GoodHead t) =
     (h : Head) × (t.original ≡ h.original) × (t.result ≡ cap h.result) × (t.count ≡ h.count) × (h.count ≤ 8192) × (t.next ≤ length p)
     × Leads (key form 0) p (opened h []) (drop t.next p)
 HeadFound p (BadHead l) =
-    (k : Line) × (i : ℕ) × (heading k ≡ true) × (lineNo k ≡ l) × Leads (key form 0) p (key k 0) (drop i p) × (line (run (key k 0) (drop i p)) ≡ lineNo k)
+    (k : Line) × (i : ℕ) × (heading k ≡ true) × (line_no k ≡ l) × Leads (key form 0) p (key k 0) (drop i p) × (line (run (key k 0) (drop i p)) ≡ line_no k)
 
 -- the statement of the header's reader
 pub record HeadRead (p : List ℕ) (r : Heading) : Type 0 where
@@ -32,7 +32,7 @@ pub record HeadRead (p : List ℕ) (r : Heading) : Type 0 where
 abbrev pub PointsFound : Head → List Item → List ℕ → ℕ → ℕ → Points → Type 0
 PointsFound h is p at a (GoodPoints n j) =
     (cs : List ℕ) × (length cs ≡ n) × Leads (gap (item h is adding) []) (drop at p) (opened h (is ++ Add cs ∷ [])) (drop j p)
-PointsFound h is p at a BadPoints = line (run (gap (item h is adding) []) (drop at p)) ≡ firstItem h + length is
+PointsFound h is p at a BadPoints = line (run (gap (item h is adding) []) (drop at p)) ≡ first_item h + length is
 
 -- their number fits, and the place behind them lies in the bytes
 abbrev pub PointsFit : List ℕ → ℕ → Points → Type 0
@@ -49,7 +49,7 @@ pub record Holds (s : Sums) (is : List Item) : Type 0 where
   pub used : s.used ≡ kept is + dropped is
   pub keeps : s.kept ≡ kept is
   pub text : s.added ≡ added is
-  pub joined : s.joined ≡ endsKeep is
+  pub joined : s.joined ≡ ends_keep is
 
 -- the sums are within their sizes, and the place lies in the bytes
 pub record Within (p : List ℕ) (s : Sums) : Type 0 where
@@ -62,7 +62,7 @@ pub record Within (p : List ℕ) (s : Sums) : Type 0 where
 abbrev pub ItemFound : State → Head → List Item → List ℕ → Sums → Turn → Type 0
 ItemFound st h is p s (GoodItem t) =
     (x : Item) × Holds t (is ++ x ∷ []) × Within p t × Leads st (drop s.next p) (opened h (is ++ x ∷ [])) (drop t.next p)
-ItemFound st h is p s BadItem = line (run st (drop s.next p)) ≡ firstItem h + length is
+ItemFound st h is p s BadItem = line (run st (drop s.next p)) ≡ first_item h + length is
 
 -- the statement of the reader of an item
 pub record ItemRead (st : Head → List Item → State) (p : List ℕ) (s : Sums) (r : Turn) : Type 0 where
@@ -86,9 +86,9 @@ pub record Judging (p : List ℕ) (t : Header) (s : Sums) (i : ℕ) : Type 0 whe
 -- what is found in all of the bytes, and where the first item's line begins
 abbrev pub Verdicts : List ℕ → Verdict → Type 0
 Verdicts p (Yes n m o f) =
-    (is : List Item) × (h : Head) × (readFile p ≡ Accepted is) × (n ≡ length is) × (m ≡ added is) × (o ≡ kept is + dropped is)
+    (is : List Item) × (h : Head) × (read_file p ≡ Accepted is) × (n ≡ length is) × (m ≡ added is) × (o ≡ kept is + dropped is)
     × (h.count ≡ length is) × (found (opened h []) (drop f p) ≡ Accepted is)
-Verdicts p (No l) = readFile p ≡ Refused l
+Verdicts p (No l) = read_file p ≡ Refused l
 
 -- the statement of the judge
 pub record Judged (p : List ℕ) (r : Verdict) : Type 0 where

@@ -4,10 +4,10 @@ ghost use Rattle.std.specs.Prelude.{◌≡◌, List, [], ◌+◌, ◌*◌, ◌�
 ghost use Rattle.room.specs.Placed.{answered};
 ghost use Rattle.edit_format.specs.Items.{Item};
 ghost use Rattle.edit_format.specs.Written.{Head};
-ghost use Rattle.edit_format.specs.Reading.{key, gap, item, keeping, dropping, adding, open', readFile, believes};
+ghost use Rattle.edit_format.specs.Reading.{key, gap, item, keeping, dropping, adding, open', read_file, believes};
 ghost use Rattle.edit_read.specs.Judged.{HeadRead, PointsRead, Within, ItemRead, Judging, Judged};
-ghost use Rattle.edit_read.specs.Filled.{recordsFound, textFound, PointsPut, Numbered, NumberPut, ItemPut, Accepting, Fillable};
-ghost use Rattle.edit_read.specs.Answer.{lengthsOf, ReadInto};
+ghost use Rattle.edit_read.specs.Filled.{records_found, text_found, PointsPut, Numbered, NumberPut, ItemPut, Accepting, Fillable};
+ghost use Rattle.edit_read.specs.Answer.{lengths_of, ReadInto};
 
 use edit_lines::{Number, Point};
 use item_records::{dropped_number, plain_number, put_record};
@@ -339,7 +339,7 @@ pub fn judge(bytes: &[u8]) -> Verdict
 
 // How many items and code points a file has: what its reader must be lent.
 pub fn read_lengths(bytes: &[u8]) -> FileRead
-    ensures { result ≡ lengthsOf (readFile bytes.now) }
+    ensures { result ≡ lengths_of (read_file bytes.now) }
 {
     match judge(bytes) {
         Verdict::Accepted {
@@ -354,7 +354,7 @@ pub fn read_lengths(bytes: &[u8]) -> FileRead
 
 // Whether a file is believed for an original of this length.
 pub fn believed(bytes: &[u8], original: usize) -> bool
-    ensures { result ≡ believes (readFile bytes.now) original }
+    ensures { result ≡ believes (read_file bytes.now) original }
 {
     match judge(bytes) {
         Verdict::Accepted {
@@ -470,7 +470,7 @@ fn put_item(
 // All items of an accepted file.
 fn fill(bytes: &[u8], first: usize, count: usize, items: &mut [i64], text: &mut [u32])
     requires { Fillable bytes.now first count (length items.old) (length text.old) }
-    ensures { (items.new ≡ answered (recordsFound (readFile bytes.now)) items.old) × (text.new ≡ answered (textFound (readFile bytes.now)) text.old) }
+    ensures { (items.new ≡ answered (records_found (read_file bytes.now)) items.old) × (text.new ≡ answered (text_found (read_file bytes.now)) text.old) }
 {
     let mut at = first;
     let mut start: usize = 0;
@@ -491,7 +491,7 @@ fn fill(bytes: &[u8], first: usize, count: usize, items: &mut [i64], text: &mut 
 
 // An edit file's items and text into the rooms. All is judged first, so a refusal writes nothing, and 8 comes before 7.
 pub fn read(bytes: &[u8], items: &mut [i64], text: &mut [u32]) -> FileRead
-    ensures { ReadInto (readFile bytes.now) items.old text.old items.new text.new result }
+    ensures { ReadInto (read_file bytes.now) items.old text.old items.new text.new result }
 {
     match judge(bytes) {
         Verdict::Accepted {

@@ -2,12 +2,12 @@
 // its first byte to its last.
 ghost use Rattle.std.specs.Prelude.{◌≡◌, List, ℕ, ◌+◌, ◌*◌, ◌≤◌, length};
 ghost use Rattle.room.specs.Placed.{Put};
-ghost use Rattle.edit_format.specs.Written.{itemLine, itemLines};
+ghost use Rattle.edit_format.specs.Written.{item_line, item_lines};
 ghost use Rattle.diff.specs.Items.{item_at};
 ghost use Rattle.written_lines.specs.Lengths.{cap};
-ghost use Rattle.writable.specs.Writable.{fileItem, fileOf};
+ghost use Rattle.writable.specs.Writable.{file_item, file_of};
 ghost use Rattle.edit_write.specs.Writing.{length_of, Wrote};
-ghost use Rattle.edit_write.specs.Bytes.{fileBytes};
+ghost use Rattle.edit_write.specs.Bytes.{file_bytes};
 
 use diff::diff::Item;
 use refusal::{Counted, Refusal};
@@ -15,7 +15,7 @@ use refusal::{Counted, Refusal};
 // The length of a file with this header and lines of items.
 fn file_length(items: &[i64], lines: usize, original: u64, res: u64) -> usize
     requires { lines ≤ 1099511627776 }
-    ensures { (t : List ℕ) → lines ≡ cap (length (itemLines (fileOf items.now t))) → result ≡ cap (length (fileBytes items.now t original res)) }
+    ensures { (t : List ℕ) → lines ≡ cap (length (item_lines (file_of items.now t))) → result ≡ cap (length (file_bytes items.now t original res)) }
 {
     let count = (items.len() / 3) as u64;
     let a = written_lines::plus(7, written_lines::line_length(9, original));
@@ -27,8 +27,8 @@ fn file_length(items: &[i64], lines: usize, original: u64, res: u64) -> usize
 
 // The line of a lent item at a place.
 fn put_item(items: &[i64], text: &[u32], i: usize, out: &mut [u8], at: usize) -> usize
-    requires { (i * 3 + 3 ≤ length items.now) × (at + length (itemLine (fileItem text.now (item_at items.now (length text.now) i))) ≤ length out.old) }
-    ensures { Put (itemLine (fileItem text.now (item_at items.now (length text.now) i))) out.old at out.new result }
+    requires { (i * 3 + 3 ≤ length items.now) × (at + length (item_line (file_item text.now (item_at items.now (length text.now) i))) ≤ length out.old) }
+    ensures { Put (item_line (file_item text.now (item_at items.now (length text.now) i))) out.old at out.new result }
 {
     let lent = text.len();
     match diff::diff::item_at(items, lent, i) {
@@ -43,8 +43,8 @@ fn put_item(items: &[i64], text: &[u32], i: usize, out: &mut [u8], at: usize) ->
 }
 
 fn put_items(items: &[i64], text: &[u32], out: &mut [u8], at: usize) -> usize
-    requires { at + length (itemLines (fileOf items.now text.now)) ≤ length out.old }
-    ensures { Put (itemLines (fileOf items.now text.now)) out.old at out.new result }
+    requires { at + length (item_lines (file_of items.now text.now)) ≤ length out.old }
+    ensures { Put (item_lines (file_of items.now text.now)) out.old at out.new result }
 {
     let count = items.len() / 3;
     let mut k = at;
@@ -58,8 +58,8 @@ fn put_items(items: &[i64], text: &[u32], out: &mut [u8], at: usize) -> usize
 
 // The whole file with this header.
 fn put_file(items: &[i64], text: &[u32], original: u64, res: u64, out: &mut [u8]) -> usize
-    requires { length (fileBytes items.now text.now original res) ≤ length out.old }
-    ensures { Put (fileBytes items.now text.now original res) out.old 0 out.new result }
+    requires { length (file_bytes items.now text.now original res) ≤ length out.old }
+    ensures { Put (file_bytes items.now text.now original res) out.old 0 out.new result }
 {
     let count = (items.len() / 3) as u64;
     let a = written_lines::put_line(out, 0, b"form=", 1);
@@ -72,7 +72,7 @@ fn put_file(items: &[i64], text: &[u32], original: u64, res: u64, out: &mut [u8]
 
 // How many bytes the edit file of a diff has.
 pub fn write_length(items: &[i64], text: &[u32]) -> Counted
-    ensures { result ≡ length_of (fileOf items.now text.now) text.now }
+    ensures { result ≡ length_of (file_of items.now text.now) text.now }
 {
     match writable::check(items, text) {
         writable::Checked::Fine { sums, lines } => {
@@ -86,7 +86,7 @@ pub fn write_length(items: &[i64], text: &[u32]) -> Counted
 
 // A diff as an edit file into a room.
 pub fn write(items: &[i64], text: &[u32], out: &mut [u8]) -> Counted
-    ensures { Wrote (fileOf items.now text.now) text.now out.old out.new result }
+    ensures { Wrote (file_of items.now text.now) text.now out.old out.new result }
 {
     match writable::check(items, text) {
         writable::Checked::Fine { sums, lines } => {

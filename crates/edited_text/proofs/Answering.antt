@@ -10,33 +10,33 @@ use lib.Dec.{leb}
 use borrow.Author.Tests.{leb-true}
 use Rattle.refusal.specs.declared.Refusal.{Refusal}
 use Rattle.refusal.specs.declared.Refusal.TheVariants as R
-use Rattle.records.specs.Operations.{operationsOf}
-use Rattle.records.specs.Cursors.{cursorsOf}
-use Rattle.records.proofs.Operations.{length-of as operations-of}
-use Rattle.records.proofs.Cursors.{length-of as cursors-of}
+use Rattle.records.specs.Operations.{operations_of}
+use Rattle.records.specs.Cursors.{cursors_of}
+use Rattle.records.proofs.Operations.{length_of_lem as operations_of}
+use Rattle.records.proofs.Cursors.{length_of_lem as cursors-of}
 use Rattle.sizes.specs.declared.Limits.{Limits}
 use Rattle.verdict.specs.declared.Verdict.{Verdict}
 use Rattle.verdict.specs.declared.Verdict.TheVariants.{Accepted, Refused}
-use Rattle.sizes.specs.Texts.{total, claimedBy}
+use Rattle.sizes.specs.Texts.{total, claimed_by}
 use Rattle.sizes.specs.Sizes.{merging}
 use Rattle.checks.specs.declared.Checked.{Checked}
 use Rattle.checks.specs.declared.Checked.TheVariants.{Sums, Refused as No}
-use Rattle.checks.specs.Lists.{listsVerdict, checkedOf}
+use Rattle.checks.specs.Lists.{lists_verdict, checked_of}
 use Rattle.shapes.specs.Accepted.{AcceptedList}
 use Rattle.room.proofs.Bools.{and_left, and_right}
-use Rattle.verdict.proofs.Chains.{stops, has_room, lacks-room}
-use Rattle.checks.proofs.Accepted.{accepted-left, accepted-right}
-use Rattle.checks.proofs.Telling.{says-no, says-yes, says_first, says_second}
+use Rattle.verdict.proofs.Chains.{stops, has_room, lacks_room}
+use Rattle.checks.proofs.Accepted.{accepted_left, accepted_right}
+use Rattle.checks.proofs.Telling.{says_no, says_yes, says_first, says_second}
 use Rattle.edited_text.specs.declared.Counts.{Counts}
 use Rattle.edited_text.specs.declared.Answer.TheVariants as A
-use Rattle.edited_text.specs.Merging.{roomsFit, mergeVerdict, verdictOn, MergedBy, Mergeable, Merges}
+use Rattle.edited_text.specs.Merging.{rooms_fit, merge_verdict, verdict_on, MergedBy, Mergeable, Merges}
 
-same-counts : (r : Counts) (n m : ℕ) → r.operations ≡ n → r.cursors ≡ m → r ≡ record { operations = n; cursors = m }
-same-counts r n m e f = rw (← e, ← f)
+same_counts : (r : Counts) (n m : ℕ) → r.operations ≡ n → r.cursors ≡ m → r ≡ record { operations = n; cursors = m }
+same_counts r n m e f = rw (← e, ← f)
 
 module _ (original text spans keys left right lcs rcs o c w : List ℕ) where
   abbrev verdict : Verdict
-  verdict = verdictOn original text spans keys left right lcs rcs o c w
+  verdict = verdict_on original text spans keys left right lcs rcs o c w
 
   -- a refusal leaves the rooms as they were
   refuses : (r : Refusal) → verdict ≡ Refused r → MergedBy original text spans keys left right lcs rcs o o c c w w (A.Refused r)
@@ -44,45 +44,45 @@ module _ (original text spans keys left right lcs rcs o c w : List ℕ) where
 
   -- what the check gave
   module _ (l : Limits) (el : l ≡ merging) (x : Checked)
-      (ex : x ≡ checkedOf (listsVerdict l original text spans keys (operationsOf left) (operationsOf right) (cursorsOf lcs) (cursorsOf rcs)) (total claimedBy (operationsOf left)) (total claimedBy (operationsOf right))) where
+      (ex : x ≡ checked_of (lists_verdict l original text spans keys (operations_of left) (operations_of right) (cursors_of lcs) (cursors_of rcs)) (total claimed_by (operations_of left)) (total claimed_by (operations_of right))) where
     pub refused : (r : Refusal) → x ≡ No r → MergedBy original text spans keys left right lcs rcs o o c c w w (A.Refused r)
-    unfolding mergeVerdict
-    refused r e = refuses r (sym (stops _ _ r (says-no _ _ _ _ (sym (rw el at ex) ∙ e))))
+    unfolding merge_verdict
+    refused r e = refuses r (sym (stops _ _ r (says_no _ _ _ _ (sym (rw el at ex) ∙ e))))
 
     module _ (m n : ℕ) (e : x ≡ Sums m n) where
-      passed : listsVerdict merging original text spans keys (operationsOf left) (operationsOf right) (cursorsOf lcs) (cursorsOf rcs) ≡ Accepted
-      passed = says-yes _ _ _ _ _ (sym (rw el at ex) ∙ e)
+      passed : lists_verdict merging original text spans keys (operations_of left) (operations_of right) (cursors_of lcs) (cursors_of rcs) ≡ Accepted
+      passed = says_yes _ _ _ _ _ (sym (rw el at ex) ∙ e)
 
-      pub left-list : AcceptedList merging original text spans keys (operationsOf left) (cursorsOf lcs)
-      left-list = accepted-left merging original text spans keys (operationsOf left) (operationsOf right) (cursorsOf lcs) (cursorsOf rcs) passed
+      pub left_list : AcceptedList merging original text spans keys (operations_of left) (cursors_of lcs)
+      left_list = accepted_left merging original text spans keys (operations_of left) (operations_of right) (cursors_of lcs) (cursors_of rcs) passed
 
-      pub right-list : AcceptedList merging original text spans keys (operationsOf right) (cursorsOf rcs)
-      right-list = accepted-right merging original text spans keys (operationsOf left) (operationsOf right) (cursorsOf lcs) (cursorsOf rcs) passed
+      pub right_list : AcceptedList merging original text spans keys (operations_of right) (cursors_of rcs)
+      right_list = accepted_right merging original text spans keys (operations_of left) (operations_of right) (cursors_of lcs) (cursors_of rcs) passed
 
-      claims-left : m ≡ total claimedBy (operationsOf left)
-      claims-left = says_first _ _ _ _ _ (sym ex ∙ e)
+      claims_left : m ≡ total claimed_by (operations_of left)
+      claims_left = says_first _ _ _ _ _ (sym ex ∙ e)
 
-      claims-right : n ≡ total claimedBy (operationsOf right)
-      claims-right = says_second _ _ _ _ _ (sym ex ∙ e)
+      claims_right : n ≡ total claimed_by (operations_of right)
+      claims_right = says_second _ _ _ _ _ (sym ex ∙ e)
 
-      pub half-small : m + n ≤ 16384
-      half-small = omega (arith, claims-left, left-list.tokens-most, claims-right, right-list.tokens-most)
+      pub half_small : m + n ≤ 16384
+      half_small = omega (arith, claims_left, left_list.tokens_most, claims_right, right_list.tokens_most)
 
       abbrev tested : Bool
       tested =
           leb ((length left / 6 + length right / 6) * 6) (length o)
           && (leb ((length lcs / 2 + length rcs / 2) * 2) (length c) && leb ((m + n) * 2) (length w))
 
-      rooms : tested ≡ roomsFit (operationsOf left) (operationsOf right) (cursorsOf lcs) (cursorsOf rcs) (length o) (length c) (length w)
-      rooms = rw (operations-of left, operations-of right, cursors-of lcs, cursors-of rcs, ← claims-left, ← claims-right)
+      rooms : tested ≡ rooms_fit (operations_of left) (operations_of right) (cursors_of lcs) (cursors_of rcs) (length o) (length c) (length w)
+      rooms = rw (operations_of left, operations_of right, cursors-of lcs, cursors-of rcs, ← claims_left, ← claims_right)
 
       pub no_room : tested ≡ false → MergedBy original text spans keys left right lcs rcs o o c c w w (A.Refused R.Room)
-      unfolding mergeVerdict
-      no_room f = refuses R.Room (lacks-room _ _ passed (sym rooms ∙ f))
+      unfolding merge_verdict
+      no_room f = refuses R.Room (lacks_room _ _ passed (sym rooms ∙ f))
 
       module _ (f : tested ≡ true) where
         accepts : verdict ≡ Accepted
-        unfolding mergeVerdict
+        unfolding merge_verdict
         accepts = has_room _ _ passed (sym rooms ∙ f)
 
         abbrev first : Bool
@@ -98,21 +98,21 @@ module _ (original text spans keys left right lcs rcs o c w : List ℕ) where
         mergeable =
             let rest : second && third ≡ true = and_right first (second && third) f in
             record {
-              left-accepted = left-list;
-              right-accepted = right-list;
-              mid-is = claims-left;
-              half_is = omega (arith, claims-right);
-              operations-fit =
-                  omega (arith, leb-true ((length left / 6 + length right / 6) * 6) (length o) (and_left first (second && third) f), operations-of left, operations-of right);
-              cursors-fit = omega (arith, leb-true ((length lcs / 2 + length rcs / 2) * 2) (length c) (and_left second third rest), cursors-of lcs, cursors-of rcs);
-              work-fits = leb-true ((m + n) * 2) (length w) (and_right second third rest);
+              left_accepted = left_list;
+              right_accepted = right_list;
+              mid_is = claims_left;
+              half_is = omega (arith, claims_right);
+              operations_fit =
+                  omega (arith, leb-true ((length left / 6 + length right / 6) * 6) (length o) (and_left first (second && third) f), operations_of left, operations_of right);
+              cursors_fit = omega (arith, leb-true ((length lcs / 2 + length rcs / 2) * 2) (length c) (and_left second third rest), cursors-of lcs, cursors-of rcs);
+              work_fits = leb-true ((m + n) * 2) (length w) (and_right second third rest);
             }
 
         pub answers : (o' c' w' : List ℕ) (r : Counts) → Merges original text spans keys left right lcs rcs o o' c c' r → length w' ≡ length w
             → MergedBy original text spans keys left right lcs rcs o o' c c' w w' (A.Counts r)
         answers o' c' w' r M k =
             record {
-              answer = rw (accepts, same-counts r _ _ M.many-operations M.many-cursors);
+              answer = rw (accepts, same_counts r _ _ M.many_operations M.many_cursors);
               operations = rw accepts M.operations;
               cursors = rw accepts M.cursors;
               work = rw accepts k;

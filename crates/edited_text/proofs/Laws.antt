@@ -9,71 +9,71 @@ use Rattle.refusal.specs.declared.Refusal.{Refusal}
 use Rattle.room.specs.Placed.{answered}
 use Rattle.records.specs.declared.Operation.{Operation}
 use Rattle.records.specs.declared.Cursor.{Cursor}
-use Rattle.records.specs.Operations.{operationsOf, flatOperations}
-use Rattle.records.specs.Cursors.{cursorsOf, flatCursors, Within}
-use Rattle.records.proofs.Operations.{of-answered as operations-back}
-use Rattle.records.proofs.Cursors.{of-answered as cursors-back}
+use Rattle.records.specs.Operations.{operations_of, flat_operations}
+use Rattle.records.specs.Cursors.{cursors_of, flat_cursors, Within}
+use Rattle.records.proofs.Operations.{of_answered as operations-back}
+use Rattle.records.proofs.Cursors.{of_answered as cursors-back}
 use Rattle.verdict.specs.declared.Verdict.{Verdict}
 use Rattle.verdict.specs.declared.Verdict.TheVariants.{Accepted, Refused}
-use Rattle.verdict.specs.Points.{pointsVerdict}
+use Rattle.verdict.specs.Points.{points_verdict}
 use Rattle.sizes.specs.Sizes.{merging, otherwise}
 use Rattle.shapes.specs.Accepted.{AcceptedList}
-use Rattle.checks.specs.Lists.{listVerdict, listsVerdict}
-use Rattle.verdict.proofs.Chains.{first-passed, rest-passed}
-use Rattle.checks.proofs.Accepted.{accepted-left, accepted-right, verdict-yes}
-use Rattle.merging.specs.Lent.{Lent, lent_of, rulesOf}
-use Rattle.merging.specs.Operations.{opsFrom}
-use Rattle.merging.specs.Merge.{Merged, mergeOf}
+use Rattle.checks.specs.Lists.{list_verdict, lists_verdict}
+use Rattle.verdict.proofs.Chains.{first_passed, rest_passed}
+use Rattle.checks.proofs.Accepted.{accepted_left, accepted_right, verdict_yes}
+use Rattle.merging.specs.Lent.{Lent, lent_of, rules_of}
+use Rattle.merging.specs.Operations.{ops_from}
+use Rattle.merging.specs.Merge.{Merged, merge_of}
 use Rattle.merging.specs.Tiling.{Merges}
-use Rattle.merging_laws.proofs.Accepted.{merged-accepted, merged-merges}
+use Rattle.merging_laws.proofs.Accepted.{merged_accepted, merged_merges}
 use Rattle.edited_text.specs.declared.Counts.{Counts}
 use Rattle.edited_text.specs.declared.Answer.{Answer}
 use Rattle.edited_text.specs.declared.Answer.TheVariants as A
-use Rattle.edited_text.specs.Merging.{mergeVerdict, verdictOn, mergeOn, answer_of, WorkLeft, MergedBy}
+use Rattle.edited_text.specs.Merging.{merge_verdict, verdict_on, merge_on, answer_of, WorkLeft, MergedBy}
 
 -- two lists that pass the checks of a merge
 module _ (lent : Lent) (ls rs : List Operation) (cs ds : List Cursor)
-    (passed : listsVerdict merging lent.original lent.inserted lent.spans lent.keys ls rs cs ds ≡ Accepted) where
-  left-list : AcceptedList merging lent.original lent.inserted lent.spans lent.keys ls cs
-  left-list = accepted-left merging lent.original lent.inserted lent.spans lent.keys ls rs cs ds passed
+    (passed : lists_verdict merging lent.original lent.inserted lent.spans lent.keys ls rs cs ds ≡ Accepted) where
+  left_list : AcceptedList merging lent.original lent.inserted lent.spans lent.keys ls cs
+  left_list = accepted_left merging lent.original lent.inserted lent.spans lent.keys ls rs cs ds passed
 
-  right-list : AcceptedList merging lent.original lent.inserted lent.spans lent.keys rs ds
-  right-list = accepted-right merging lent.original lent.inserted lent.spans lent.keys ls rs cs ds passed
+  right_list : AcceptedList merging lent.original lent.inserted lent.spans lent.keys rs ds
+  right_list = accepted_right merging lent.original lent.inserted lent.spans lent.keys ls rs cs ds passed
 
-  points-pass : pointsVerdict lent.original lent.inserted ≡ Accepted
-  unfolding listsVerdict
-  points-pass = first-passed _ _ (rest-passed _ _ passed)
+  points_pass : points_verdict lent.original lent.inserted ≡ Accepted
+  unfolding lists_verdict
+  points_pass = first_passed _ _ (rest_passed _ _ passed)
 
   abbrev merged : Merged
-  merged = mergeOf (rulesOf lent) ls rs cs ds
+  merged = merge_of (rules_of lent) ls rs cs ds
 
   facts : AcceptedList otherwise lent.original lent.inserted lent.spans lent.keys merged.operations merged.cursors
-  facts = merged-accepted lent ls rs cs ds left-list right-list
+  facts = merged_accepted lent ls rs cs ds left_list right_list
 
-  tiling : Merges (opsFrom 0 merged.operations) (opsFrom 0 ls) (opsFrom 0 rs) 0 (length lent.original)
-  tiling = merged-merges lent ls rs cs ds left-list right-list
+  tiling : Merges (ops_from 0 merged.operations) (ops_from 0 ls) (ops_from 0 rs) 0 (length lent.original)
+  tiling = merged_merges lent ls rs cs ds left_list right_list
 
   -- their merge passes those of text, history and diff, of its code points too
-  pub merged-fine : listVerdict otherwise lent.original lent.inserted lent.spans lent.keys merged.operations merged.cursors ≡ Accepted
-  merged-fine =
-      verdict-yes otherwise lent.original lent.inserted lent.spans lent.keys merged.operations merged.cursors facts points-pass
+  pub merged_fine : list_verdict otherwise lent.original lent.inserted lent.spans lent.keys merged.operations merged.cursors ≡ Accepted
+  merged_fine =
+      verdict_yes otherwise lent.original lent.inserted lent.spans lent.keys merged.operations merged.cursors facts points_pass
 
   -- and without its cursors, which a history and a diff do not take
-  pub merged-fine-alone : listVerdict otherwise lent.original lent.inserted lent.spans lent.keys merged.operations [] ≡ Accepted
+  pub merged_fine_alone : list_verdict otherwise lent.original lent.inserted lent.spans lent.keys merged.operations [] ≡ Accepted
   unfolding Within
-  merged-fine-alone =
+  merged_fine_alone =
       let a : AcceptedList otherwise lent.original lent.inserted lent.spans lent.keys merged.operations [] = record {
-        original-most = facts.original-most;
-        text-most = facts.text-most;
-        operations-most = facts.operations-most;
-        cursors-most = omega arith;
-        tokens-most = facts.tokens-most;
-        inserted-most = facts.inserted-most;
+        original_most = facts.original_most;
+        text_most = facts.text_most;
+        operations_most = facts.operations_most;
+        cursors_most = omega arith;
+        tokens_most = facts.tokens_most;
+        inserted_most = facts.inserted_most;
         shapes = facts.shapes;
         tiles = facts.tiles;
         within = tt;
       } in
-      verdict-yes otherwise lent.original lent.inserted lent.spans lent.keys merged.operations [] a points-pass
+      verdict_yes otherwise lent.original lent.inserted lent.spans lent.keys merged.operations [] a points_pass
 
 -- an answer that counts is that of an accepted call, and counts what was merged
 counts_of : (v : Verdict) (m : Merged) (n : Counts) → A.Counts n ≡ answer_of v m
@@ -82,24 +82,24 @@ counts_of Accepted m n e = (refl, (cc, cc))
 counts_of (Refused r) m n e = let z : ◌≡◌ {A = ℕ} 0 1 = cc in absurd (omega arith)
 
 -- "A refusal writes nothing."
-work-kept : (v : Verdict) (m : Merged) (q : Refusal) {w w' : List ℕ} → A.Refused q ≡ answer_of v m → WorkLeft v w w' → w' ≡ w
-work-kept Accepted m q e h = let z : ◌≡◌ {A = ℕ} 0 1 = cc in absurd (omega arith)
-work-kept (Refused r) m q e h = h
+work_kept : (v : Verdict) (m : Merged) (q : Refusal) {w w' : List ℕ} → A.Refused q ≡ answer_of v m → WorkLeft v w w' → w' ≡ w
+work_kept Accepted m q e h = let z : ◌≡◌ {A = ℕ} 0 1 = cc in absurd (omega arith)
+work_kept (Refused r) m q e h = h
 
 module _ (original text spans keys left right lcs rcs o c w : List ℕ) where
   -- "Any two outcomes it allows are shown equal, or the exception (the work room) is listed": on a refusal the work room is the same too
-  pub only-answer : {o₁ o₂ c₁ c₂ w₁ w₂ : List ℕ} {r₁ r₂ : Answer} → MergedBy original text spans keys left right lcs rcs o o₁ c c₁ w w₁ r₁
+  pub only_answer : {o₁ o₂ c₁ c₂ w₁ w₂ : List ℕ} {r₁ r₂ : Answer} → MergedBy original text spans keys left right lcs rcs o o₁ c c₁ w w₁ r₁
       → MergedBy original text spans keys left right lcs rcs o o₂ c c₂ w w₂ r₂
       → (r₁ ≡ r₂) × ((o₁ ≡ o₂) × ((c₁ ≡ c₂) × ((q : Refusal) → r₁ ≡ A.Refused q → w₁ ≡ w₂)))
-  only-answer a b =
-      let v : Verdict = verdictOn original text spans keys left right lcs rcs o c w in
-      let m : Merged = mergeOn original text spans keys left right lcs rcs in (
+  only_answer a b =
+      let v : Verdict = verdict_on original text spans keys left right lcs rcs o c w in
+      let m : Merged = merge_on original text spans keys left right lcs rcs in (
         a.answer ∙ sym b.answer,
         (
           a.operations ∙ sym b.operations,
           (
             a.cursors ∙ sym b.cursors,
-            λ (q : Refusal) e. work-kept v m q (sym e ∙ a.answer) a.work ∙ sym (work-kept v m q (sym e ∙ a.answer) b.work),
+            λ (q : Refusal) e. work_kept v m q (sym e ∙ a.answer) a.work ∙ sym (work_kept v m q (sym e ∙ a.answer) b.work),
           ),
         ),
       )
@@ -111,50 +111,50 @@ module _ (original text spans keys left right lcs rcs o c w : List ℕ) where
 
     -- the operations and the cursors that it counts
     abbrev operations : List Operation
-    operations = operationsOf (take (n.operations * 6) o')
+    operations = operations_of (take (n.operations * 6) o')
 
     abbrev cursors : List Cursor
-    cursors = cursorsOf (take (n.cursors * 2) c')
+    cursors = cursors_of (take (n.cursors * 2) c')
 
-    told : (verdictOn original text spans keys left right lcs rcs o c w ≡ Accepted)
-        × ((n.operations ≡ length (mergeOn original text spans keys left right lcs rcs).operations)
-        × (n.cursors ≡ length (mergeOn original text spans keys left right lcs rcs).cursors))
-    told = counts_of (verdictOn original text spans keys left right lcs rcs o c w) (mergeOn original text spans keys left right lcs rcs) n m.answer
+    told : (verdict_on original text spans keys left right lcs rcs o c w ≡ Accepted)
+        × ((n.operations ≡ length (merge_on original text spans keys left right lcs rcs).operations)
+        × (n.cursors ≡ length (merge_on original text spans keys left right lcs rcs).cursors))
+    told = counts_of (verdict_on original text spans keys left right lcs rcs o c w) (merge_on original text spans keys left right lcs rcs) n m.answer
 
-    passed : listsVerdict merging original text spans keys (operationsOf left) (operationsOf right) (cursorsOf lcs) (cursorsOf rcs) ≡ Accepted
-    unfolding mergeVerdict
-    passed = first-passed _ _ told.0
+    passed : lists_verdict merging original text spans keys (operations_of left) (operations_of right) (cursors_of lcs) (cursors_of rcs) ≡ Accepted
+    unfolding merge_verdict
+    passed = first_passed _ _ told.0
 
     -- they are those of the definition
-    pub operations-are : operations ≡ (mergeOn original text spans keys left right lcs rcs).operations
-    operations-are =
-        let e : o' ≡ answered (flatOperations (mergeOn original text spans keys left right lcs rcs).operations) o = rw told.0 at m.operations in
-        rw (e, told.1.0) (operations-back (mergeOn original text spans keys left right lcs rcs).operations o _ refl)
+    pub operations_are : operations ≡ (merge_on original text spans keys left right lcs rcs).operations
+    operations_are =
+        let e : o' ≡ answered (flat_operations (merge_on original text spans keys left right lcs rcs).operations) o = rw told.0 at m.operations in
+        rw (e, told.1.0) (operations-back (merge_on original text spans keys left right lcs rcs).operations o _ refl)
 
-    pub cursors-are : cursors ≡ (mergeOn original text spans keys left right lcs rcs).cursors
-    cursors-are =
-        let e : c' ≡ answered (flatCursors (mergeOn original text spans keys left right lcs rcs).cursors) c = rw told.0 at m.cursors in
-        rw (e, told.1.1) (cursors-back (mergeOn original text spans keys left right lcs rcs).cursors c _ refl)
+    pub cursors_are : cursors ≡ (merge_on original text spans keys left right lcs rcs).cursors
+    cursors_are =
+        let e : c' ≡ answered (flat_cursors (merge_on original text spans keys left right lcs rcs).cursors) c = rw told.0 at m.cursors in
+        rw (e, told.1.1) (cursors-back (merge_on original text spans keys left right lcs rcs).cursors c _ refl)
 
     -- so many stand in the rooms
     pub counts : (length operations ≡ n.operations) × (length cursors ≡ n.cursors)
-    counts = (rw operations-are (sym told.1.0), rw cursors-are (sym told.1.1))
+    counts = (rw operations_are (sym told.1.0), rw cursors_are (sym told.1.1))
 
     -- demand 3: "The merge's retains and deletes tile the original in order, and a code point is retained exactly if both lists retain it."
-    pub retains-both : Merges (opsFrom 0 operations) (opsFrom 0 (operationsOf left)) (opsFrom 0 (operationsOf right)) 0 (length original)
-    retains-both = rw operations-are (tiling lent (operationsOf left) (operationsOf right) (cursorsOf lcs) (cursorsOf rcs) passed)
+    pub retains_both : Merges (ops_from 0 operations) (ops_from 0 (operations_of left)) (ops_from 0 (operations_of right)) 0 (length original)
+    retains_both = rw operations_are (tiling lent (operations_of left) (operations_of right) (cursors_of lcs) (cursors_of rcs) passed)
 
     -- text, history and diff may be made of what was merged: it is an accepted list,
-    pub merged-list : AcceptedList otherwise original text spans keys operations cursors
-    merged-list =
-        rw (operations-are, cursors-are) (facts lent (operationsOf left) (operationsOf right) (cursorsOf lcs) (cursorsOf rcs) passed)
+    pub merged_list : AcceptedList otherwise original text spans keys operations cursors
+    merged_list =
+        rw (operations_are, cursors_are) (facts lent (operations_of left) (operations_of right) (cursors_of lcs) (cursors_of rcs) passed)
 
     -- no check of a list refuses it,
-    pub merged-passes : listVerdict otherwise original text spans keys operations cursors ≡ Accepted
-    merged-passes =
-        rw (operations-are, cursors-are) (merged-fine lent (operationsOf left) (operationsOf right) (cursorsOf lcs) (cursorsOf rcs) passed)
+    pub merged_passes : list_verdict otherwise original text spans keys operations cursors ≡ Accepted
+    merged_passes =
+        rw (operations_are, cursors_are) (merged_fine lent (operations_of left) (operations_of right) (cursors_of lcs) (cursors_of rcs) passed)
 
     -- nor where no cursors are lent with it
-    pub merged-passes-alone : listVerdict otherwise original text spans keys operations [] ≡ Accepted
-    merged-passes-alone =
-        rw operations-are (merged-fine-alone lent (operationsOf left) (operationsOf right) (cursorsOf lcs) (cursorsOf rcs) passed)
+    pub merged_passes_alone : list_verdict otherwise original text spans keys operations [] ≡ Accepted
+    merged_passes_alone =
+        rw operations_are (merged_fine_alone lent (operations_of left) (operations_of right) (cursors_of lcs) (cursors_of rcs) passed)

@@ -3,7 +3,7 @@ use Rattle.std.specs.Prelude.{ℕ, ◌+◌, Bool, true, false, List, [], ◌∷�
 use Rattle.records.specs.declared.Operation.{Operation}
 use Rattle.raw_lists.specs.Raws.{Run}
 use Rattle.elongate.specs.declared.Current.{Current}
-use Rattle.elongate.specs.Elongated.{lastRight, joinable, piecesLength, consumes}
+use Rattle.elongate.specs.Elongated.{last_right, joinable, pieces_length, consumes}
 
 -- none yet
 abbrev pub none : Current
@@ -35,10 +35,10 @@ closed c =
     ]
 
 -- the operations that it and the runs behind it give, joined and cooked
-unfoldable pub cookedOn : Current → List Run → List Operation
-cookedOn c [] = closed c
-cookedOn c (r ∷ rs) =
+unfoldable pub cooked_on : Current → List Run → List Operation
+cooked_on c [] = closed c
+cooked_on c (r ∷ rs) =
     elim (joinable c.kind c.right r) [
-      | true ↦ cookedOn (extended c (piecesLength r.tokens) (length r.tokens) (lastRight r.tokens)) rs
-      | false ↦ closed c ++ cookedOn (fresh c r.kind (piecesLength r.tokens) (length r.tokens) (lastRight r.tokens)) rs
+      | true ↦ cooked_on (extended c (pieces_length r.tokens) (length r.tokens) (last_right r.tokens)) rs
+      | false ↦ closed c ++ cooked_on (fresh c r.kind (pieces_length r.tokens) (length r.tokens) (last_right r.tokens)) rs
     ]

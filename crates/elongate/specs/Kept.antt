@@ -8,8 +8,8 @@ chosen p [] = []
 chosen p (r ∷ rs) = elim (p r.kind) [ true ↦ r.tokens ++ chosen p rs | false ↦ chosen p rs ]
 
 -- "A list's text: retained original and insert tokens' spelling, in list order": the tokens of a raw list's text
-abbrev pub textTokens : List Run → List Piece
-textTokens rs = chosen (λ k. not (eqb k 0)) rs
+abbrev pub text_tokens : List Run → List Piece
+text_tokens rs = chosen (λ k. not (eqb k 0)) rs
 
 -- "all deletes come first, then all inserts": a delete stands first, or behind a delete or a retain
 unfoldable pub Follows : ℕ → List Run → Type 0

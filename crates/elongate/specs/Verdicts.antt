@@ -1,27 +1,27 @@
 -- The refusals of a raw list, and what elongating answers and leaves. Assumes nothing.
 use Rattle.std.specs.Prelude.{ℕ, ◌*◌, ◌≡◌, Bool, ◌&&◌, List, length, leb}
-use Rattle.records.specs.Operations.{flatOperations}
+use Rattle.records.specs.Operations.{flat_operations}
 use Rattle.verdict.specs.declared.Verdict.{Verdict}
 use Rattle.verdict.specs.declared.Verdict.TheVariants.{Accepted, Refused}
 use Rattle.verdict.specs.Verdicts.{and_then, sized, roomed, leaves}
-use Rattle.verdict.specs.Points.{pointsFrom}
+use Rattle.verdict.specs.Points.{points_from}
 use Rattle.raw_lists.specs.declared.Raw.{Raw}
-use Rattle.raw_lists.specs.Raws.{rawsOf, runsOf, flatSpans, flatKeys, flatJoins}
-use Rattle.raw_lists.specs.Checks.{rawFits, shapesFrom}
+use Rattle.raw_lists.specs.Raws.{raws_of, runs_of, flat_spans, flat_keys, flat_joins}
+use Rattle.raw_lists.specs.Checks.{raw_fits, shapes_from}
 use Rattle.raw_lists.specs.Good.{counts}
 use Rattle.elongate.specs.declared.Answer.{Answer}
 use Rattle.elongate.specs.declared.Answer.TheVariants as A
-use Rattle.elongate.specs.Elongated.{elongated, cooked, allTokens}
+use Rattle.elongate.specs.Elongated.{elongated, cooked, all_tokens}
 
 -- "Elongating: as many operations, and as many tokens, as the raw list has": the rooms' numbers
-abbrev pub roomsFit : List Raw → ℕ → ℕ → ℕ → ℕ → Bool
-roomsFit rs o s k j = leb (length rs * 6) o && (leb (counts rs * 2) s && (leb (counts rs) k && leb (counts rs) j))
+abbrev pub rooms_fit : List Raw → ℕ → ℕ → ℕ → ℕ → Bool
+rooms_fit rs o s k j = leb (length rs * 6) o && (leb (counts rs * 2) s && (leb (counts rs) k && leb (counts rs) j))
 
 -- "Raw lists: 3, 4, 1, 7."
-unfoldable pub rawVerdict : List ℕ → List ℕ → List ℕ → List ℕ → List Raw → ℕ → ℕ → ℕ → ℕ → Verdict
-rawVerdict text spans keys joins rs o s k j =
-    and_then (sized (rawFits (length text) spans keys joins rs))
-    (and_then (pointsFrom text 0) (and_then (shapesFrom (length text) spans keys joins rs 0) (roomed (roomsFit rs o s k j))))
+unfoldable pub raw_verdict : List ℕ → List ℕ → List ℕ → List ℕ → List Raw → ℕ → ℕ → ℕ → ℕ → Verdict
+raw_verdict text spans keys joins rs o s k j =
+    and_then (sized (raw_fits (length text) spans keys joins rs))
+    (and_then (points_from text 0) (and_then (shapes_from (length text) spans keys joins rs 0) (roomed (rooms_fit rs o s k j))))
 
 -- "its result, numbers of a refusal included": how many operations and tokens, or the refusal
 abbrev pub answer_of : Verdict → ℕ → ℕ → Answer
@@ -30,12 +30,12 @@ answer_of (Refused r) o t = A.Refused r
 
 -- "A public call's statement covers its result, numbers of a refusal included, and the lent buffers": what `elongate` answers and leaves in its rooms, by a verdict
 pub record Elongates (xs spans keys joins text o s k j o' s' k' j' : List ℕ) (v : Verdict) (r : Answer) : Type 0 where
-  pub answer : r ≡ answer_of v (length (elongated (runsOf spans keys joins (rawsOf xs)))) (counts (rawsOf xs))
-  pub operations : o' ≡ leaves v (flatOperations (cooked (elongated (runsOf spans keys joins (rawsOf xs))))) o
-  pub in-spans : s' ≡ leaves v (flatSpans (allTokens (elongated (runsOf spans keys joins (rawsOf xs))))) s
-  pub in-keys : k' ≡ leaves v (flatKeys (allTokens (elongated (runsOf spans keys joins (rawsOf xs))))) k
-  pub in-joins : j' ≡ leaves v (flatJoins (allTokens (elongated (runsOf spans keys joins (rawsOf xs))))) j
+  pub answer : r ≡ answer_of v (length (elongated (runs_of spans keys joins (raws_of xs)))) (counts (raws_of xs))
+  pub operations : o' ≡ leaves v (flat_operations (cooked (elongated (runs_of spans keys joins (raws_of xs))))) o
+  pub in_spans : s' ≡ leaves v (flat_spans (all_tokens (elongated (runs_of spans keys joins (raws_of xs))))) s
+  pub in_keys : k' ≡ leaves v (flat_keys (all_tokens (elongated (runs_of spans keys joins (raws_of xs))))) k
+  pub in_joins : j' ≡ leaves v (flat_joins (all_tokens (elongated (runs_of spans keys joins (raws_of xs))))) j
 
 -- "Raw lists: 3, 4, 1, 7.": of all that was lent
-abbrev pub verdictOn : List ℕ → List ℕ → List ℕ → List ℕ → List ℕ → List ℕ → List ℕ → List ℕ → List ℕ → Verdict
-verdictOn xs spans keys joins text o s k j = rawVerdict text spans keys joins (rawsOf xs) (length o) (length s) (length k) (length j)
+abbrev pub verdict_on : List ℕ → List ℕ → List ℕ → List ℕ → List ℕ → List ℕ → List ℕ → List ℕ → List ℕ → Verdict
+verdict_on xs spans keys joins text o s k j = raw_verdict text spans keys joins (raws_of xs) (length o) (length s) (length k) (length j)

@@ -2,10 +2,10 @@
 // neighbours joined where their tokens let them, then cooked: order, length, and the place of the
 // tokens in their room.
 ghost use Rattle.std.specs.Prelude.{◌≡◌, ◌+◌, ◌*◌, ◌/◌, ◌%◌, ◌<◌, ◌≤◌, ◌&&◌, not, length, get_or, eqb, leb};
-ghost use Rattle.raw_lists.specs.Raws.{rawsOf, piecesFrom};
+ghost use Rattle.raw_lists.specs.Raws.{raws_of, pieces_from};
 ghost use Rattle.elongate.specs.Elongated.{arranged, consumes};
 ghost use Rattle.elongate.specs.Currents.{extended, fresh, closed};
-ghost use Rattle.elongate.specs.Verdicts.{Elongates, verdictOn};
+ghost use Rattle.elongate.specs.Verdicts.{Elongates, verdict_on};
 ghost use Rattle.elongate.specs.Writes.{Fits, Appended, Closed, Ready, Wrote};
 ghost use Rattle.elongate.specs.Places.{kind_of, Lies, Stepped};
 ghost use Rattle.elongate.specs.declared.Place.TheVariants.{Deletes, Inserts};
@@ -193,7 +193,7 @@ fn append(
     at: usize,
 )
     requires { Fits spans.now keys.now joins.now r spanned.old keyed.old joined.old at }
-    ensures { Appended (piecesFrom spans.now keys.now joins.now r.first r.count) at spanned.old keyed.old joined.old spanned.new keyed.new joined.new }
+    ensures { Appended (pieces_from spans.now keys.now joins.now r.first r.count) at spanned.old keyed.old joined.old spanned.new keyed.new joined.new }
 {
     let first = r.first;
     let end = first + r.count;
@@ -224,8 +224,8 @@ pub fn write(
     keyed: &mut [u32],
     joined: &mut [u8],
 ) -> Written
-    requires { Ready spans.now keys.now joins.now n (arranged kind_of (rawsOf raw.now)) operations.old spanned.old keyed.old joined.old }
-    ensures { Wrote spans.now keys.now joins.now (arranged kind_of (rawsOf raw.now)) operations.old spanned.old keyed.old joined.old operations.new spanned.new keyed.new joined.new result }
+    requires { Ready spans.now keys.now joins.now n (arranged kind_of (raws_of raw.now)) operations.old spanned.old keyed.old joined.old }
+    ensures { Wrote spans.now keys.now joins.now (arranged kind_of (raws_of raw.now)) operations.old spanned.old keyed.old joined.old operations.new spanned.new keyed.new joined.new result }
 {
     let mut place = Place::Deletes { start: 0, at: 0 };
     let mut current = Current {
@@ -305,7 +305,7 @@ pub fn elongate(
     keyed: &mut [u32],
     joined: &mut [u8],
 ) -> Answer
-    ensures { Elongates raw.now spans.now keys.now joins.now text.now operations.old spanned.old keyed.old joined.old operations.new spanned.new keyed.new joined.new (verdictOn raw.now spans.now keys.now joins.now text.now operations.old spanned.old keyed.old joined.old) result }
+    ensures { Elongates raw.now spans.now keys.now joins.now text.now operations.old spanned.old keyed.old joined.old operations.new spanned.new keyed.new joined.new (verdict_on raw.now spans.now keys.now joins.now text.now operations.old spanned.old keyed.old joined.old) result }
 {
     let n = text.len();
     if !raw_lists::raw_fits(raw, spans, keys, joins, n) {

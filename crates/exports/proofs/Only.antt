@@ -13,7 +13,7 @@ use Rattle.records.specs.declared.Cursor.{Cursor}
 use Rattle.verdict.specs.declared.Verdict.{Verdict}
 use Rattle.merging.specs.Lent.{Lent}
 use Rattle.utf8.specs.Answers.{Answered as Coded}
-use Rattle.utf8.proofs.Ways.{only-answer as only-coded}
+use Rattle.utf8.proofs.Ways.{only_answer as only-coded}
 use Rattle.overlap.specs.declared.Found.{Found as Range}
 use Rattle.overlap.specs.declared.Found.TheVariants as F
 use Rattle.overlap.specs.Overlap.{Answered, touched}
@@ -23,111 +23,111 @@ use Rattle.elongate.specs.Verdicts.{Elongates}
 use Rattle.edited_text.specs.declared.Answer.{Answer as Merged}
 use Rattle.edited_text.specs.declared.Answer.TheVariants as M
 use Rattle.edited_text.specs.Merging.{MergedBy}
-use Rattle.edited_text.proofs.Laws.{only-answer as only-merged}
+use Rattle.edited_text.proofs.Laws.{only_answer as only-merged}
 use Rattle.apply.specs.declared.Applied.{Applied}
 use Rattle.apply.specs.declared.WithHistory.{WithHistory}
 use Rattle.apply.specs.declared.WithAll.{WithAll}
 use Rattle.apply.specs.Answers.{Applies, Tells, AppliesAll}
-use Rattle.apply.proofs.ApplyWays.{only-answer as only-applied}
+use Rattle.apply.proofs.ApplyWays.{only_answer as only-applied}
 use Rattle.apply.proofs.HistoryWays.{only-history}
 use Rattle.apply.proofs.AllWays.{only-all}
 use Rattle.to_diff.specs.declared.Diffed.{Diffed}
 use Rattle.to_diff.specs.Answers.{Diffs}
-use Rattle.to_diff.proofs.Laws.{only-answer as only-diff}
+use Rattle.to_diff.proofs.Laws.{only_answer as only-diff}
 use Rattle.replay.specs.Answers.{Diff, Replayed}
-use Rattle.replay.proofs.Covering.{only-answer as only-replayed}
+use Rattle.replay.proofs.Covering.{only_answer as only-replayed}
 use Rattle.edit_format.specs.Items.{Item}
 use Rattle.edit_format.specs.Reading.{Found}
 use Rattle.edit_read.specs.declared.FileRead.{FileRead}
 use Rattle.edit_read.specs.Answer.{ReadInto}
 use Rattle.edit_write.specs.Writing.{Wrote}
 use Rattle.merge_files.specs.Program.{Outcome, Told, Written}
-use Rattle.reconcile.proofs.Only.{only-elongated, only-read, only-written}
+use Rattle.reconcile.proofs.Only.{only_elongated, only_read, only_written}
 use Rattle.answer.specs.declared.Answer.{Answer}
-use Rattle.answer.specs.Tellings.{tellCount, tellRange, tellElongated, tellMerged, tellApplied, tellHistory, tellAll, tellDiff, tellFile, ToldBy}
-use Rattle.answer.proofs.Laws.{only-told}
+use Rattle.answer.specs.Tellings.{tell_count, tell_range, tell_elongated, tell_merged, tell_applied, tell_history, tell_all, tell_diff, tell_file, ToldBy}
+use Rattle.answer.proofs.Laws.{only_told}
 
 -- reading and writing UTF-8
-pub only-utf8 : (due : Counted) (a d d₁ d₂ : List ℕ) {r s : Answer}
-    → ToldBy tellCount (λ (x : Counted). Coded due x a d d₁) r → ToldBy tellCount (λ (x : Counted). Coded due x a d d₂) s → (r ≡ s) × (d₁ ≡ d₂)
-only-utf8 due a d d₁ d₂ = only-told (λ (x : Counted). d₁ ≡ d₂) (λ x y p q. only-coded p q)
+pub only_utf8 : (due : Counted) (a d d₁ d₂ : List ℕ) {r s : Answer}
+    → ToldBy tell_count (λ (x : Counted). Coded due x a d d₁) r → ToldBy tell_count (λ (x : Counted). Coded due x a d d₂) s → (r ≡ s) × (d₁ ≡ d₂)
+only_utf8 due a d d₁ d₂ = only_told (λ (x : Counted). d₁ ≡ d₂) (λ x y p q. only-coded p q)
 
 -- what an overlap may change of its work room: on a refusal nothing
-range-kept : (x : Range) (n : ℕ) {r : Answer} {w₁ w₂ : List ℕ} → r ≡ tellRange x → drop (touched x n) w₁ ≡ drop (touched x n) w₂
+range_kept : (x : Range) (n : ℕ) {r : Answer} {w₁ w₂ : List ℕ} → r ≡ tell_range x → drop (touched x n) w₁ ≡ drop (touched x n) w₂
     → (drop n w₁ ≡ drop n w₂) × (1 ≤ r.refusal → w₁ ≡ w₂)
-range-kept (F.Range s e) n t h = (h, λ l. absurd (omega (arith, ap (λ (a : Answer). a.refusal) t)))
-range-kept (F.Refused c) n t h = (ap (drop n) h, λ l. h)
+range_kept (F.Range s e) n t h = (h, λ l. absurd (omega (arith, ap (λ (a : Answer). a.refusal) t)))
+range_kept (F.Refused c) n t h = (ap (drop n) h, λ l. h)
 
 -- the overlap: the work room past what the search may use, and on a refusal all of it
-pub only-overlap : (old new w w₁ w₂ : List ℕ) {r s : Answer} → ToldBy tellRange (Answered old new w w₁) r → ToldBy tellRange (Answered old new w w₂) s
+pub only_overlap : (old new w w₁ w₂ : List ℕ) {r s : Answer} → ToldBy tell_range (Answered old new w w₁) r → ToldBy tell_range (Answered old new w w₂) s
     → (r ≡ s) × ((drop (length new) w₁ ≡ drop (length new) w₂) × (1 ≤ r.refusal → w₁ ≡ w₂))
-only-overlap old new w w₁ w₂ x y =
-    let t = only-told (λ (a : Range). drop (touched a (length new)) w₁ ≡ drop (touched a (length new)) w₂) (λ a b p q. only-range p q) x y in
-    (t.0, range-kept x.answer (length new) x.is t.1)
+only_overlap old new w w₁ w₂ x y =
+    let t = only_told (λ (a : Range). drop (touched a (length new)) w₁ ≡ drop (touched a (length new)) w₂) (λ a b p q. only-range p q) x y in
+    (t.0, range_kept x.answer (length new) x.is t.1)
 
-pub only-elongate : (xs spans keys joins text o s k j o₁ s₁ k₁ j₁ o₂ s₂ k₂ j₂ : List ℕ) (v : Verdict) {r t : Answer}
-    → ToldBy tellElongated (Elongates xs spans keys joins text o s k j o₁ s₁ k₁ j₁ v) r
-    → ToldBy tellElongated (Elongates xs spans keys joins text o s k j o₂ s₂ k₂ j₂ v) t
+pub only_elongate : (xs spans keys joins text o s k j o₁ s₁ k₁ j₁ o₂ s₂ k₂ j₂ : List ℕ) (v : Verdict) {r t : Answer}
+    → ToldBy tell_elongated (Elongates xs spans keys joins text o s k j o₁ s₁ k₁ j₁ v) r
+    → ToldBy tell_elongated (Elongates xs spans keys joins text o s k j o₂ s₂ k₂ j₂ v) t
     → (r ≡ t) × ((o₁ ≡ o₂) × ((s₁ ≡ s₂) × ((k₁ ≡ k₂) × (j₁ ≡ j₂))))
-only-elongate xs spans keys joins text o s k j o₁ s₁ k₁ j₁ o₂ s₂ k₂ j₂ v =
-    only-told (λ (x : Elongated). (o₁ ≡ o₂) × ((s₁ ≡ s₂) × ((k₁ ≡ k₂) × (j₁ ≡ j₂)))) (λ x y p q. only-elongated p q)
+only_elongate xs spans keys joins text o s k j o₁ s₁ k₁ j₁ o₂ s₂ k₂ j₂ v =
+    only_told (λ (x : Elongated). (o₁ ≡ o₂) × ((s₁ ≡ s₂) × ((k₁ ≡ k₂) × (j₁ ≡ j₂)))) (λ x y p q. only_elongated p q)
 
 -- a merge that is told as refused was refused
-merge-refused : {P : Type 0} (x : Merged) {r : Answer} → r ≡ tellMerged x → 1 ≤ r.refusal → ((q : Refusal) → x ≡ M.Refused q → P) → P
-merge-refused (M.Counts n) t l f = absurd (omega (arith, ap (λ (a : Answer). a.refusal) t))
-merge-refused (M.Refused q) t l f = f q refl
+merge_refused : {P : Type 0} (x : Merged) {r : Answer} → r ≡ tell_merged x → 1 ≤ r.refusal → ((q : Refusal) → x ≡ M.Refused q → P) → P
+merge_refused (M.Counts n) t l f = absurd (omega (arith, ap (λ (a : Answer). a.refusal) t))
+merge_refused (M.Refused q) t l f = f q refl
 
 -- the merge: operations and cursors, and on a refusal the work room too
-pub only-merge : (original text spans keys left right lcs rcs o o₁ o₂ c c₁ c₂ w w₁ w₂ : List ℕ) {r s : Answer}
-    → ToldBy tellMerged (MergedBy original text spans keys left right lcs rcs o o₁ c c₁ w w₁) r
-    → ToldBy tellMerged (MergedBy original text spans keys left right lcs rcs o o₂ c c₂ w w₂) s
+pub only_merge : (original text spans keys left right lcs rcs o o₁ o₂ c c₁ c₂ w w₁ w₂ : List ℕ) {r s : Answer}
+    → ToldBy tell_merged (MergedBy original text spans keys left right lcs rcs o o₁ c c₁ w w₁) r
+    → ToldBy tell_merged (MergedBy original text spans keys left right lcs rcs o o₂ c c₂ w w₂) s
     → (r ≡ s) × ((o₁ ≡ o₂) × ((c₁ ≡ c₂) × (1 ≤ r.refusal → w₁ ≡ w₂)))
-only-merge original text spans keys left right lcs rcs o o₁ o₂ c c₁ c₂ w w₁ w₂ x y =
-    let t = only-told (λ (a : Merged). (o₁ ≡ o₂) × ((c₁ ≡ c₂) × ((q : Refusal) → a ≡ M.Refused q → w₁ ≡ w₂)))
+only_merge original text spans keys left right lcs rcs o o₁ o₂ c c₁ c₂ w w₁ w₂ x y =
+    let t = only_told (λ (a : Merged). (o₁ ≡ o₂) × ((c₁ ≡ c₂) × ((q : Refusal) → a ≡ M.Refused q → w₁ ≡ w₂)))
     (λ a b p q. only-merged original text spans keys left right lcs rcs o c w p q) x y in
-    (t.0, (t.1.0, (t.1.1.0, λ l. merge-refused x.answer x.is l t.1.1.1)))
+    (t.0, (t.1.0, (t.1.1.0, λ l. merge_refused x.answer x.is l t.1.1.1)))
 
-pub only-apply : (lent : Lent) (os : List Operation) (cs : List Cursor) (d e d₁ e₁ d₂ e₂ : List ℕ) {r s : Answer}
-    → ToldBy tellApplied (Applies lent os cs d e d₁ e₁) r → ToldBy tellApplied (Applies lent os cs d e d₂ e₂) s
+pub only_apply : (lent : Lent) (os : List Operation) (cs : List Cursor) (d e d₁ e₁ d₂ e₂ : List ℕ) {r s : Answer}
+    → ToldBy tell_applied (Applies lent os cs d e d₁ e₁) r → ToldBy tell_applied (Applies lent os cs d e d₂ e₂) s
     → (r ≡ s) × ((d₁ ≡ d₂) × (e₁ ≡ e₂))
-only-apply lent os cs d e d₁ e₁ d₂ e₂ = only-told (λ (x : Applied). (d₁ ≡ d₂) × (e₁ ≡ e₂)) (λ x y p q. only-applied p q)
+only_apply lent os cs d e d₁ e₁ d₂ e₂ = only_told (λ (x : Applied). (d₁ ≡ d₂) × (e₁ ≡ e₂)) (λ x y p q. only-applied p q)
 
-pub only-with-history : (lent : Lent) (os : List Operation) (d e d₁ e₁ d₂ e₂ : List ℕ) {r s : Answer}
-    → ToldBy tellHistory (Tells lent os d e d₁ e₁) r → ToldBy tellHistory (Tells lent os d e d₂ e₂) s
+pub only_with_history : (lent : Lent) (os : List Operation) (d e d₁ e₁ d₂ e₂ : List ℕ) {r s : Answer}
+    → ToldBy tell_history (Tells lent os d e d₁ e₁) r → ToldBy tell_history (Tells lent os d e d₂ e₂) s
     → (r ≡ s) × ((d₁ ≡ d₂) × (e₁ ≡ e₂))
-only-with-history lent os d e d₁ e₁ d₂ e₂ = only-told (λ (x : WithHistory). (d₁ ≡ d₂) × (e₁ ≡ e₂)) (λ x y p q. only-history p q)
+only_with_history lent os d e d₁ e₁ d₂ e₂ = only_told (λ (x : WithHistory). (d₁ ≡ d₂) × (e₁ ≡ e₂)) (λ x y p q. only-history p q)
 
-pub only-with-all : (lent : Lent) (os : List Operation) (cs : List Cursor) (d e f g d₁ e₁ f₁ g₁ d₂ e₂ f₂ g₂ : List ℕ) {r s : Answer}
-    → ToldBy tellAll (AppliesAll lent os cs d e f g d₁ e₁ f₁ g₁) r → ToldBy tellAll (AppliesAll lent os cs d e f g d₂ e₂ f₂ g₂) s
+pub only_with_all : (lent : Lent) (os : List Operation) (cs : List Cursor) (d e f g d₁ e₁ f₁ g₁ d₂ e₂ f₂ g₂ : List ℕ) {r s : Answer}
+    → ToldBy tell_all (AppliesAll lent os cs d e f g d₁ e₁ f₁ g₁) r → ToldBy tell_all (AppliesAll lent os cs d e f g d₂ e₂ f₂ g₂) s
     → (r ≡ s) × ((d₁ ≡ d₂) × ((e₁ ≡ e₂) × ((f₁ ≡ f₂) × (g₁ ≡ g₂))))
-only-with-all lent os cs d e f g d₁ e₁ f₁ g₁ d₂ e₂ f₂ g₂ =
-    only-told (λ (x : WithAll). (d₁ ≡ d₂) × ((e₁ ≡ e₂) × ((f₁ ≡ f₂) × (g₁ ≡ g₂)))) (λ x y p q. only-all p q)
+only_with_all lent os cs d e f g d₁ e₁ f₁ g₁ d₂ e₂ f₂ g₂ =
+    only_told (λ (x : WithAll). (d₁ ≡ d₂) × ((e₁ ≡ e₂) × ((f₁ ≡ f₂) × (g₁ ≡ g₂)))) (λ x y p q. only-all p q)
 
-pub only-to-diff : (lent : Lent) (os : List Operation) (d d₁ d₂ : List ℤ) (e e₁ e₂ : List ℕ) {r s : Answer}
-    → ToldBy tellDiff (Diffs lent os d e d₁ e₁) r → ToldBy tellDiff (Diffs lent os d e d₂ e₂) s → (r ≡ s) × ((d₁ ≡ d₂) × (e₁ ≡ e₂))
-only-to-diff lent os d d₁ d₂ e e₁ e₂ = only-told (λ (x : Diffed). (d₁ ≡ d₂) × (e₁ ≡ e₂)) (λ x y p q. only-diff p q)
+pub only_to_diff : (lent : Lent) (os : List Operation) (d d₁ d₂ : List ℤ) (e e₁ e₂ : List ℕ) {r s : Answer}
+    → ToldBy tell_diff (Diffs lent os d e d₁ e₁) r → ToldBy tell_diff (Diffs lent os d e d₂ e₂) s → (r ≡ s) × ((d₁ ≡ d₂) × (e₁ ≡ e₂))
+only_to_diff lent os d d₁ d₂ e e₁ e₂ = only_told (λ (x : Diffed). (d₁ ≡ d₂) × (e₁ ≡ e₂)) (λ x y p q. only-diff p q)
 
 -- plain and covering replay
-pub only-from-diff : (check : Diff → Verdict) (f : Diff) (d d₁ d₂ : List ℕ) {r s : Answer}
-    → ToldBy tellCount (λ (x : Counted). Replayed check f d x d₁) r → ToldBy tellCount (λ (x : Counted). Replayed check f d x d₂) s
+pub only_from_diff : (check : Diff → Verdict) (f : Diff) (d d₁ d₂ : List ℕ) {r s : Answer}
+    → ToldBy tell_count (λ (x : Counted). Replayed check f d x d₁) r → ToldBy tell_count (λ (x : Counted). Replayed check f d x d₂) s
     → (r ≡ s) × (d₁ ≡ d₂)
-only-from-diff check f d d₁ d₂ = only-told (λ (x : Counted). d₁ ≡ d₂) (λ x y p q. only-replayed check f d p q)
+only_from_diff check f d d₁ d₂ = only_told (λ (x : Counted). d₁ ≡ d₂) (λ x y p q. only-replayed check f d p q)
 
-pub only-edit-file-read : (f : Found) (d d₁ d₂ : List ℤ) (e e₁ e₂ : List ℕ) {r s : Answer}
-    → ToldBy tellFile (ReadInto f d e d₁ e₁) r → ToldBy tellFile (ReadInto f d e d₂ e₂) s → (r ≡ s) × ((d₁ ≡ d₂) × (e₁ ≡ e₂))
-only-edit-file-read f d d₁ d₂ e e₁ e₂ = only-told (λ (x : FileRead). (d₁ ≡ d₂) × (e₁ ≡ e₂)) (λ x y p q. only-read p q)
+pub only_edit_file_read : (f : Found) (d d₁ d₂ : List ℤ) (e e₁ e₂ : List ℕ) {r s : Answer}
+    → ToldBy tell_file (ReadInto f d e d₁ e₁) r → ToldBy tell_file (ReadInto f d e d₂ e₂) s → (r ≡ s) × ((d₁ ≡ d₂) × (e₁ ≡ e₂))
+only_edit_file_read f d d₁ d₂ e e₁ e₂ = only_told (λ (x : FileRead). (d₁ ≡ d₂) × (e₁ ≡ e₂)) (λ x y p q. only_read p q)
 
-pub only-edit-file-write : (is : List Item) (text d d₁ d₂ : List ℕ) {r s : Answer}
-    → ToldBy tellCount (Wrote is text d d₁) r → ToldBy tellCount (Wrote is text d d₂) s → (r ≡ s) × (d₁ ≡ d₂)
-only-edit-file-write is text d d₁ d₂ = only-told (λ (x : Counted). d₁ ≡ d₂) (λ x y p q. only-written p q)
+pub only_edit_file_write : (is : List Item) (text d d₁ d₂ : List ℕ) {r s : Answer}
+    → ToldBy tell_count (Wrote is text d d₁) r → ToldBy tell_count (Wrote is text d d₂) s → (r ≡ s) × (d₁ ≡ d₂)
+only_edit_file_write is text d d₁ d₂ = only_told (λ (x : Counted). d₁ ≡ d₂) (λ x y p q. only_written p q)
 
 -- of the edit file and of the text
-pub only-merge-files : (result : Outcome) (d d₁ d₂ : List ℕ) {r s : Answer}
-    → ToldBy tellCount (Written result d d₁) r → ToldBy tellCount (Written result d d₂) s → (r ≡ s) × (d₁ ≡ d₂)
-only-merge-files result d d₁ d₂ =
-    only-told (λ (x : Counted). d₁ ≡ d₂) (λ x y p q. (p.answer ∙ sym q.answer, p.room ∙ sym q.room))
+pub only_merge_files : (result : Outcome) (d d₁ d₂ : List ℕ) {r s : Answer}
+    → ToldBy tell_count (Written result d d₁) r → ToldBy tell_count (Written result d d₂) s → (r ≡ s) × (d₁ ≡ d₂)
+only_merge_files result d d₁ d₂ =
+    only_told (λ (x : Counted). d₁ ≡ d₂) (λ x y p q. (p.answer ∙ sym q.answer, p.room ∙ sym q.room))
 
-pub only-merge-files-history : (result : Outcome) (d e d₁ e₁ d₂ e₂ : List ℕ) {r s : Answer}
-    → ToldBy tellHistory (Told result d e d₁ e₁) r → ToldBy tellHistory (Told result d e d₂ e₂) s → (r ≡ s) × ((d₁ ≡ d₂) × (e₁ ≡ e₂))
-only-merge-files-history result d e d₁ e₁ d₂ e₂ =
-    only-told (λ (x : WithHistory). (d₁ ≡ d₂) × (e₁ ≡ e₂)) (λ x y p q. (p.answer ∙ sym q.answer, (p.spans ∙ sym q.spans, p.points ∙ sym q.points)))
+pub only_merge_files_history : (result : Outcome) (d e d₁ e₁ d₂ e₂ : List ℕ) {r s : Answer}
+    → ToldBy tell_history (Told result d e d₁ e₁) r → ToldBy tell_history (Told result d e d₂ e₂) s → (r ≡ s) × ((d₁ ≡ d₂) × (e₁ ≡ e₂))
+only_merge_files_history result d e d₁ e₁ d₂ e₂ =
+    only_told (λ (x : WithHistory). (d₁ ≡ d₂) × (e₁ ≡ e₂)) (λ x y p q. (p.answer ∙ sym q.answer, (p.spans ∙ sym q.spans, p.points ∙ sym q.points)))

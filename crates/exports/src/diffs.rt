@@ -1,9 +1,9 @@
 // The diff of a list, and diffs replayed over an original.
-ghost use Rattle.answer.specs.Tellings.{ToldBy, tellCount, tellDiff};
+ghost use Rattle.answer.specs.Tellings.{ToldBy, tell_count, tell_diff};
 ghost use Rattle.replay.specs.Answers.{Replayed, covering, diff, length_of, plain};
-ghost use Rattle.records.specs.Operations.{operationsOf};
+ghost use Rattle.records.specs.Operations.{operations_of};
 ghost use Rattle.refusal.specs.declared.Counted.{Counted};
-ghost use Rattle.to_diff.specs.Answers.{Diffs, lengthsOf};
+ghost use Rattle.to_diff.specs.Answers.{Diffs, lengths_of};
 ghost use Rattle.merging.specs.Lent.{lent_of};
 ghost use Rattle.std.specs.Prelude.{◌≡◌};
 
@@ -18,7 +18,7 @@ pub extern "C" fn fleecelatch_to_diff_lengths(
     keys: &[u32],
     operations: &[usize],
 ) -> Answer
-    ensures { result ≡ tellDiff (lengthsOf (lent_of original.now text.now spans.now keys.now) (operationsOf operations.now)) }
+    ensures { result ≡ tell_diff (lengths_of (lent_of original.now text.now spans.now keys.now) (operations_of operations.now)) }
 {
     answer::tell_diff(reconcile::diffs::to_diff_lengths(original, text, spans, keys, operations))
 }
@@ -34,7 +34,7 @@ pub extern "C" fn fleecelatch_to_diff(
     room: &mut [i64],
     out: &mut [u32],
 ) -> Answer
-    ensures { ToldBy tellDiff (Diffs (lent_of original.now text.now spans.now keys.now) (operationsOf operations.now) room.old out.old room.new out.new) result }
+    ensures { ToldBy tell_diff (Diffs (lent_of original.now text.now spans.now keys.now) (operations_of operations.now) room.old out.old room.new out.new) result }
 {
     answer::tell_diff(reconcile::diffs::to_diff(original, text, spans, keys, operations, room, out))
 }
@@ -46,7 +46,7 @@ pub extern "C" fn fleecelatch_from_diff_length(
     items: &[i64],
     text: &[u32],
 ) -> Answer
-    ensures { result ≡ tellCount (length_of plain (diff original.now items.now text.now)) }
+    ensures { result ≡ tell_count (length_of plain (diff original.now items.now text.now)) }
 {
     answer::tell_count(reconcile::diffs::from_diff_length(original, items, text))
 }
@@ -59,7 +59,7 @@ pub extern "C" fn fleecelatch_from_diff(
     text: &[u32],
     out: &mut [u32],
 ) -> Answer
-    ensures { ToldBy tellCount (λ (a : Counted). Replayed plain (diff original.now items.now text.now) out.old a out.new) result }
+    ensures { ToldBy tell_count (λ (a : Counted). Replayed plain (diff original.now items.now text.now) out.old a out.new) result }
 {
     answer::tell_count(reconcile::diffs::from_diff(original, items, text, out))
 }
@@ -71,7 +71,7 @@ pub extern "C" fn fleecelatch_from_covering_diff_length(
     items: &[i64],
     text: &[u32],
 ) -> Answer
-    ensures { result ≡ tellCount (length_of covering (diff original.now items.now text.now)) }
+    ensures { result ≡ tell_count (length_of covering (diff original.now items.now text.now)) }
 {
     answer::tell_count(reconcile::diffs::from_covering_diff_length(original, items, text))
 }
@@ -84,7 +84,7 @@ pub extern "C" fn fleecelatch_from_covering_diff(
     text: &[u32],
     out: &mut [u32],
 ) -> Answer
-    ensures { ToldBy tellCount (λ (a : Counted). Replayed covering (diff original.now items.now text.now) out.old a out.new) result }
+    ensures { ToldBy tell_count (λ (a : Counted). Replayed covering (diff original.now items.now text.now) out.old a out.new) result }
 {
     answer::tell_count(reconcile::diffs::from_covering_diff(original, items, text, out))
 }

@@ -1,8 +1,8 @@
 // Edit files, read, written and believed.
-ghost use Rattle.answer.specs.Tellings.{ToldBy, tellBelieved, tellCount, tellFile};
-ghost use Rattle.edit_format.specs.Reading.{believes, readFile};
-ghost use Rattle.edit_read.specs.Answer.{ReadInto, lengthsOf};
-ghost use Rattle.writable.specs.Writable.{fileOf};
+ghost use Rattle.answer.specs.Tellings.{ToldBy, tell_believed, tell_count, tell_file};
+ghost use Rattle.edit_format.specs.Reading.{believes, read_file};
+ghost use Rattle.edit_read.specs.Answer.{ReadInto, lengths_of};
+ghost use Rattle.writable.specs.Writable.{file_of};
 ghost use Rattle.edit_write.specs.Writing.{Wrote, length_of};
 ghost use Rattle.std.specs.Prelude.{◌≡◌};
 
@@ -11,7 +11,7 @@ use answer::Answer;
 // How many items and code points a file has: what its reader must be lent.
 #[unsafe(no_mangle)]
 pub extern "C" fn fleecelatch_edit_file_read_lengths(bytes: &[u8]) -> Answer
-    ensures { result ≡ tellFile (lengthsOf (readFile bytes.now)) }
+    ensures { result ≡ tell_file (lengths_of (read_file bytes.now)) }
 {
     answer::tell_file(reconcile::edit_files::read_lengths(bytes))
 }
@@ -23,7 +23,7 @@ pub extern "C" fn fleecelatch_edit_file_read(
     items: &mut [i64],
     text: &mut [u32],
 ) -> Answer
-    ensures { ToldBy tellFile (ReadInto (readFile bytes.now) items.old text.old items.new text.new) result }
+    ensures { ToldBy tell_file (ReadInto (read_file bytes.now) items.old text.old items.new text.new) result }
 {
     answer::tell_file(reconcile::edit_files::read(bytes, items, text))
 }
@@ -31,7 +31,7 @@ pub extern "C" fn fleecelatch_edit_file_read(
 // Whether a file is believed for an original of this length.
 #[unsafe(no_mangle)]
 pub extern "C" fn fleecelatch_edit_file_believed(bytes: &[u8], original: usize) -> Answer
-    ensures { result ≡ tellBelieved (believes (readFile bytes.now) original) }
+    ensures { result ≡ tell_believed (believes (read_file bytes.now) original) }
 {
     answer::tell_believed(reconcile::edit_files::believed(bytes, original))
 }
@@ -39,7 +39,7 @@ pub extern "C" fn fleecelatch_edit_file_believed(bytes: &[u8], original: usize) 
 // How many bytes the edit file of a diff has.
 #[unsafe(no_mangle)]
 pub extern "C" fn fleecelatch_edit_file_write_length(items: &[i64], text: &[u32]) -> Answer
-    ensures { result ≡ tellCount (length_of (fileOf items.now text.now) text.now) }
+    ensures { result ≡ tell_count (length_of (file_of items.now text.now) text.now) }
 {
     answer::tell_count(reconcile::edit_files::write_length(items, text))
 }
@@ -47,7 +47,7 @@ pub extern "C" fn fleecelatch_edit_file_write_length(items: &[i64], text: &[u32]
 // A diff as an edit file into a room.
 #[unsafe(no_mangle)]
 pub extern "C" fn fleecelatch_edit_file_write(items: &[i64], text: &[u32], out: &mut [u8]) -> Answer
-    ensures { ToldBy tellCount (Wrote (fileOf items.now text.now) text.now out.old out.new) result }
+    ensures { ToldBy tell_count (Wrote (file_of items.now text.now) text.now out.old out.new) result }
 {
     answer::tell_count(reconcile::edit_files::write(items, text, out))
 }

@@ -1,9 +1,9 @@
 // UTF-8, read and written (RFC 3629).
-ghost use Rattle.answer.specs.Tellings.{ToldBy, tellCount};
+ghost use Rattle.answer.specs.Tellings.{ToldBy, tell_count};
 ghost use Rattle.refusal.specs.declared.Counted.{Counted};
-ghost use Rattle.utf8.specs.Answers.{Answered, read-length-of, read_of, write-length-of, write-of};
+ghost use Rattle.utf8.specs.Answers.{Answered, read_length_of, read_of, write_length_of, write_of};
 ghost use Rattle.utf8_read.specs.Reading.{points};
-ghost use Rattle.utf8_write.specs.Writing.{encode-all};
+ghost use Rattle.utf8_write.specs.Writing.{encode_all};
 ghost use Rattle.std.specs.Prelude.{length, ◌≡◌};
 
 use answer::Answer;
@@ -11,7 +11,7 @@ use answer::Answer;
 // How many code points bytes hold: the room to lend to `read`.
 #[unsafe(no_mangle)]
 pub extern "C" fn fleecelatch_utf8_read_length(bytes: &[u8]) -> Answer
-    ensures { result ≡ tellCount (read-length-of bytes.now) }
+    ensures { result ≡ tell_count (read_length_of bytes.now) }
 {
     answer::tell_count(reconcile::encoding::read_length(bytes))
 }
@@ -19,7 +19,7 @@ pub extern "C" fn fleecelatch_utf8_read_length(bytes: &[u8]) -> Answer
 // The code points of bytes, at the start of a room.
 #[unsafe(no_mangle)]
 pub extern "C" fn fleecelatch_utf8_read(bytes: &[u8], out: &mut [u32]) -> Answer
-    ensures { ToldBy tellCount (λ (a : Counted). Answered (read_of bytes.now (length out.old)) a (points bytes.now) out.old out.new) result }
+    ensures { ToldBy tell_count (λ (a : Counted). Answered (read_of bytes.now (length out.old)) a (points bytes.now) out.old out.new) result }
 {
     answer::tell_count(reconcile::encoding::read(bytes, out))
 }
@@ -27,7 +27,7 @@ pub extern "C" fn fleecelatch_utf8_read(bytes: &[u8], out: &mut [u32]) -> Answer
 // How many bytes code points take: the room to lend to `write`.
 #[unsafe(no_mangle)]
 pub extern "C" fn fleecelatch_utf8_write_length(text: &[u32]) -> Answer
-    ensures { result ≡ tellCount (write-length-of text.now) }
+    ensures { result ≡ tell_count (write_length_of text.now) }
 {
     answer::tell_count(reconcile::encoding::write_length(text))
 }
@@ -35,7 +35,7 @@ pub extern "C" fn fleecelatch_utf8_write_length(text: &[u32]) -> Answer
 // The bytes of code points, at the start of a room.
 #[unsafe(no_mangle)]
 pub extern "C" fn fleecelatch_utf8_write(text: &[u32], out: &mut [u8]) -> Answer
-    ensures { ToldBy tellCount (λ (a : Counted). Answered (write-of text.now (length out.old)) a (encode-all text.now) out.old out.new) result }
+    ensures { ToldBy tell_count (λ (a : Counted). Answered (write_of text.now (length out.old)) a (encode_all text.now) out.old out.new) result }
 {
     answer::tell_count(reconcile::encoding::write(text, out))
 }

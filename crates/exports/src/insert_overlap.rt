@@ -1,5 +1,5 @@
 // The overlap of inserts, called alone.
-ghost use Rattle.answer.specs.Tellings.{ToldBy, tellRange};
+ghost use Rattle.answer.specs.Tellings.{ToldBy, tell_range};
 ghost use Rattle.overlap.specs.Overlap.{Answered};
 
 use answer::Answer;
@@ -12,7 +12,7 @@ pub extern "C" fn fleecelatch_find_longest_prefix_contained_within(
     new: &[u32],
     work: &mut [u32],
 ) -> Answer
-    ensures { ToldBy tellRange (Answered old.now new.now work.old work.new) result }
+    ensures { ToldBy tell_range (Answered old.now new.now work.old work.new) result }
 {
     answer::tell_range(
         reconcile::insert_overlap::find_longest_prefix_contained_within(old, new, work),

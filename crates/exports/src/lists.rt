@@ -1,7 +1,7 @@
 // Raw lists elongated, and two lists merged.
-ghost use Rattle.answer.specs.Tellings.{ToldBy, tellElongated, tellMerged};
+ghost use Rattle.answer.specs.Tellings.{ToldBy, tell_elongated, tell_merged};
 ghost use Rattle.edited_text.specs.Merging.{MergedBy};
-ghost use Rattle.elongate.specs.Verdicts.{Elongates, verdictOn};
+ghost use Rattle.elongate.specs.Verdicts.{Elongates, verdict_on};
 
 use answer::Answer;
 
@@ -18,7 +18,7 @@ pub extern "C" fn fleecelatch_elongate(
     keyed: &mut [u32],
     joined: &mut [u8],
 ) -> Answer
-    ensures { ToldBy tellElongated (Elongates raw.now spans.now keys.now joins.now text.now operations.old spanned.old keyed.old joined.old operations.new spanned.new keyed.new joined.new (verdictOn raw.now spans.now keys.now joins.now text.now operations.old spanned.old keyed.old joined.old)) result }
+    ensures { ToldBy tell_elongated (Elongates raw.now spans.now keys.now joins.now text.now operations.old spanned.old keyed.old joined.old operations.new spanned.new keyed.new joined.new (verdict_on raw.now spans.now keys.now joins.now text.now operations.old spanned.old keyed.old joined.old)) result }
 {
     answer::tell_elongated(reconcile::lists::elongate(
         raw, spans, keys, joins, text, operations, spanned, keyed, joined,
@@ -40,7 +40,7 @@ pub extern "C" fn fleecelatch_merge(
     cursors: &mut [usize],
     work: &mut [u32],
 ) -> Answer
-    ensures { ToldBy tellMerged (MergedBy original.now text.now spans.now keys.now left.now right.now left_cursors.now right_cursors.now operations.old operations.new cursors.old cursors.new work.old work.new) result }
+    ensures { ToldBy tell_merged (MergedBy original.now text.now spans.now keys.now left.now right.now left_cursors.now right_cursors.now operations.old operations.new cursors.old cursors.new work.old work.new) result }
 {
     answer::tell_merged(reconcile::lists::merge(
         original,

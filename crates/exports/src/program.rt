@@ -1,5 +1,5 @@
 // The program's work: the merge of three files, an original and two edit files.
-ghost use Rattle.answer.specs.Tellings.{ToldBy, tellCount, tellHistory};
+ghost use Rattle.answer.specs.Tellings.{ToldBy, tell_count, tell_history};
 ghost use Rattle.merge_files.specs.Program.{Told, Written, result_of};
 ghost use Rattle.merge_files.specs.declared.View.TheVariants.{File, History, Text};
 
@@ -13,7 +13,7 @@ pub extern "C" fn fleecelatch_merge_files(
     right: &[u8],
     out: &mut [u8],
 ) -> Answer
-    ensures { ToldBy tellCount (Written (result_of File original.now left.now right.now) out.old out.new) result }
+    ensures { ToldBy tell_count (Written (result_of File original.now left.now right.now) out.old out.new) result }
 {
     answer::tell_count(merge_files::merge_files(original, left, right, out))
 }
@@ -26,7 +26,7 @@ pub extern "C" fn fleecelatch_merge_files_text(
     right: &[u8],
     out: &mut [u8],
 ) -> Answer
-    ensures { ToldBy tellCount (Written (result_of Text original.now left.now right.now) out.old out.new) result }
+    ensures { ToldBy tell_count (Written (result_of Text original.now left.now right.now) out.old out.new) result }
 {
     answer::tell_count(merge_files::merge_files_text(original, left, right, out))
 }
@@ -40,7 +40,7 @@ pub extern "C" fn fleecelatch_merge_files_history(
     history: &mut [usize],
     text: &mut [u32],
 ) -> Answer
-    ensures { ToldBy tellHistory (Told (result_of History original.now left.now right.now) history.old text.old history.new text.new) result }
+    ensures { ToldBy tell_history (Told (result_of History original.now left.now right.now) history.old text.old history.new text.new) result }
 {
     answer::tell_history(merge_files::merge_files_history(original, left, right, history, text))
 }

@@ -1,11 +1,11 @@
 // Text and history of a list.
-ghost use Rattle.answer.specs.Tellings.{ToldBy, tellAll, tellApplied, tellHistory};
-ghost use Rattle.apply.specs.Answers.{Applies, AppliesAll, Tells, applied, historyOn, textOn, told, toldAll, verdictOn};
+ghost use Rattle.answer.specs.Tellings.{ToldBy, tell_all, tell_applied, tell_history};
+ghost use Rattle.apply.specs.Answers.{Applies, AppliesAll, Tells, applied, history_on, text_on, told, told_all, verdict_on};
 ghost use Rattle.merging.specs.Lent.{lent_of};
 ghost use Rattle.cursors.specs.Sorted.{sorted};
-ghost use Rattle.merging.specs.Outputs.{historyText};
-ghost use Rattle.records.specs.Cursors.{cursorsOf};
-ghost use Rattle.records.specs.Operations.{operationsOf};
+ghost use Rattle.merging.specs.Outputs.{history_text};
+ghost use Rattle.records.specs.Cursors.{cursors_of};
+ghost use Rattle.records.specs.Operations.{operations_of};
 ghost use Rattle.std.specs.Prelude.{length, [], ◌≡◌};
 
 use answer::Answer;
@@ -20,7 +20,7 @@ pub extern "C" fn fleecelatch_apply_lengths(
     operations: &[usize],
     cursors: &[usize],
 ) -> Answer
-    ensures { result ≡ tellApplied (applied (verdictOn (lent_of original.now text.now spans.now keys.now) (operationsOf operations.now) (cursorsOf cursors.now)) (length (textOn (lent_of original.now text.now spans.now keys.now) (operationsOf operations.now))) (length (sorted (cursorsOf cursors.now)))) }
+    ensures { result ≡ tell_applied (applied (verdict_on (lent_of original.now text.now spans.now keys.now) (operations_of operations.now) (cursors_of cursors.now)) (length (text_on (lent_of original.now text.now spans.now keys.now) (operations_of operations.now))) (length (sorted (cursors_of cursors.now)))) }
 {
     answer::tell_applied(reconcile::views::apply_lengths(
         original, text, spans, keys, operations, cursors,
@@ -39,7 +39,7 @@ pub extern "C" fn fleecelatch_apply(
     out: &mut [u32],
     moved: &mut [usize],
 ) -> Answer
-    ensures { ToldBy tellApplied (Applies (lent_of original.now text.now spans.now keys.now) (operationsOf operations.now) (cursorsOf cursors.now) out.old moved.old out.new moved.new) result }
+    ensures { ToldBy tell_applied (Applies (lent_of original.now text.now spans.now keys.now) (operations_of operations.now) (cursors_of cursors.now) out.old moved.old out.new moved.new) result }
 {
     answer::tell_applied(reconcile::views::apply(
         original, text, spans, keys, operations, cursors, out, moved,
@@ -55,7 +55,7 @@ pub extern "C" fn fleecelatch_apply_with_history_lengths(
     keys: &[u32],
     operations: &[usize],
 ) -> Answer
-    ensures { result ≡ tellHistory (told (verdictOn (lent_of original.now text.now spans.now keys.now) (operationsOf operations.now) []) (length (historyOn (lent_of original.now text.now spans.now keys.now) (operationsOf operations.now))) (length (historyText (historyOn (lent_of original.now text.now spans.now keys.now) (operationsOf operations.now))))) }
+    ensures { result ≡ tell_history (told (verdict_on (lent_of original.now text.now spans.now keys.now) (operations_of operations.now) []) (length (history_on (lent_of original.now text.now spans.now keys.now) (operations_of operations.now))) (length (history_text (history_on (lent_of original.now text.now spans.now keys.now) (operations_of operations.now))))) }
 {
     answer::tell_history(reconcile::views::apply_with_history_lengths(
         original, text, spans, keys, operations,
@@ -73,7 +73,7 @@ pub extern "C" fn fleecelatch_apply_with_history(
     history: &mut [usize],
     out: &mut [u32],
 ) -> Answer
-    ensures { ToldBy tellHistory (Tells (lent_of original.now text.now spans.now keys.now) (operationsOf operations.now) history.old out.old history.new out.new) result }
+    ensures { ToldBy tell_history (Tells (lent_of original.now text.now spans.now keys.now) (operations_of operations.now) history.old out.old history.new out.new) result }
 {
     answer::tell_history(reconcile::views::apply_with_history(
         original, text, spans, keys, operations, history, out,
@@ -90,7 +90,7 @@ pub extern "C" fn fleecelatch_apply_with_all_lengths(
     operations: &[usize],
     cursors: &[usize],
 ) -> Answer
-    ensures { result ≡ tellAll (toldAll (verdictOn (lent_of original.now text.now spans.now keys.now) (operationsOf operations.now) (cursorsOf cursors.now)) (length (textOn (lent_of original.now text.now spans.now keys.now) (operationsOf operations.now))) (length (sorted (cursorsOf cursors.now))) (length (historyOn (lent_of original.now text.now spans.now keys.now) (operationsOf operations.now))) (length (historyText (historyOn (lent_of original.now text.now spans.now keys.now) (operationsOf operations.now))))) }
+    ensures { result ≡ tell_all (told_all (verdict_on (lent_of original.now text.now spans.now keys.now) (operations_of operations.now) (cursors_of cursors.now)) (length (text_on (lent_of original.now text.now spans.now keys.now) (operations_of operations.now))) (length (sorted (cursors_of cursors.now))) (length (history_on (lent_of original.now text.now spans.now keys.now) (operations_of operations.now))) (length (history_text (history_on (lent_of original.now text.now spans.now keys.now) (operations_of operations.now))))) }
 {
     answer::tell_all(reconcile::views::apply_with_all_lengths(
         original, text, spans, keys, operations, cursors,
@@ -111,7 +111,7 @@ pub extern "C" fn fleecelatch_apply_with_all(
     history: &mut [usize],
     history_text: &mut [u32],
 ) -> Answer
-    ensures { ToldBy tellAll (AppliesAll (lent_of original.now text.now spans.now keys.now) (operationsOf operations.now) (cursorsOf cursors.now) out.old moved.old history.old history_text.old out.new moved.new history.new history_text.new) result }
+    ensures { ToldBy tell_all (AppliesAll (lent_of original.now text.now spans.now keys.now) (operations_of operations.now) (cursors_of cursors.now) out.old moved.old history.old history_text.old out.new moved.new history.new history_text.new) result }
 {
     answer::tell_all(reconcile::views::apply_with_all(
         original,

@@ -9,6 +9,6 @@ use lib.ListN.{length, set}
 use lib.Seq.{sets-eq}
 use Rattle.room.specs.Placed.{placed}
 
-pub three-stores : {A : Type 0} (d : List A) (at : ℕ) (a b c : A) → at + 3 ≤ length d → set (set (set d at a) (at + 1) b) (at + 2) c ≡ placed d at (a ∷ b ∷ c ∷ [])
+pub three_stores : {A : Type 0} (d : List A) (at : ℕ) (a b c : A) → at + 3 ≤ length d → set (set (set d at a) (at + 1) b) (at + 2) c ≡ placed d at (a ∷ b ∷ c ∷ [])
 unfolding placed
-three-stores d at a b c h = let e : at + 2 ≡ suc (suc at) = omega arith in rw (e, add-one at) (sets-eq (a ∷ b ∷ c ∷ []) d at h)
+three_stores d at a b c h = let e : at + 2 ≡ suc (suc at) = omega arith in rw (e, add-one at) (sets-eq (a ∷ b ∷ c ∷ []) d at h)

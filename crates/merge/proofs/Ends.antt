@@ -8,28 +8,28 @@ use native.Mathlib.Omega.{arith}
 use lib.ListN.{length, length-append}
 use Rattle.room.specs.Placed.{answered}
 use Rattle.records.specs.declared.Cursor.{Cursor}
-use Rattle.records.specs.Cursors.{cursorsFrom, cursorsOf, flatCursors}
-use Rattle.records.specs.Operations.{operationsFrom, operationsOf, flatOperations}
+use Rattle.records.specs.Cursors.{cursors_from, cursors_of, flat_cursors}
+use Rattle.records.specs.Operations.{operations_from, operations_of, flat_operations}
 use Rattle.merging.specs.declared.Op.{Op}
 use Rattle.merging.specs.declared.Op.TheVariants.{Delete, Insert, Retain}
 use Rattle.merging.specs.declared.Order.{Order}
-use Rattle.merging.specs.Lent.{Lent, rulesAt, lent_of}
-use Rattle.merging.specs.Operations.{Out, opsFrom, recordsOf}
-use Rattle.merging.specs.OrderRule.{goesLeft, orderRule, thenBy, isLess}
+use Rattle.merging.specs.Lent.{Lent, rules_at, lent_of}
+use Rattle.merging.specs.Operations.{Out, ops_from, records_of}
+use Rattle.merging.specs.OrderRule.{goes_left, order_rule, then_by, is_less}
 use Rattle.merging.specs.Cursors.{ended}
-use Rattle.merging.specs.Turn.{State, Taken, none, fromLeft, fromRight, taken_of}
+use Rattle.merging.specs.Turn.{State, Taken, none, from_left, from_right, taken_of}
 use Rattle.merging.specs.Merge.{Outcome, leftovers, work}
-use Rattle.merging.specs.Tiling.{Tiled, Inserts, tokensOf}
+use Rattle.merging.specs.Tiling.{Tiled, Inserts, tokens_of}
 use Rattle.merging.proofs.Turns.{run_none, fuel}
-use Rattle.merging.proofs.Sound.{Sound, next-within, sound-start}
+use Rattle.merging.proofs.Sound.{Sound, next_within, sound_start}
 use Rattle.operation.specs.declared.Next.{Next}
 use Rattle.operation.specs.declared.Next.TheVariants.{Here, Done}
 use Rattle.operation.specs.declared.Last.TheVariants.{Nothing}
 use Rattle.operation.specs.Views.{heads}
 use Rattle.turns.specs.declared.Ahead.{Ahead}
 use Rattle.turns.specs.Looking.{list_from, ahead_of, FirstFits, Looks}
-use Rattle.order.specs.Readable.{Run, ofText}
-use Rattle.order.proofs.Lending.{order-of}
+use Rattle.order.specs.Readable.{Run, of_text}
+use Rattle.order.proofs.Lending.{order_of}
 use Rattle.merge.specs.declared.Side.{Side}
 use Rattle.merge.specs.declared.Totals.{Totals}
 use Rattle.merge.specs.declared.Choice.{Choice}
@@ -38,54 +38,54 @@ use Rattle.merge.specs.Choosing.{NextReadable, choice_of}
 use Rattle.merge.specs.Running.{list_of, begin, outcome, Runnable, Ran}
 use Rattle.cursor_position.specs.declared.Progress.{Progress}
 use Rattle.cursor_position.specs.Moves.{Went}
-use Rattle.merge.specs.Turning.{cursorsLeft}
+use Rattle.merge.specs.Turning.{cursors_left}
 use Rattle.merge.proofs.OneTurn.{state_of}
 use Rattle.merge.proofs.Sides.{SideFits}
 use Rattle.merge.proofs.Running.{rest, frame, ready, Going}
 
 -- all of a list, from its first record on
 pub list_all : (ops : List ℕ) → list_from ops 0 0 ≡ list_of ops
-unfolding operationsOf
-list_all ops = let e : length ops / 6 - 0 ≡ length ops / 6 = omega arith in ap (λ (k : ℕ). opsFrom 0 (operationsFrom ops 0 k)) e
+unfolding operations_of
+list_all ops = let e : length ops / 6 - 0 ≡ length ops / 6 = omega arith in ap (λ (k : ℕ). ops_from 0 (operations_from ops 0 k)) e
 
-cursors-all : (cs : List ℕ) → cursorsFrom cs 0 (length cs / 2 - 0) ≡ cursorsOf cs
-unfolding cursorsOf
-cursors-all cs = let e : length cs / 2 - 0 ≡ length cs / 2 = omega arith in ap (cursorsFrom cs 0) e
+cursors_all : (cs : List ℕ) → cursors_from cs 0 (length cs / 2 - 0) ≡ cursors_of cs
+unfolding cursors_of
+cursors_all cs = let e : length cs / 2 - 0 ≡ length cs / 2 = omega arith in ap (cursors_from cs 0) e
 
 first_of : (zs : List Op) (n : ℕ) → n ≤ 65535 → Tiled zs 0 n → FirstFits 0 zs
 first_of [] n small t = tt
-first_of (z ∷ zs) n small t = omega (arith, next-within z zs 0 n t)
+first_of (z ∷ zs) n small t = omega (arith, next_within z zs 0 n t)
 
 pub first_fits : (ops : List ℕ) (n : ℕ) → n ≤ 65535 → Tiled (list_of ops) 0 n → FirstFits 0 (list_from ops 0 0)
 first_fits ops n small t = subst (FirstFits 0) (sym (list_all ops)) (first_of (list_of ops) n small t)
 
 -- what is next may be read
-pub next-readable : (text spans keys : List ℕ) (x : Next) (xs : List Op) → Inserts (Run text spans keys) (heads x xs) → NextReadable text spans keys x
+pub next_readable : (text spans keys : List ℕ) (x : Next) (xs : List Op) → Inserts (Run text spans keys) (heads x xs) → NextReadable text spans keys x
 unfolding Inserts
-next-readable text spans keys Done xs i = tt
-next-readable text spans keys (Here (Delete o l)) xs i = tt
-next-readable text spans keys (Here (Insert o f n)) xs i = i.0
-next-readable text spans keys (Here (Retain o l)) xs i = tt
+next_readable text spans keys Done xs i = tt
+next_readable text spans keys (Here (Delete o l)) xs i = tt
+next_readable text spans keys (Here (Insert o f n)) xs i = i.0
+next_readable text spans keys (Here (Retain o l)) xs i = tt
 
 -- what a choice says of the definition's
 abbrev pub Chosen : Choice → Taken → Next → Next → List Op → List Op → Type 0
 Chosen Neither t l r xs ys = t ≡ none
-Chosen (Left a) t l r xs ys = (l ≡ Here a) × (t ≡ fromLeft a xs)
-Chosen (Right b) t l r xs ys = (r ≡ Here b) × (t ≡ fromRight b ys)
+Chosen (Left a) t l r xs ys = (l ≡ Here a) × (t ≡ from_left a xs)
+Chosen (Right b) t l r xs ys = (r ≡ Here b) × (t ≡ from_right b ys)
 
 pub chosen : (lent : Lent) (priority : Order) (l r : Next) (xs ys : List Op) → (l ≡ Done → xs ≡ []) → (r ≡ Done → ys ≡ [])
-    → Chosen (choice_of (ofText lent.inserted lent.spans lent.keys) priority l r) (taken_of lent priority (heads l xs) (heads r ys)) l r xs ys
-unfolding choice_of taken_of goesLeft
+    → Chosen (choice_of (of_text lent.inserted lent.spans lent.keys) priority l r) (taken_of lent priority (heads l xs) (heads r ys)) l r xs ys
+unfolding choice_of taken_of goes_left
 chosen lent priority Done Done xs ys hx hy = ap (λ (zs : List Op). taken_of lent priority zs ys) (hx refl) ∙ ap (taken_of lent priority []) (hy refl)
 chosen lent priority Done (Here b) xs ys hx hy = (refl, ap (λ (zs : List Op). taken_of lent priority zs (b ∷ ys)) (hx refl))
 chosen lent priority (Here a) Done xs ys hx hy = (refl, ap (taken_of lent priority (a ∷ xs)) (hy refl))
 chosen lent priority (Here a) (Here b) xs ys hx hy =
-    subst (λ (o : Order). Chosen (elim (isLess (thenBy o priority)) [ true ↦ Left a | false ↦ Right b ]) (taken_of lent priority (a ∷ xs) (b ∷ ys)) (Here a) (Here b) xs ys)
-    (order-of lent a b)
-    (go (isLess (thenBy (orderRule lent a b) priority)))
+    subst (λ (o : Order). Chosen (elim (is_less (then_by o priority)) [ true ↦ Left a | false ↦ Right b ]) (taken_of lent priority (a ∷ xs) (b ∷ ys)) (Here a) (Here b) xs ys)
+    (order_of lent a b)
+    (go (is_less (then_by (order_rule lent a b) priority)))
   where
     go : (t : Bool)
-        → Chosen (elim t [ true ↦ Left a | false ↦ Right b ]) (elim t [ true ↦ fromLeft a xs | false ↦ fromRight b ys ]) (Here a) (Here b) xs ys
+        → Chosen (elim t [ true ↦ Left a | false ↦ Right b ]) (elim t [ true ↦ from_left a xs | false ↦ from_right b ys ]) (Here a) (Here b) xs ys
     go true = (refl, refl)
     go false = (refl, refl)
 
@@ -94,31 +94,31 @@ module _ {least : ℕ} {original text spans keys lops rops lcs rcs : List ℕ} {
   abbrev L : Lent
   L = lent_of original text spans keys
 
-  abbrev sideAt : Ahead → ℕ → Side
-  sideAt h fill = record { ahead = h; memory = record { last = Nothing; fill = fill }; seen = 0; cursor = 0 }
+  abbrev side_at : Ahead → ℕ → Side
+  side_at h fill = record { ahead = h; memory = record { last = Nothing; fill = fill }; seen = 0; cursor = 0 }
 
-  abbrev zero-totals : Totals
-  zero-totals = record { merged = 0; consumed = 0; operations = 0; cursors = 0 }
+  abbrev zero_totals : Totals
+  zero_totals = record { merged = 0; consumed = 0; operations = 0; cursors = 0 }
 
-  side-starts : (ops : List ℕ) (h : Ahead) (base top fill : ℕ) → Looks ops Done 0 0 h → base ≤ fill → fill + tokensOf (list_of ops) ≤ top → SideFits ops base top 0 (sideAt h fill)
-  side-starts ops h base top fill k b t =
+  side_starts : (ops : List ℕ) (h : Ahead) (base top fill : ℕ) → Looks ops Done 0 0 h → base ≤ fill → fill + tokens_of (list_of ops) ≤ top → SideFits ops base top 0 (side_at h fill)
+  side_starts ops h base top fill k b t =
       record {
         ends = λ d. ap (λ (x : Next). heads x (list_from ops h.behind h.at)) (sym d) ∙ k.ends d;
         fits = tt;
         since = tt;
         low = b;
-        place = omega (arith, t, ap tokensOf (k.view ∙ list_all ops));
+        place = omega (arith, t, ap tokens_of (k.view ∙ list_all ops));
         at = k.from 0 (omega arith);
       }
 
   pub started : (h k : Ahead) → Looks lops Done 0 0 h → Looks rops Done 0 0 k
-      → Going (frame least original text spans keys lops rops lcs rcs priority mid half w out moved) w out moved (sideAt h 0) (sideAt k mid) zero-totals
-  unfolding recordsOf flatOperations flatCursors
+      → Going (frame least original text spans keys lops rops lcs rcs priority mid half w out moved) w out moved (side_at h 0) (side_at k mid) zero_totals
+  unfolding records_of flat_operations flat_cursors
   started h k lh lk =
-      let es : state_of lops rops lcs rcs w half (sideAt h 0) (sideAt k mid) zero-totals ≡ begin lops rops lcs rcs =
+      let es : state_of lops rops lcs rcs w half (side_at h 0) (side_at k mid) zero_totals ≡ begin lops rops lcs rcs =
       (λ i. record {
-        left = record { next = (lh.view ∙ list_all lops) i; last = (begin lops rops lcs rcs).left.last; seen = 0; cursors = cursors-all lcs i };
-        right = record { next = (lk.view ∙ list_all rops) i; last = (begin lops rops lcs rcs).right.last; seen = 0; cursors = cursors-all rcs i };
+        left = record { next = (lh.view ∙ list_all lops) i; last = (begin lops rops lcs rcs).left.last; seen = 0; cursors = cursors_all lcs i };
+        right = record { next = (lk.view ∙ list_all rops) i; last = (begin lops rops lcs rcs).right.last; seen = 0; cursors = cursors_all rcs i };
         merged = 0;
         consumed = 0;
       }) in
@@ -126,31 +126,31 @@ module _ {least : ℕ} {original text spans keys lops rops lcs rcs : List ℕ} {
         ready = ready K;
         p = 0;
         q = 0;
-        sound = subst (λ (s : State). Sound (rulesAt least L) (Run text spans keys) (list_of lops) (list_of rops) (length original) s 0 0) (sym es)
-            (sound-start (rulesAt least L) (Run text spans keys) (list_of lops) (list_of rops) (cursorsOf lcs) (cursorsOf rcs) (length original) K.left.tiled K.right.tiled
+        sound = subst (λ (s : State). Sound (rules_at least L) (Run text spans keys) (list_of lops) (list_of rops) (length original) s 0 0) (sym es)
+            (sound_start (rules_at least L) (Run text spans keys) (list_of lops) (list_of rops) (cursors_of lcs) (cursors_of rcs) (length original) K.left.tiled K.right.tiled
             K.left.inserts K.right.inserts);
-        owns = side-starts lops h 0 mid 0 lh (omega arith) (omega (arith, K.mid-is));
-        others = side-starts rops k mid half mid lk (omega arith) (omega (arith, K.half_is));
+        owns = side_starts lops h 0 mid 0 lh (omega arith) (omega (arith, K.mid_is));
+        others = side_starts rops k mid half mid lk (omega arith) (omega (arith, K.half_is));
         outs = [];
         ms = [];
         operations = refl;
-        out-is = refl;
+        out_is = refl;
         cursors = refl;
-        moved-is = refl;
-        all-outs = ap (λ (s : State). (rest (rulesAt least L) priority s).outs) (sym es);
-        all-cursors = ap (λ (s : State). (rest (rulesAt least L) priority s).cursors) (sym es);
+        moved_is = refl;
+        all_outs = ap (λ (s : State). (rest (rules_at least L) priority s).outs) (sym es);
+        all_cursors = ap (λ (s : State). (rest (rules_at least L) priority s).cursors) (sym es);
         space = omega arith;
         same = refl;
-        out-same = refl;
+        out_same = refl;
         moved_same = refl;
       }
 
 -- with no turn left, the leftovers are all that comes
-pub rest-none : (least : ℕ) (lent : Lent) (priority : Order) (s : State) → taken_of lent priority s.left.next s.right.next ≡ none
-    → rest (rulesAt least lent) priority s ≡ record { outs = []; cursors = leftovers s }
-rest-none least lent priority s e =
+pub rest_none : (least : ℕ) (lent : Lent) (priority : Order) (s : State) → taken_of lent priority s.left.next s.right.next ≡ none
+    → rest (rules_at least lent) priority s ≡ record { outs = []; cursors = leftovers s }
+rest_none least lent priority s e =
     let k = work s.left.next + work s.right.next in
-    fuel (rulesAt least lent) priority k (suc k) s (omega arith) (omega arith) ∙ run_none (rulesAt least lent) priority k s e
+    fuel (rules_at least lent) priority k (suc k) s (omega arith) (omega arith) ∙ run_none (rules_at least lent) priority k s e
 
 -- what the rooms hold when both sides are done: "Leftovers go to the end, left before right."
 pub finished :
@@ -158,23 +158,23 @@ pub finished :
     {p₁ p₂ : Progress}
     → Going (frame least original text spans keys lops rops lcs rcs priority mid half w₀ out₀ moved₀) w out moved left right totals
     → taken_of (lent_of original text spans keys) priority (ahead_of lops left.ahead) (ahead_of rops right.ahead) ≡ none
-    → Went lcs (ended totals.merged (cursorsLeft lcs left.cursor)) [] moved moved₁ (record { next = left.cursor; count = totals.cursors }) p₁
-    → Went rcs (ended totals.merged (cursorsLeft rcs right.cursor)) [] moved₁ moved₂ (record { next = right.cursor; count = p₁.count }) p₂
+    → Went lcs (ended totals.merged (cursors_left lcs left.cursor)) [] moved moved₁ (record { next = left.cursor; count = totals.cursors }) p₁
+    → Went rcs (ended totals.merged (cursors_left rcs right.cursor)) [] moved₁ moved₂ (record { next = right.cursor; count = p₁.count }) p₂
     → Ran least original text spans keys lops rops lcs rcs priority out₀ out moved₀ moved₂
     (record { merged = totals.merged; consumed = totals.consumed; operations = totals.operations; cursors = p₂.count })
 finished {least} {original} {text} {spans} {keys} {lops} {rops} {lcs} {rcs} {priority} {mid} {half} {w₀} {out₀} {moved₀} {w} {left = left} {right} {totals} {p₁} G e a b =
     let L = lent_of original text spans keys in
     let O = outcome least L priority lops rops lcs rcs in
-    let l = ended totals.merged (cursorsLeft lcs left.cursor) in
-    let r = ended totals.merged (cursorsLeft rcs right.cursor) in
-    let none_left = rest-none least L priority (state_of lops rops lcs rcs w half left right totals) e in
-    let eo : O.outs ≡ G.outs = G.all-outs ∙ ap (λ (o : Outcome). G.outs ++ o.outs) none_left ∙ append-nil G.outs in
+    let l = ended totals.merged (cursors_left lcs left.cursor) in
+    let r = ended totals.merged (cursors_left rcs right.cursor) in
+    let none_left = rest_none least L priority (state_of lops rops lcs rcs w half left right totals) e in
+    let eo : O.outs ≡ G.outs = G.all_outs ∙ ap (λ (o : Outcome). G.outs ++ o.outs) none_left ∙ append-nil G.outs in
     let ec : O.cursors ≡ (G.ms ++ l) ++ r =
-    G.all-cursors ∙ ap (λ (o : Outcome). G.ms ++ o.cursors) none_left ∙ sym (append_assoc G.ms l r) in
+    G.all_cursors ∙ ap (λ (o : Outcome). G.ms ++ o.cursors) none_left ∙ sym (append_assoc G.ms l r) in
     let c₁ : p₁.count ≡ length (G.ms ++ l) = omega (arith, a.count, G.cursors, length-append G.ms l) in
     record {
       operations = omega (arith, G.operations, ap length eo);
-      out-is = G.out-is ∙ ap (λ (o : List Out). answered (flatOperations (recordsOf L o)) out₀) (sym eo);
+      out_is = G.out_is ∙ ap (λ (o : List Out). answered (flat_operations (records_of L o)) out₀) (sym eo);
       cursors = omega (arith, b.count, c₁, ap length ec, length-append (G.ms ++ l) r);
-      moved-is = b.grows (G.ms ++ l) moved₀ c₁ (a.grows G.ms moved₀ G.cursors G.moved-is) ∙ ap (λ (cs : List Cursor). answered (flatCursors cs) moved₀) (sym ec);
+      moved_is = b.grows (G.ms ++ l) moved₀ c₁ (a.grows G.ms moved₀ G.cursors G.moved_is) ∙ ap (λ (cs : List Cursor). answered (flat_cursors cs) moved₀) (sym ec);
     }

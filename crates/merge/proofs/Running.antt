@@ -8,34 +8,34 @@ use native.Mathlib.Omega.{arith}
 use lib.ListN.{length, length-append}
 use Rattle.room.specs.Placed.{answered}
 use Rattle.records.specs.declared.Cursor.{Cursor}
-use Rattle.records.specs.Cursors.{flatCursors}
-use Rattle.records.specs.Operations.{flatOperations}
+use Rattle.records.specs.Cursors.{flat_cursors}
+use Rattle.records.specs.Operations.{flat_operations}
 use Rattle.merging.specs.declared.Op.{Op}
 use Rattle.merging.specs.declared.Order.{Order}
-use Rattle.merging.specs.Lent.{Lent, Rules, rulesAt, lent_of}
-use Rattle.merging.specs.Operations.{Out, order_of, length_of, span_of, recordsOf}
-use Rattle.merging.specs.Meeting.{shortened, metOf}
-use Rattle.merging.specs.Turn.{State, Turned, turned, emitted, turnLeft, turnRight, fromLeft, fromRight, taken_of}
+use Rattle.merging.specs.Lent.{Lent, Rules, rules_at, lent_of}
+use Rattle.merging.specs.Operations.{Out, order_of, length_of, span_of, records_of}
+use Rattle.merging.specs.Meeting.{shortened, met_of}
+use Rattle.merging.specs.Turn.{State, Turned, turned, emitted, turn_left, turn_right, from_left, from_right, taken_of}
 use Rattle.merging.specs.Merge.{Outcome, before, run, work}
-use Rattle.merging.specs.Tiling.{Tiled, Inserts, tokensOf}
-use Rattle.merging.proofs.OneTurn.{placeAfter, tiled-le, starts}
-use Rattle.merging.proofs.Turns.{Turning, left_less, right-less, run-left, run-right, fuel, taken_is}
-use Rattle.merging.proofs.Sound.{Sound, textOfAll, next-within, sound-turned, sound-next}
-use Rattle.merging.proofs.Lawful.{lawful-at}
+use Rattle.merging.specs.Tiling.{Tiled, Inserts, tokens_of}
+use Rattle.merging.proofs.OneTurn.{place_after, tiled_le, starts}
+use Rattle.merging.proofs.Turns.{Turning, left_less, right_less, run_left, run_right, fuel, taken_is}
+use Rattle.merging.proofs.Sound.{Sound, text_of_all, next_within, sound_turned, sound_next}
+use Rattle.merging.proofs.Lawful.{lawful_at}
 use Rattle.operation.specs.declared.Next.{Next}
 use Rattle.operation.specs.declared.Next.TheVariants.{Here}
 use Rattle.numbers.specs.Sizes.{most}
-use Rattle.operation.specs.Views.{tokens, ofSpans}
-use Rattle.operation.proofs.Meeting.{length-is}
-use Rattle.turns.specs.Looking.{list_from, ahead_of, spanNext}
+use Rattle.operation.specs.Views.{tokens, of_spans}
+use Rattle.operation.proofs.Meeting.{length_is}
+use Rattle.turns.specs.Looking.{list_from, ahead_of, span_next}
 use Rattle.order.specs.Readable.{Run}
 use Rattle.merge.specs.declared.Side.{Side}
 use Rattle.merge.specs.declared.Totals.{Totals}
 use Rattle.merge.specs.declared.Turned.{Turned as Result}
-use Rattle.merge.specs.Turning.{memoryOf, taken, result, Turnable, Turns}
+use Rattle.merge.specs.Turning.{memory_of, taken, result, Turnable, Turns}
 use Rattle.merge.specs.Running.{list_of, outcome, Listed, Runnable}
-use Rattle.merge.proofs.OneTurn.{state_of, same-front, turned-out, turned-cursors, turned-state}
-use Rattle.merge.proofs.Sides.{SideFits, own-fits, other_fits, fine, next_fits, tokens-first, began_of, away-from, first_fits, lost-keys, text-first}
+use Rattle.merge.proofs.OneTurn.{state_of, same_front, turned_out, turned_cursors, turned-state}
+use Rattle.merge.proofs.Sides.{SideFits, own_fits, other_fits, fine, next_fits, tokens_first, began_of, away_from, first_fits, lost_keys, text_first}
 
 -- what the turns from a state on give
 abbrev pub rest : Rules → Order → State → Outcome
@@ -53,18 +53,18 @@ module _ (R : Rules) (priority : Order) (s : State) where
       ∙ e
       ∙ ap (before t) (fuel R priority left_over (work t.state.left.next + work t.state.right.next) t.state (omega arith) (omega arith))
 
-  pub goes_left : (a : Op) (xs : List Op) → taken_of R.lent priority s.left.next s.right.next ≡ fromLeft a xs
-      → rest R priority s ≡ before (turnLeft R 0 a xs s) (rest R priority (turnLeft R 0 a xs s).state)
+  pub goes_left : (a : Op) (xs : List Op) → taken_of R.lent priority s.left.next s.right.next ≡ from_left a xs
+      → rest R priority s ≡ before (turn_left R 0 a xs s) (rest R priority (turn_left R 0 a xs s).state)
   goes_left a xs e =
-      goes (turnLeft R 0 a xs s) (run-left R priority left_over s a xs e)
-      (left_less R 0 s a xs (taken_is R.lent priority s.left.next s.right.next (fromLeft a xs) e))
+      goes (turn_left R 0 a xs s) (run_left R priority left_over s a xs e)
+      (left_less R 0 s a xs (taken_is R.lent priority s.left.next s.right.next (from_left a xs) e))
 
-  pub goes-right : (b : Op) (ys : List Op) → taken_of R.lent priority s.left.next s.right.next ≡ fromRight b ys
-      → rest R priority s ≡ before (turnLeft R 1 b ys (turned s)) (rest R priority (turned (turnLeft R 1 b ys (turned s)).state))
-  unfolding turnRight
-  goes-right b ys e =
-      goes (turnRight R 1 b ys s) (run-right R priority left_over s b ys e)
-      (right-less R 1 s b ys (taken_is R.lent priority s.left.next s.right.next (fromRight b ys) e))
+  pub goes_right : (b : Op) (ys : List Op) → taken_of R.lent priority s.left.next s.right.next ≡ from_right b ys
+      → rest R priority s ≡ before (turn_left R 1 b ys (turned s)) (rest R priority (turned (turn_left R 1 b ys (turned s)).state))
+  unfolding turn_right
+  goes_right b ys e =
+      goes (turn_right R 1 b ys s) (run_right R priority left_over s b ys e)
+      (right_less R 1 s b ys (taken_is R.lent priority s.left.next s.right.next (from_right b ys) e))
 
 -- a side's share: its list, its cursors, and its part of the work room
 pub record Share : Type 0 where
@@ -99,7 +99,7 @@ frame least original text spans keys lops rops lcs rcs priority mid half w out m
       out = out;
       moved = moved;
       whole = outcome least (lent_of original text spans keys) priority lops rops lcs rcs;
-      rest = rest (rulesAt least (lent_of original text spans keys)) priority;
+      rest = rest (rules_at least (lent_of original text spans keys)) priority;
     }
 
 abbrev pub exchanged : Frame → Frame
@@ -119,12 +119,12 @@ exchanged F =
 
 -- two checked lists, and rooms as asked
 pub record Ready (F : Frame) : Type 0 where
-  pub original-most : length F.lent.original ≤ 65535
+  pub original_most : length F.lent.original ≤ 65535
   pub own : Listed F.lent.original F.lent.inserted F.lent.spans F.lent.keys F.own.ops
   pub other : Listed F.lent.original F.lent.inserted F.lent.spans F.lent.keys F.other.ops
   pub apart : (F.own.top ≤ F.other.base) ⊎ (F.other.top ≤ F.own.base)
-  pub own-top : F.own.top ≤ F.half
-  pub other-top : F.other.top ≤ F.half
+  pub own_top : F.own.top ≤ F.half
+  pub other_top : F.other.top ≤ F.half
   pub small : F.half ≤ 65536
   pub halves : F.half + F.half ≤ length F.room
   pub room : length F.whole.outs * 6 ≤ length F.out
@@ -135,42 +135,42 @@ pub ready : {least : ℕ} {original text spans keys lops rops lcs rcs : List ℕ
     → Runnable least original text spans keys lops rops lcs rcs priority w mid half out moved → Ready (frame least original text spans keys lops rops lcs rcs priority mid half w out moved)
 ready K =
     record {
-      original-most = K.original-most;
+      original_most = K.original_most;
       own = K.left;
       other = K.right;
       apart = inl (omega arith);
-      own-top = omega (arith, K.half_is);
-      other-top = omega arith;
-      small = omega (arith, K.half_is, K.mid-is, K.left.tokens, K.right.tokens);
+      own_top = omega (arith, K.half_is);
+      other_top = omega arith;
+      small = omega (arith, K.half_is, K.mid_is, K.left.tokens, K.right.tokens);
       halves = K.halves;
       room = K.room;
       space = K.space;
       spans_fit = K.spans_fit;
     }
 
-abbrev pub stateIn : Frame → List ℕ → Side → Side → Totals → State
-stateIn F w own other totals = state_of F.own.ops F.other.ops F.own.cs F.other.cs w F.half own other totals
+abbrev pub state_in : Frame → List ℕ → Side → Side → Totals → State
+state_in F w own other totals = state_of F.own.ops F.other.ops F.own.cs F.other.cs w F.half own other totals
 
 -- what holds between two turns: outs and ms came out so far, and the turns from here on give what is left of the whole
 pub record Going (F : Frame) (w out moved : List ℕ) (own other : Side) (totals : Totals) : Type 0 where
   pub ready : Ready F
   pub p : ℕ
   pub q : ℕ
-  pub sound : Sound (rulesAt F.least F.lent) (Run F.lent.inserted F.lent.spans F.lent.keys) (list_of F.own.ops) (list_of F.other.ops) (length F.lent.original)
-      (stateIn F w own other totals) p q
+  pub sound : Sound (rules_at F.least F.lent) (Run F.lent.inserted F.lent.spans F.lent.keys) (list_of F.own.ops) (list_of F.other.ops) (length F.lent.original)
+      (state_in F w own other totals) p q
   pub owns : SideFits F.own.ops F.own.base F.own.top p own
   pub others : SideFits F.other.ops F.other.base F.other.top q other
   pub outs : List Out
   pub ms : List Cursor
   pub operations : totals.operations ≡ length outs
-  pub out-is : out ≡ answered (flatOperations (recordsOf F.lent outs)) F.out
+  pub out_is : out ≡ answered (flat_operations (records_of F.lent outs)) F.out
   pub cursors : totals.cursors ≡ length ms
-  pub moved-is : moved ≡ answered (flatCursors ms) F.moved
-  pub all-outs : F.whole.outs ≡ outs ++ (F.rest (stateIn F w own other totals)).outs
-  pub all-cursors : F.whole.cursors ≡ ms ++ (F.rest (stateIn F w own other totals)).cursors
+  pub moved_is : moved ≡ answered (flat_cursors ms) F.moved
+  pub all_outs : F.whole.outs ≡ outs ++ (F.rest (state_in F w own other totals)).outs
+  pub all_cursors : F.whole.cursors ≡ ms ++ (F.rest (state_in F w own other totals)).cursors
   pub space : totals.cursors + (length F.own.cs / 2 - own.cursor) + (length F.other.cs / 2 - other.cursor) ≡ length F.own.cs / 2 + length F.other.cs / 2
   pub same : length w ≡ length F.room
-  pub out-same : length out ≡ length F.out
+  pub out_same : length out ≡ length F.out
   pub moved_same : length moved ≡ length F.moved
 
 -- the other side sees the same
@@ -180,12 +180,12 @@ exchange G =
     record {
       ready =
           record {
-            original-most = K.original-most;
+            original_most = K.original_most;
             own = K.other;
             other = K.own;
             apart = ⊎_elim inr inl K.apart;
-            own-top = K.other-top;
-            other-top = K.own-top;
+            own_top = K.other_top;
+            other_top = K.own_top;
             small = K.small;
             halves = K.halves;
             room = K.room;
@@ -194,30 +194,30 @@ exchange G =
           };
       p = G.q;
       q = G.p;
-      sound = sound-turned G.sound;
+      sound = sound_turned G.sound;
       owns = G.others;
       others = G.owns;
       outs = G.outs;
       ms = G.ms;
       operations = G.operations;
-      out-is = G.out-is;
+      out_is = G.out_is;
       cursors = G.cursors;
-      moved-is = G.moved-is;
-      all-outs = G.all-outs;
-      all-cursors = G.all-cursors;
+      moved_is = G.moved_is;
+      all_outs = G.all_outs;
+      all_cursors = G.all_cursors;
       space = omega (arith, G.space);
       same = G.same;
-      out-same = G.out-same;
+      out_same = G.out_same;
       moved_same = G.moved_same;
     }
 
 -- the side `own` takes a
 pub record Taking (F : Frame) (w : List ℕ) (own other : Side) (totals : Totals) (p q number : ℕ) (a : Op) : Type 0 where
   pub next : own.ahead.next ≡ Here a
-  pub turning : Turning (stateIn F w own other totals) a (list_from F.own.ops own.ahead.behind own.ahead.at) p q (length F.lent.original)
-  pub goes : F.rest (stateIn F w own other totals)
-      ≡ before (turnLeft (rulesAt F.least F.lent) number a (list_from F.own.ops own.ahead.behind own.ahead.at) (stateIn F w own other totals))
-      (F.rest (turnLeft (rulesAt F.least F.lent) number a (list_from F.own.ops own.ahead.behind own.ahead.at) (stateIn F w own other totals)).state)
+  pub turning : Turning (state_in F w own other totals) a (list_from F.own.ops own.ahead.behind own.ahead.at) p q (length F.lent.original)
+  pub goes : F.rest (state_in F w own other totals)
+      ≡ before (turn_left (rules_at F.least F.lent) number a (list_from F.own.ops own.ahead.behind own.ahead.at) (state_in F w own other totals))
+      (F.rest (turn_left (rules_at F.least F.lent) number a (list_from F.own.ops own.ahead.behind own.ahead.at) (state_in F w own other totals)).state)
 
 module _ {F : Frame} {w out moved : List ℕ} {own other : Side} {totals : Totals} (G : Going F w out moved own other totals) {number : ℕ} {a : Op}
     (t : Taking F w own other totals G.p G.q number a) where
@@ -228,7 +228,7 @@ module _ {F : Frame} {w out moved : List ℕ} {own other : Side} {totals : Total
   Q = Run L.inserted L.spans L.keys
 
   abbrev S : State
-  S = stateIn F w own other totals
+  S = state_in F w own other totals
 
   abbrev xs : List Op
   xs = list_from F.own.ops own.ahead.behind own.ahead.at
@@ -237,67 +237,67 @@ module _ {F : Frame} {w out moved : List ℕ} {own other : Side} {totals : Total
   n = length L.original
 
   abbrev D : Turned
-  D = turnLeft (rulesAt F.least L) number a xs S
+  D = turn_left (rules_at F.least L) number a xs S
 
   -- what is still to come, after this turn
-  outs-on : F.whole.outs ≡ G.outs ++ (D.out ++ (F.rest D.state).outs)
-  outs-on = G.all-outs ∙ ap (λ (o : Outcome). G.outs ++ o.outs) t.goes
+  outs_on : F.whole.outs ≡ G.outs ++ (D.out ++ (F.rest D.state).outs)
+  outs_on = G.all_outs ∙ ap (λ (o : Outcome). G.outs ++ o.outs) t.goes
 
-  cursors-on : F.whole.cursors ≡ G.ms ++ (D.cursors ++ (F.rest D.state).cursors)
-  cursors-on = G.all-cursors ∙ ap (λ (o : Outcome). G.ms ++ o.cursors) t.goes
+  cursors_on : F.whole.cursors ≡ G.ms ++ (D.cursors ++ (F.rest D.state).cursors)
+  cursors_on = G.all_cursors ∙ ap (λ (o : Outcome). G.ms ++ o.cursors) t.goes
 
-  pub side-turnable : Turnable F.least L.spans L.keys F.own.ops F.own.cs w F.half a own other totals number out moved
-  unfolding metOf
-  side-turnable =
+  pub side_turnable : Turnable F.least L.spans L.keys F.own.ops F.own.cs w F.half a own other totals number out moved
+  unfolding met_of
+  side_turnable =
       let K = G.ready in
       let g = G.sound in
       let tn = t.turning in
       let h : ahead_of F.own.ops own.ahead ≡ a ∷ xs = tn.next in
-      let tiled : Tiled (a ∷ xs) G.p n = tn.good.tiledL in
-      let tk : tokensOf (a ∷ xs) ≤ 8192 = omega (arith, K.own.tokens, g.tokens-left, ap tokensOf h) in
-      let len : length_of (ofSpans L.spans) a ≤ textOfAll L (ahead_of F.own.ops own.ahead) = omega (arith, length-is L a, text-first L a xs, ap (textOfAll L) h) in
-      let p1 = tokens-first a xs in
-      let p2 = ap tokensOf h in
+      let tiled : Tiled (a ∷ xs) G.p n = tn.good.tiled_l in
+      let tk : tokens_of (a ∷ xs) ≤ 8192 = omega (arith, K.own.tokens, g.tokens_left, ap tokens_of h) in
+      let len : length_of (of_spans L.spans) a ≤ text_of_all L (ahead_of F.own.ops own.ahead) = omega (arith, length_is L a, text_first L a xs, ap (text_of_all L) h) in
+      let p1 = tokens_first a xs in
+      let p2 = ap tokens_of h in
       record {
-        sound = fine L.inserted L.spans L.keys K.spans_fit a xs G.p n K.original-most tiled (subst (Inserts Q) h g.inserts-left) tk;
-        next = next_fits L.inserted L.spans L.keys K.spans_fit other.ahead.next (list_from F.other.ops other.ahead.behind other.ahead.at) G.q n K.original-most
-            tn.good.tiledR g.inserts-right;
+        sound = fine L.inserted L.spans L.keys K.spans_fit a xs G.p n K.original_most tiled (subst (Inserts Q) h g.inserts_left) tk;
+        next = next_fits L.inserted L.spans L.keys K.spans_fit other.ahead.next (list_from F.other.ops other.ahead.behind other.ahead.at) G.q n K.original_most
+            tn.good.tiled_r g.inserts_right;
         last = G.others.fits;
-        away = away-from other.memory.last F.other.base other.memory.fill own.memory.fill (tokens a) G.others.since
+        away = away_from other.memory.last F.other.base other.memory.fill own.memory.fill (tokens a) G.others.since
             (⊎_elim (λ (q : F.own.top ≤ F.other.base). inr (omega (arith, G.owns.place, p1, p2)))
             (λ (q : F.other.top ≤ F.own.base). inl (omega (arith, G.others.place, G.owns.low)))
             K.apart);
         began = began_of own.memory.last F.own.base own.memory.fill G.owns.since;
-        place = omega (arith, G.owns.place, p1, p2, K.own-top);
-        filled = omega (arith, G.others.place, K.other-top);
+        place = omega (arith, G.owns.place, p1, p2, K.own_top);
+        filled = omega (arith, G.others.place, K.other_top);
         small = K.small;
         halves = omega (arith, K.halves, G.same);
-        seen = omega (arith, len, g.seen-left, K.own.text-most);
-        merged = omega (arith, len, g.seen-left, g.seen-right, g.merged-most, K.own.text-most, K.other.text-most);
+        seen = omega (arith, len, g.seen_left, K.own.text_most);
+        merged = omega (arith, len, g.seen_left, g.seen_right, g.merged_most, K.own.text_most, K.other.text_most);
         consumed =
             omega (
               arith,
               tn.at,
-              K.original-most,
-              next-within a xs G.p n tiled,
+              K.original_most,
+              next_within a xs G.p n tiled,
               starts a xs G.p n tiled,
-              tiled-le (ahead_of F.other.ops other.ahead) G.q n tn.good.tiledR,
+              tiled_le (ahead_of F.other.ops other.ahead) G.q n tn.good.tiled_r,
             );
-        first = first_fits a xs G.p n own.ahead.at K.original-most tiled (subst (λ (x : Next). G.p + spanNext x ≡ own.ahead.at) t.next G.owns.at);
+        first = first_fits a xs G.p n own.ahead.at K.original_most tiled (subst (λ (x : Next). G.p + span_next x ≡ own.ahead.at) t.next G.owns.at);
         space = omega (arith, G.space, K.space, G.moved_same);
         room = λ lent' es ek.
             let s : result F.least lent' w F.half a other ≡ result F.least L w F.half a other =
-            ap (shortened (taken a other)) (lost-keys F.least lent' L ek (taken a other) (memoryOf w F.half other.memory)) in
+            ap (shortened (taken a other)) (lost_keys F.least lent' L ek (taken a other) (memory_of w F.half other.memory)) in
             let d : length (emitted number totals.consumed (result F.least lent' w F.half a other)) ≡ length D.out =
             ap (λ (x : Op). length (emitted number totals.consumed x)) s
-            ∙ ap length (turned-out F.least L F.own.ops F.other.ops F.own.cs F.other.cs w F.half a own other totals number G.others.ends) in
+            ∙ ap length (turned_out F.least L F.own.ops F.other.ops F.own.cs F.other.cs w F.half a own other totals number G.others.ends) in
             omega (
               arith,
               d,
               K.room,
-              G.out-same,
+              G.out_same,
               G.operations,
-              ap length outs-on,
+              ap length outs_on,
               length-append G.outs (D.out ++ (F.rest D.state).outs),
               length-append D.out (F.rest D.state).outs,
             );
@@ -305,40 +305,40 @@ module _ {F : Frame} {w out moved : List ℕ} {own other : Side} {totals : Total
 
   module _ {w' out' moved' : List ℕ} {r : Result} (T : Turns F.least L.spans L.keys F.own.ops F.own.cs w w' F.half a own other totals number out out' moved moved' r) where
     -- the state after the turn is the definition's
-    es : stateIn F w' r.own r.other r.totals ≡ D.state
+    es : state_in F w' r.own r.other r.totals ≡ D.state
     es = turned-state F.least L F.own.ops F.other.ops F.own.cs F.other.cs w F.half a own other totals number G.others.ends refl refl T
 
-    pub side-less : work (ahead_of F.own.ops r.own.ahead) + work (ahead_of F.other.ops r.other.ahead)
+    pub side_less : work (ahead_of F.own.ops r.own.ahead) + work (ahead_of F.other.ops r.other.ahead)
         < work (ahead_of F.own.ops own.ahead) + work (ahead_of F.other.ops other.ahead)
-    side-less =
-        omega (arith, ap (λ (s : State). work s.left.next) es, ap (λ (s : State). work s.right.next) es, left_less (rulesAt F.least L) number S a xs t.turning.next)
+    side_less =
+        omega (arith, ap (λ (s : State). work s.left.next) es, ap (λ (s : State). work s.right.next) es, left_less (rules_at F.least L) number S a xs t.turning.next)
 
-    pub side-step : length out' ≡ length out → length moved' ≡ length moved → Going F w' out' moved' r.own r.other r.totals
-    side-step eo em =
+    pub side_step : length out' ≡ length out → length moved' ≡ length moved → Going F w' out' moved' r.own r.other r.totals
+    side_step eo em =
         let m = T.made L refl refl in
-        let f = same-front F.least L F.own.ops F.other.ops F.own.cs F.other.cs w F.half a own other totals number G.others.ends in
-        let eo' = turned-out F.least L F.own.ops F.other.ops F.own.cs F.other.cs w F.half a own other totals number G.others.ends in
-        let ec' = turned-cursors F.least L F.own.ops F.other.ops F.own.cs F.other.cs w F.half a own other totals number G.others.ends in
+        let f = same_front F.least L F.own.ops F.other.ops F.own.cs F.other.cs w F.half a own other totals number G.others.ends in
+        let eo' = turned_out F.least L F.own.ops F.other.ops F.own.cs F.other.cs w F.half a own other totals number G.others.ends in
+        let ec' = turned_cursors F.least L F.own.ops F.other.ops F.own.cs F.other.cs w F.half a own other totals number G.others.ends in
         record {
           ready = G.ready;
-          p = placeAfter a S.right.next;
+          p = place_after a S.right.next;
           q = G.q;
-          sound = subst (λ (s : State). Sound (rulesAt F.least L) Q (list_of F.own.ops) (list_of F.other.ops) n s (placeAfter a S.right.next) G.q) (sym es)
-              (sound-next (lawful-at F.least L) G.sound number a xs t.turning);
+          sound = subst (λ (s : State). Sound (rules_at F.least L) Q (list_of F.own.ops) (list_of F.other.ops) n s (place_after a S.right.next) G.q) (sym es)
+              (sound_next (lawful_at F.least L) G.sound number a xs t.turning);
           owns = subst (λ (b : Op). SideFits F.own.ops F.own.base F.own.top (order_of a + span_of b) r.own) f
-              (own-fits T n G.owns t.next t.turning.good.tiledL);
+              (own_fits T n G.owns t.next t.turning.good.tiled_l);
           others = other_fits T G.others;
           outs = G.outs ++ D.out;
           ms = G.ms ++ D.cursors;
           operations = omega (arith, m.operations, G.operations, ap length eo', length-append G.outs D.out);
-          out-is = m.out-grows G.outs F.out G.operations G.out-is
-              ∙ ap (λ (o : List Out). answered (flatOperations (recordsOf L (G.outs ++ o))) F.out) eo';
-          cursors = omega (arith, m.moved-count, G.cursors, ap length ec', length-append G.ms D.cursors);
-          moved-is = m.moved-grows G.ms F.moved G.cursors G.moved-is ∙ ap (λ (o : List Cursor). answered (flatCursors (G.ms ++ o)) F.moved) ec';
-          all-outs = outs-on ∙ sym (append_assoc G.outs D.out (F.rest D.state).outs) ∙ ap (λ (s : State). (G.outs ++ D.out) ++ (F.rest s).outs) (sym es);
-          all-cursors = cursors-on ∙ sym (append_assoc G.ms D.cursors (F.rest D.state).cursors) ∙ ap (λ (s : State). (G.ms ++ D.cursors) ++ (F.rest s).cursors) (sym es);
+          out_is = m.out_grows G.outs F.out G.operations G.out_is
+              ∙ ap (λ (o : List Out). answered (flat_operations (records_of L (G.outs ++ o))) F.out) eo';
+          cursors = omega (arith, m.moved_count, G.cursors, ap length ec', length-append G.ms D.cursors);
+          moved_is = m.moved_grows G.ms F.moved G.cursors G.moved_is ∙ ap (λ (o : List Cursor). answered (flat_cursors (G.ms ++ o)) F.moved) ec';
+          all_outs = outs_on ∙ sym (append_assoc G.outs D.out (F.rest D.state).outs) ∙ ap (λ (s : State). (G.outs ++ D.out) ++ (F.rest s).outs) (sym es);
+          all_cursors = cursors_on ∙ sym (append_assoc G.ms D.cursors (F.rest D.state).cursors) ∙ ap (λ (s : State). (G.ms ++ D.cursors) ++ (F.rest s).cursors) (sym es);
           space = omega (arith, G.space, T.space, ap (λ (i : ℕ). length F.other.cs / 2 - i) T.stood);
           same = T.same ∙ G.same;
-          out-same = eo ∙ G.out-same;
+          out_same = eo ∙ G.out_same;
           moved_same = em ∙ G.moved_same;
         }

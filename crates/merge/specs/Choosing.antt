@@ -4,7 +4,7 @@ use Rattle.merging.specs.declared.Op.{Op}
 use Rattle.merging.specs.declared.Op.TheVariants.{Delete}
 use Rattle.merging.specs.declared.Order.{Order}
 use Rattle.merging.specs.Lent.{Lent}
-use Rattle.merging.specs.OrderRule.{goesLeft}
+use Rattle.merging.specs.OrderRule.{goes_left}
 use Rattle.operation.specs.declared.Next.{Next}
 use Rattle.operation.specs.declared.Next.TheVariants.{Here, Done}
 use Rattle.order.specs.Readable.{Readable}
@@ -21,7 +21,7 @@ unfoldable pub choice_of : Lent → Order → Next → Next → Choice
 choice_of lent priority Done Done = Nothing
 choice_of lent priority Done (Here b) = Right b
 choice_of lent priority (Here a) Done = Left a
-choice_of lent priority (Here a) (Here b) = elim (goesLeft lent priority a b) [ true ↦ Left a | false ↦ Right b ]
+choice_of lent priority (Here a) (Here b) = elim (goes_left lent priority a b) [ true ↦ Left a | false ↦ Right b ]
 
 -- whether a choice takes nothing
 unfoldable pub is_none : Choice → Bool
@@ -30,13 +30,13 @@ is_none (Left a) = false
 is_none (Right b) = false
 
 -- the operation that a choice takes; of none, any
-unfoldable pub takenBy : Choice → Op
-takenBy Nothing = Delete 0 0
-takenBy (Left a) = a
-takenBy (Right b) = b
+unfoldable pub taken_by : Choice → Op
+taken_by Nothing = Delete 0 0
+taken_by (Left a) = a
+taken_by (Right b) = b
 
 -- of what the left and the right have, that of the side that a choice takes
-unfoldable pub ofSide : {A : Type 0} → Choice → A → A → A
-ofSide Nothing x y = x
-ofSide (Left a) x y = x
-ofSide (Right b) x y = y
+unfoldable pub of_side : {A : Type 0} → Choice → A → A → A
+of_side Nothing x y = x
+of_side (Left a) x y = x
+of_side (Right b) x y = y

@@ -3,19 +3,19 @@ use Rattle.std.specs.Prelude.{ℕ, ◌+◌, ◌≤◌, ◌≡◌, Bool, List, le
 use Rattle.room.specs.Choice.{pick}
 use Rattle.merging.specs.declared.Op.{Op}
 use Rattle.merging.specs.declared.Shift.{Shift}
-use Rattle.merging.specs.Lent.{Lent, rulesOf, rulesAt}
-use Rattle.merging.specs.Meeting.{lostOf, other_of}
-use Rattle.merging.specs.Cursors.{shift_of, removedOf}
+use Rattle.merging.specs.Lent.{Lent, rules_of, rules_at}
+use Rattle.merging.specs.Meeting.{lost_of, other_of}
+use Rattle.merging.specs.Cursors.{shift_of, removed_of}
 use Rattle.operation.specs.declared.Last.{Last}
 use Rattle.operation.specs.declared.Met.{Met}
-use Rattle.operation.specs.Views.{LastFits, Lies, Keyed, Away, Scratched, tokens, size, ofSpans, last_of}
-use Rattle.operation.specs.Meets.{placeBy}
+use Rattle.operation.specs.Views.{LastFits, Lies, Keyed, Away, Scratched, tokens, size, of_spans, last_of}
+use Rattle.operation.specs.Meets.{place_by}
 use Rattle.turns.specs.Remembering.{Since}
 use Rattle.merge.specs.declared.Meeting.{Meeting}
 
 -- a shift whose place is left out where no cursor waits for it
-abbrev pub placedIf : Bool → Shift → Shift
-placedIf b t =
+abbrev pub placed_if : Bool → Shift → Shift
+placed_if b t =
     record {
       seen = t.seen;
       length = t.length;
@@ -27,12 +27,12 @@ placedIf b t =
 
 -- the shift in the code's own terms
 pub record Shifted (spans w : List ℕ) (half fill : ℕ) (a : Op) (last : Last) (m : Met) (awaited : Bool) (seen own merged : ℕ) (r : Shift) : Type 0 where
-  pub seen-is : r.seen ≡ seen
-  pub length-is : r.length ≡ own
-  pub removed-is : r.removed ≡ removedOf (rulesOf (ofSpans spans)) a m.lost
-  pub start_is : r.start ≡ pick awaited (placeBy w half fill a last m merged).start merged
-  pub shared-is : r.shared ≡ pick awaited (placeBy w half fill a last m merged).shared 0
-  pub merged-is : r.merged ≡ merged
+  pub seen_is : r.seen ≡ seen
+  pub length_is : r.length ≡ own
+  pub removed_is : r.removed ≡ removed_of (rules_of (of_spans spans)) a m.lost
+  pub start_is : r.start ≡ pick awaited (place_by w half fill a last m merged).start merged
+  pub shared_is : r.shared ≡ pick awaited (place_by w half fill a last m merged).shared 0
+  pub merged_is : r.merged ≡ merged
 
 -- what an operation needs to meet what is remembered of the other side: its tokens are lent, and the work room, two halves, has place
 -- for its table in the first, beside what is remembered
@@ -49,11 +49,11 @@ pub record Facing (spans keys w : List ℕ) (half fill table : ℕ) (a : Op) (la
 
 -- what was met, with an overlap that counts from `least` tokens on, is the definition's, whatever else was lent
 pub record Meets (least : ℕ) (spans keys w w' : List ℕ) (half fill table : ℕ) (a : Op) (last : Last) (awaited : Bool) (seen merged : ℕ) (r : Meeting) : Type 0 where
-  pub lost : (lent : Lent) → lent.spans ≡ spans → lent.keys ≡ keys → r.lost ≡ lostOf (rulesAt least lent) a (last_of w half fill last)
+  pub lost : (lent : Lent) → lent.spans ≡ spans → lent.keys ≡ keys → r.lost ≡ lost_of (rules_at least lent) a (last_of w half fill last)
   pub most : r.lost ≤ size a
-  pub shift : (lent : Lent) → lent.spans ≡ spans → lent.keys ≡ keys → r.shift ≡ placedIf awaited (shift_of (rulesAt least lent) a (last_of w half fill last) seen merged)
+  pub shift : (lent : Lent) → lent.spans ≡ spans → lent.keys ≡ keys → r.shift ≡ placed_if awaited (shift_of (rules_at least lent) a (last_of w half fill last) seen merged)
   pub start : r.shift.start ≤ merged
-  pub stays : (lent : Lent) → lent.spans ≡ spans → lent.keys ≡ keys → last_of w' half fill r.last ≡ other_of (rulesAt least lent) a (last_of w half fill last)
+  pub stays : (lent : Lent) → lent.spans ≡ spans → lent.keys ≡ keys → last_of w' half fill r.last ≡ other_of (rules_at least lent) a (last_of w half fill last)
   pub fits : LastFits r.last
   pub since : (base : ℕ) → Since last base fill → Since r.last base fill
   pub scratched : Scratched w w' table (tokens a)

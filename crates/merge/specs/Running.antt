@@ -1,52 +1,52 @@
 -- The run of all turns, from the code's values to the merge's definition. Assumes nothing.
 use Rattle.std.specs.Prelude.{ℕ, ◌+◌, ◌*◌, ◌/◌, ◌≤◌, ◌≡◌, List, length}
 use Rattle.room.specs.Placed.{answered}
-use Rattle.records.specs.Operations.{operationsOf, flatOperations}
-use Rattle.records.specs.Cursors.{cursorsOf, flatCursors}
+use Rattle.records.specs.Operations.{operations_of, flat_operations}
+use Rattle.records.specs.Cursors.{cursors_of, flat_cursors}
 use Rattle.merging.specs.declared.Op.{Op}
 use Rattle.merging.specs.declared.Order.{Order}
-use Rattle.merging.specs.Lent.{Lent, rulesAt, lent_of}
-use Rattle.merging.specs.Operations.{opsFrom, length_of, recordsOf}
+use Rattle.merging.specs.Lent.{Lent, rules_at, lent_of}
+use Rattle.merging.specs.Operations.{ops_from, length_of, records_of}
 use Rattle.merging.specs.Meeting.{nothing}
 use Rattle.merging.specs.Turn.{State}
 use Rattle.merging.specs.Merge.{Outcome, run, work}
-use Rattle.merging.specs.Tiling.{Tiled, total_of, tokensOf, Inserts}
+use Rattle.merging.specs.Tiling.{Tiled, total_of, tokens_of, Inserts}
 use Rattle.numbers.specs.Sizes.{most}
 use Rattle.order.specs.Readable.{Run}
 use Rattle.merge.specs.declared.Totals.{Totals}
 
 -- "An insert's order is the original text consumed before it": the operations of a lent list
 abbrev pub list_of : List ℕ → List Op
-list_of ops = opsFrom 0 (operationsOf ops)
+list_of ops = ops_from 0 (operations_of ops)
 
 -- the sides before the first turn, cursors sorted
 abbrev pub begin : List ℕ → List ℕ → List ℕ → List ℕ → State
 begin lops rops lcs rcs =
     record {
-      left = record { next = list_of lops; last = nothing; seen = 0; cursors = cursorsOf lcs };
-      right = record { next = list_of rops; last = nothing; seen = 0; cursors = cursorsOf rcs };
+      left = record { next = list_of lops; last = nothing; seen = 0; cursors = cursors_of lcs };
+      right = record { next = list_of rops; last = nothing; seen = 0; cursors = cursors_of rcs };
       merged = 0;
       consumed = 0;
     }
 
 -- what comes out of all turns, an overlap counting from `least` tokens on
 abbrev pub outcome : ℕ → Lent → Order → List ℕ → List ℕ → List ℕ → List ℕ → Outcome
-outcome least lent priority lops rops lcs rcs = run (rulesAt least lent) priority (work (list_of lops) + work (list_of rops)) (begin lops rops lcs rcs)
+outcome least lent priority lops rops lcs rcs = run (rules_at least lent) priority (work (list_of lops) + work (list_of rops)) (begin lops rops lcs rcs)
 
 -- a list that was checked
 pub record Listed (original text spans keys ops : List ℕ) : Type 0 where
   pub tiled : Tiled (list_of ops) 0 (length original)
   pub inserts : Inserts (Run text spans keys) (list_of ops)
-  pub tokens : tokensOf (list_of ops) ≤ 8192
-  pub text-most : total_of (length_of (lent_of original text spans keys)) (list_of ops) ≤ 131070
+  pub tokens : tokens_of (list_of ops) ≤ 8192
+  pub text_most : total_of (length_of (lent_of original text spans keys)) (list_of ops) ≤ 131070
 
 -- what the turns need: two checked lists, and rooms as asked
 pub record Runnable (least : ℕ) (original text spans keys lops rops lcs rcs : List ℕ) (priority : Order) (w : List ℕ) (mid half : ℕ) (out moved : List ℕ) : Type 0 where
-  pub original-most : length original ≤ 65535
+  pub original_most : length original ≤ 65535
   pub left : Listed original text spans keys lops
   pub right : Listed original text spans keys rops
-  pub mid-is : mid ≡ tokensOf (list_of lops)
-  pub half_is : half ≡ mid + tokensOf (list_of rops)
+  pub mid_is : mid ≡ tokens_of (list_of lops)
+  pub half_is : half ≡ mid + tokens_of (list_of rops)
   pub halves : half + half ≤ length w
   pub room : length (outcome least (lent_of original text spans keys) priority lops rops lcs rcs).outs * 6 ≤ length out
   pub space : (length lcs / 2 + length rcs / 2) * 2 ≤ length moved
@@ -55,6 +55,6 @@ pub record Runnable (least : ℕ) (original text spans keys lops rops lcs rcs : 
 -- what they leave in the rooms
 pub record Ran (least : ℕ) (original text spans keys lops rops lcs rcs : List ℕ) (priority : Order) (out out' moved moved' : List ℕ) (r : Totals) : Type 0 where
   pub operations : r.operations ≡ length (outcome least (lent_of original text spans keys) priority lops rops lcs rcs).outs
-  pub out-is : out' ≡ answered (flatOperations (recordsOf (lent_of original text spans keys) (outcome least (lent_of original text spans keys) priority lops rops lcs rcs).outs)) out
+  pub out_is : out' ≡ answered (flat_operations (records_of (lent_of original text spans keys) (outcome least (lent_of original text spans keys) priority lops rops lcs rcs).outs)) out
   pub cursors : r.cursors ≡ length (outcome least (lent_of original text spans keys) priority lops rops lcs rcs).cursors
-  pub moved-is : moved' ≡ answered (flatCursors (outcome least (lent_of original text spans keys) priority lops rops lcs rcs).cursors) moved
+  pub moved_is : moved' ≡ answered (flat_cursors (outcome least (lent_of original text spans keys) priority lops rops lcs rcs).cursors) moved

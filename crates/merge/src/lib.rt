@@ -1,13 +1,13 @@
 // The turns of a merge.
 ghost use Rattle.std.specs.Prelude.{◌≡◌, ◌+◌, ◌≤◌, length};
-ghost use Rattle.operation.specs.Views.{Lies, Placeable, size, ofSpans};
+ghost use Rattle.operation.specs.Views.{Lies, Placeable, size, of_spans};
 ghost use Rattle.merging.specs.Operations.{length_of};
 ghost use Rattle.merge.specs.Meetings.{Shifted, Facing, Meets};
-ghost use Rattle.order.specs.Readable.{ofText};
+ghost use Rattle.order.specs.Readable.{of_text};
 ghost use Rattle.merge.specs.Turning.{Turnable, Turns};
-ghost use Rattle.merge.specs.Choosing.{NextReadable, choice_of, is_none, takenBy, ofSide};
-ghost use Rattle.merge.specs.Sides.{ofNumber};
-ghost use Rattle.merging.specs.Cursors.{movedBy, behindOf};
+ghost use Rattle.merge.specs.Choosing.{NextReadable, choice_of, is_none, taken_by, of_side};
+ghost use Rattle.merge.specs.Sides.{of_number};
+ghost use Rattle.merging.specs.Cursors.{moved_by, behind_of};
 ghost use Rattle.cursor_position.specs.Moves.{Fits, left_of, waits, Spacious, Went};
 ghost use Rattle.turns.specs.Looking.{list_from, FirstFits, Looks};
 ghost use Rattle.merge.specs.Running.{Runnable, Ran};
@@ -84,7 +84,7 @@ pub fn meet(
     half: usize,
     table: usize,
 ) -> Meeting
-    requires { Facing spans.now keys.now work.old half fill table a last × (length ≡ length_of (ofSpans spans.now) a) }
+    requires { Facing spans.now keys.now work.old half fill table a last × (length ≡ length_of (of_spans spans.now) a) }
     ensures { Meets least spans.now keys.now work.old work.new half fill table a last awaited seen merged result }
 {
     let met = operation::merge_operations_consuming_insert(keys, least, a, last, fill, work, table);
@@ -128,7 +128,7 @@ pub struct Turned {
 
 // Whether a cursor of the side of a number waits for an operation that ends there.
 fn is_side_awaited(number: usize, left: &[usize], right: &[usize], p: Progress, end: usize) -> bool
-    ensures { result ≡ waits end (left_of (ofNumber number left.now right.now) p) }
+    ensures { result ≡ waits end (left_of (of_number number left.now right.now) p) }
 {
     if number == 0 {
         return cursor_position::is_awaited(left, p, end);
@@ -147,8 +147,8 @@ fn move_side(
     t: Shift,
     out: &mut [usize],
 ) -> Progress
-    requires { Fits t × Spacious (ofNumber number left.now right.now) p out.old × (awaited ≡ waits (t.seen + t.length) (left_of (ofNumber number left.now right.now) p)) }
-    ensures { Went (ofNumber number left.now right.now) (movedBy a t (left_of (ofNumber number left.now right.now) p)) (behindOf a t (left_of (ofNumber number left.now right.now) p)) out.old out.new p result }
+    requires { Fits t × Spacious (of_number number left.now right.now) p out.old × (awaited ≡ waits (t.seen + t.length) (left_of (of_number number left.now right.now) p)) }
+    ensures { Went (of_number number left.now right.now) (moved_by a t (left_of (of_number number left.now right.now) p)) (behind_of a t (left_of (of_number number left.now right.now) p)) out.old out.new p result }
 {
     if awaited {
         if number == 0 {
@@ -168,8 +168,8 @@ fn advance_side(
     behind: usize,
     at: usize,
 ) -> Ahead
-    requires { FirstFits at (list_from (ofNumber number left.now right.now) behind at) }
-    ensures { Looks (ofNumber number left.now right.now) tail behind at result }
+    requires { FirstFits at (list_from (of_number number left.now right.now) behind at) }
+    ensures { Looks (of_number number left.now right.now) tail behind at result }
 {
     if number == 0 {
         return turns::advance(left, tail, behind, at);
@@ -197,8 +197,8 @@ pub fn turn(
     out: &mut [usize],
     moved: &mut [usize],
 ) -> Turned
-    requires { Turnable least spans.now keys.now (ofNumber number left_operations.now right_operations.now) (ofNumber number left_cursors.now right_cursors.now) work.old half a own other totals number out.old moved.old }
-    ensures { Turns least spans.now keys.now (ofNumber number left_operations.now right_operations.now) (ofNumber number left_cursors.now right_cursors.now) work.old work.new half a own other totals number out.old out.new moved.old moved.new result }
+    requires { Turnable least spans.now keys.now (of_number number left_operations.now right_operations.now) (of_number number left_cursors.now right_cursors.now) work.old half a own other totals number out.old moved.old }
+    ensures { Turns least spans.now keys.now (of_number number left_operations.now right_operations.now) (of_number number left_cursors.now right_cursors.now) work.old work.new half a own other totals number out.old out.new moved.old moved.new result }
 {
     let ahead = own.ahead;
     let memory = own.memory;
@@ -308,7 +308,7 @@ pub fn choose(
     priority: Order,
 ) -> Choice
     requires { NextReadable text.now spans.now keys.now left × NextReadable text.now spans.now keys.now right }
-    ensures { result ≡ choice_of (ofText text.now spans.now keys.now) priority left right }
+    ensures { result ≡ choice_of (of_text text.now spans.now keys.now) priority left right }
 {
     match left {
         Next::Done => match right {
@@ -343,7 +343,7 @@ fn is_none(choice: Choice) -> bool
 
 // The operation that a choice takes.
 fn taken_of(choice: Choice) -> Op
-    ensures { result ≡ takenBy choice }
+    ensures { result ≡ taken_by choice }
 {
     match choice {
         Choice::Nothing => Op::Delete {
@@ -357,7 +357,7 @@ fn taken_of(choice: Choice) -> Op
 
 // The number of the side that a choice takes.
 fn number_of(choice: Choice) -> usize
-    ensures { result ≡ ofSide choice 0 1 }
+    ensures { result ≡ of_side choice 0 1 }
 {
     match choice {
         Choice::Nothing => 0,
@@ -368,7 +368,7 @@ fn number_of(choice: Choice) -> usize
 
 // Of two sides the one that a choice takes.
 fn side_of(choice: Choice, left: Side, right: Side) -> Side
-    ensures { result ≡ ofSide choice left right }
+    ensures { result ≡ of_side choice left right }
 {
     match choice {
         Choice::Nothing => fresh(left),

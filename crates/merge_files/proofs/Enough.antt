@@ -14,146 +14,146 @@ use Rattle.sizes.specs.Sizes.{merging}
 use Rattle.verdict.specs.declared.Verdict.{Verdict}
 use Rattle.verdict.specs.declared.Verdict.TheVariants as W
 use Rattle.verdict.specs.Verdicts.{and_then, roomed, leaves}
-use Rattle.verdict.proofs.Chains.{first-passed, rest-passed}
+use Rattle.verdict.proofs.Chains.{first_passed, rest_passed}
 use Rattle.shapes.specs.Accepted.{AcceptedList}
-use Rattle.shapes.proofs.Accepted.{retained-most}
-use Rattle.checks.proofs.Accepted.{accepted-left, accepted-right}
+use Rattle.shapes.proofs.Accepted.{retained_most}
+use Rattle.checks.proofs.Accepted.{accepted_left, accepted_right}
 use Rattle.utf8_read.specs.Reading.{points}
-use Rattle.utf8_write.proofs.Spilling.{wide-most}
+use Rattle.utf8_write.proofs.Spilling.{wide_most}
 use Rattle.edit_format.specs.Items.{Item, added}
-use Rattle.edit_format.specs.Reading.{readFile}
-use Rattle.edit_format.proofs.TextLaws.{texts-length}
-use Rattle.merging.specs.Lent.{Lent, rulesOf}
-use Rattle.merging.specs.Merge.{mergeOf}
-use Rattle.merging.specs.Operations.{opsFrom}
-use Rattle.merging.specs.Outputs.{toDiff}
-use Rattle.merging_laws.proofs.Accepted.{merged-accepted, merged-operations-most, merged-text-most}
-use Rattle.merging_laws.proofs.Outputs.{diff-fits}
-use Rattle.apply.specs.Answers.{textOn, historyOn}
-use Rattle.apply.proofs.Lists.{history-is, length-history, length-spans, text-count, removed-from, told-count}
-use Rattle.to_diff.specs.Items.{diffOf}
-use Rattle.to_diff.proofs.Joining.{length-items, added-items}
-use Rattle.outputs.proofs.GoodItems.{accepts, diff-good}
+use Rattle.edit_format.specs.Reading.{read_file}
+use Rattle.edit_format.proofs.TextLaws.{texts_length}
+use Rattle.merging.specs.Lent.{Lent, rules_of}
+use Rattle.merging.specs.Merge.{merge_of}
+use Rattle.merging.specs.Operations.{ops_from}
+use Rattle.merging.specs.Outputs.{to_diff}
+use Rattle.merging_laws.proofs.Accepted.{merged_accepted, merged_operations_most, merged_text_most}
+use Rattle.merging_laws.proofs.Outputs.{diff_fits}
+use Rattle.apply.specs.Answers.{text_on, history_on}
+use Rattle.apply.proofs.Lists.{history_is, length_history, length_spans, text_count, removed_from, told_count}
+use Rattle.to_diff.specs.Items.{diff_of}
+use Rattle.to_diff.proofs.Joining.{length_items, added_items}
+use Rattle.outputs.proofs.GoodItems.{accepts, diff_good}
 use Rattle.edit_list.specs.Raws.{items_in}
-use Rattle.edit_list.proofs.Bounds.{file-long, file-items}
+use Rattle.edit_list.proofs.Bounds.{file_long, file_items}
 use Rattle.merge_files.specs.declared.View.{View}
 use Rattle.merge_files.specs.declared.View.TheVariants as Asked
-use Rattle.merge_files.specs.Program.{lent_by, left_of, rightOf, mergeVerdict, mergedOf, productOf, outcomeOf, result_of, countedOf, Written}
-use Rattle.merge_files.proofs.Merging.{merged-fine}
-use Rattle.merge_files.proofs.Short.{file-most}
-use Rattle.merge_files.proofs.Added.{left-few, right-few, left-adds, right-adds}
-use Rattle.merge_files.proofs.Files.{few-points, all-passed}
+use Rattle.merge_files.specs.Program.{lent_by, left_of, right_of, merge_verdict, merged_of, product_of, outcome_of, result_of, counted_of, Written}
+use Rattle.merge_files.proofs.Merging.{merged_fine}
+use Rattle.merge_files.proofs.Short.{file_most}
+use Rattle.merge_files.proofs.Added.{left_few, right_few, left_adds, right_adds}
+use Rattle.merge_files.proofs.Files.{few_points, all_passed}
 
 -- two accepted edit files
 module _ (original : List ℕ) (ls rs : List Item) (few : (4 * length ls + 2 * added ls) + (4 * length rs + 2 * added rs) ≤ 4096)
-    (passed : mergeVerdict (lent_by original ls rs) (left_of ls) (rightOf ls rs) ≡ W.Accepted) where
+    (passed : merge_verdict (lent_by original ls rs) (left_of ls) (right_of ls rs) ≡ W.Accepted) where
   abbrev lent : Lent
   lent = lent_by original ls rs
 
   abbrev ops : List Operation
-  ops = (mergeOf (rulesOf lent) (left_of ls) (rightOf ls rs) [] []).operations
+  ops = (merge_of (rules_of lent) (left_of ls) (right_of ls rs) [] []).operations
 
   al : AcceptedList merging original lent.inserted lent.spans lent.keys (left_of ls) []
-  unfolding mergeVerdict
-  al = accepted-left merging original lent.inserted lent.spans lent.keys (left_of ls) (rightOf ls rs) [] [] passed
+  unfolding merge_verdict
+  al = accepted_left merging original lent.inserted lent.spans lent.keys (left_of ls) (right_of ls rs) [] [] passed
 
-  ar : AcceptedList merging original lent.inserted lent.spans lent.keys (rightOf ls rs) []
-  unfolding mergeVerdict
-  ar = accepted-right merging original lent.inserted lent.spans lent.keys (left_of ls) (rightOf ls rs) [] [] passed
+  ar : AcceptedList merging original lent.inserted lent.spans lent.keys (right_of ls rs) []
+  unfolding merge_verdict
+  ar = accepted_right merging original lent.inserted lent.spans lent.keys (left_of ls) (right_of ls rs) [] [] passed
 
   -- what the merged list has at most of operations and of text
   abbrev most : Limits
   most = record { operations = length ls + length rs; tokens = 16384; text = added ls + added rs; cursors = 512 }
 
-  listed : AcceptedList most original lent.inserted lent.spans lent.keys ops (mergeOf (rulesOf lent) (left_of ls) (rightOf ls rs) [] []).cursors
+  listed : AcceptedList most original lent.inserted lent.spans lent.keys ops (merge_of (rules_of lent) (left_of ls) (right_of ls rs) [] []).cursors
   listed =
-      let m = merged-accepted lent (left_of ls) (rightOf ls rs) [] [] al ar in
+      let m = merged_accepted lent (left_of ls) (right_of ls rs) [] [] al ar in
       record {
-        original-most = m.original-most;
-        text-most = m.text-most;
-        operations-most = omega (arith, merged-operations-most lent (left_of ls) (rightOf ls rs) [] [] al ar, left-few ls rs, right-few ls rs);
-        cursors-most = m.cursors-most;
-        tokens-most = m.tokens-most;
-        inserted-most = omega (arith, merged-text-most lent (left_of ls) (rightOf ls rs) [] [] al ar, left-adds ls rs (length lent.inserted) lent.keys, right-adds ls rs (length lent.inserted) lent.keys);
+        original_most = m.original_most;
+        text_most = m.text_most;
+        operations_most = omega (arith, merged_operations_most lent (left_of ls) (right_of ls rs) [] [] al ar, left_few ls rs, right_few ls rs);
+        cursors_most = m.cursors_most;
+        tokens_most = m.tokens_most;
+        inserted_most = omega (arith, merged_text_most lent (left_of ls) (right_of ls rs) [] [] al ar, left_adds ls rs (length lent.inserted) lent.keys, right_adds ls rs (length lent.inserted) lent.keys);
         shapes = m.shapes;
         tiles = m.tiles;
         within = m.within;
       }
 
-  file-enough : length (productOf Asked.File lent (mergedOf lent (left_of ls) (rightOf ls rs))).bytes ≤ 14393
-  unfolding productOf mergedOf diffOf
-  file-enough =
-      let is : List Item = diffOf lent ops in
-      let f = diff-fits lent most ops _ listed in
-      let i : length is ≤ length ls + length rs = omega (arith, length-items (toDiff lent (opsFrom 0 ops)), f.items) in
-      let t : added is ≤ added ls + added rs = omega (arith, added-items (toDiff lent (opsFrom 0 ops)), f.text) in
-      omega (arith, few, i, t, file-most is (diff-good lent ops (accepts lent ops (merged-fine lent (left_of ls) (rightOf ls rs) passed))) (omega (arith, few, t)))
+  file_enough : length (product_of Asked.File lent (merged_of lent (left_of ls) (right_of ls rs))).bytes ≤ 14393
+  unfolding product_of merged_of diff_of
+  file_enough =
+      let is : List Item = diff_of lent ops in
+      let f = diff_fits lent most ops _ listed in
+      let i : length is ≤ length ls + length rs = omega (arith, length_items (to_diff lent (ops_from 0 ops)), f.items) in
+      let t : added is ≤ added ls + added rs = omega (arith, added_items (to_diff lent (ops_from 0 ops)), f.text) in
+      omega (arith, few, i, t, file_most is (diff_good lent ops (accepts lent ops (merged_fine lent (left_of ls) (right_of ls rs) passed))) (omega (arith, few, t)))
 
   module _ (short : length original ≤ 2048) where
-    text-small : length (textOn lent ops) ≤ 4096
-    text-small =
-        omega (arith, text-count lent most ops _ listed, retained-most (length original) ops 0 listed.tiles, listed.inserted-most, few)
+    text_small : length (text_on lent ops) ≤ 4096
+    text_small =
+        omega (arith, text_count lent most ops _ listed, retained_most (length original) ops 0 listed.tiles, listed.inserted_most, few)
 
-    text-enough : length (productOf Asked.Text lent (mergedOf lent (left_of ls) (rightOf ls rs))).bytes ≤ 16384
-    unfolding productOf mergedOf
-    text-enough = omega (arith, wide-most (textOn lent ops), text-small)
+    text_enough : length (product_of Asked.Text lent (merged_of lent (left_of ls) (right_of ls rs))).bytes ≤ 16384
+    unfolding product_of merged_of
+    text_enough = omega (arith, wide_most (text_on lent ops), text_small)
 
-    spans-enough : length ls + length rs ≤ 682 → length (productOf Asked.History lent (mergedOf lent (left_of ls) (rightOf ls rs))).spans ≤ 2728
-    unfolding productOf mergedOf
-    spans-enough items =
-        omega (arith, items, length-spans lent (historyOn lent ops) 0, ap length (history-is lent ops), length-history lent ops, listed.operations-most, few)
+    spans_enough : length ls + length rs ≤ 682 → length (product_of Asked.History lent (merged_of lent (left_of ls) (right_of ls rs))).spans ≤ 2728
+    unfolding product_of merged_of
+    spans_enough items =
+        omega (arith, items, length_spans lent (history_on lent ops) 0, ap length (history_is lent ops), length_history lent ops, listed.operations_most, few)
 
-    told-enough : length (productOf Asked.History lent (mergedOf lent (left_of ls) (rightOf ls rs))).points ≤ 6144
-    unfolding productOf mergedOf
-    told-enough = omega (arith, told-count lent most ops _ listed, text-small, removed-from lent ops 0 listed.tiles)
+    told_enough : length (product_of Asked.History lent (merged_of lent (left_of ls) (right_of ls rs))).points ≤ 6144
+    unfolding product_of merged_of
+    told_enough = omega (arith, told_count lent most ops _ listed, text_small, removed_from lent ops 0 listed.tiles)
 
 -- three files
 module _ (view : View) (o l r : List ℕ) (e : (result_of view o l r).verdict ≡ W.Accepted) where
   abbrev ls : List Item
-  ls = items_in (readFile l)
+  ls = items_in (read_file l)
 
   abbrev rs : List Item
-  rs = items_in (readFile r)
+  rs = items_in (read_file r)
 
-  few-both : (4 * length ls + 2 * added ls) + (4 * length rs + 2 * added rs) ≤ 4096
+  few_both : (4 * length ls + 2 * added ls) + (4 * length rs + 2 * added rs) ≤ 4096
   unfolding result_of
-  few-both =
-      let P = all-passed o l r (first-passed _ _ e) in
-      omega (arith, file-long l P.left-accepted, file-long r P.right-accepted, texts-length ls, texts-length rs, P.left-short, P.right-short)
+  few_both =
+      let P = all_passed o l r (first_passed _ _ e) in
+      omega (arith, file_long l P.left_accepted, file_long r P.right_accepted, texts_length ls, texts_length rs, P.left_short, P.right_short)
 
-  few-items : length ls + length rs ≤ 682
+  few_items : length ls + length rs ≤ 682
   unfolding result_of
-  few-items =
-      let P = all-passed o l r (first-passed _ _ e) in
-      omega (arith, file-items l P.left-accepted, file-items r P.right-accepted, P.left-short, P.right-short)
+  few_items =
+      let P = all_passed o l r (first_passed _ _ e) in
+      omega (arith, file_items l P.left_accepted, file_items r P.right_accepted, P.left_short, P.right_short)
 
-  short-sheet : length (points o) ≤ 2048
+  short_sheet : length (points o) ≤ 2048
   unfolding result_of
-  short-sheet = omega (arith, few-points o 0, (all-passed o l r (first-passed _ _ e)).original-short)
+  short_sheet = omega (arith, few_points o 0, (all_passed o l r (first_passed _ _ e)).original_short)
 
-  merge-passed : mergeVerdict (lent_by (points o) ls rs) (left_of ls) (rightOf ls rs) ≡ W.Accepted
-  unfolding result_of outcomeOf
-  merge-passed = rest-passed _ _ e
+  merge_passed : merge_verdict (lent_by (points o) ls rs) (left_of ls) (right_of ls rs) ≡ W.Accepted
+  unfolding result_of outcome_of
+  merge_passed = rest_passed _ _ e
 
-pub file-most-bytes : (o l r : List ℕ) → (result_of Asked.File o l r).verdict ≡ W.Accepted → length (result_of Asked.File o l r).product.bytes ≤ 14393
-unfolding result_of outcomeOf
-file-most-bytes o l r e =
-    file-enough (points o) (items_in (readFile l)) (items_in (readFile r)) (few-both Asked.File o l r e) (merge-passed Asked.File o l r e)
+pub file_most_bytes : (o l r : List ℕ) → (result_of Asked.File o l r).verdict ≡ W.Accepted → length (result_of Asked.File o l r).product.bytes ≤ 14393
+unfolding result_of outcome_of
+file_most_bytes o l r e =
+    file_enough (points o) (items_in (read_file l)) (items_in (read_file r)) (few_both Asked.File o l r e) (merge_passed Asked.File o l r e)
 
-pub text-most-bytes : (o l r : List ℕ) → (result_of Asked.Text o l r).verdict ≡ W.Accepted → length (result_of Asked.Text o l r).product.bytes ≤ 16384
-unfolding result_of outcomeOf
-text-most-bytes o l r e =
-    text-enough (points o) (items_in (readFile l)) (items_in (readFile r)) (few-both Asked.Text o l r e) (merge-passed Asked.Text o l r e) (short-sheet Asked.Text o l r e)
+pub text_most_bytes : (o l r : List ℕ) → (result_of Asked.Text o l r).verdict ≡ W.Accepted → length (result_of Asked.Text o l r).product.bytes ≤ 16384
+unfolding result_of outcome_of
+text_most_bytes o l r e =
+    text_enough (points o) (items_in (read_file l)) (items_in (read_file r)) (few_both Asked.Text o l r e) (merge_passed Asked.Text o l r e) (short_sheet Asked.Text o l r e)
 
-pub history-most-spans : (o l r : List ℕ) → (result_of Asked.History o l r).verdict ≡ W.Accepted → length (result_of Asked.History o l r).product.spans ≤ 2728
-unfolding result_of outcomeOf
-history-most-spans o l r e =
-    spans-enough (points o) (items_in (readFile l)) (items_in (readFile r)) (few-both Asked.History o l r e) (merge-passed Asked.History o l r e) (short-sheet Asked.History o l r e) (few-items Asked.History o l r e)
+pub history_most_spans : (o l r : List ℕ) → (result_of Asked.History o l r).verdict ≡ W.Accepted → length (result_of Asked.History o l r).product.spans ≤ 2728
+unfolding result_of outcome_of
+history_most_spans o l r e =
+    spans_enough (points o) (items_in (read_file l)) (items_in (read_file r)) (few_both Asked.History o l r e) (merge_passed Asked.History o l r e) (short_sheet Asked.History o l r e) (few_items Asked.History o l r e)
 
-pub history-most-points : (o l r : List ℕ) → (result_of Asked.History o l r).verdict ≡ W.Accepted → length (result_of Asked.History o l r).product.points ≤ 6144
-unfolding result_of outcomeOf
-history-most-points o l r e =
-    told-enough (points o) (items_in (readFile l)) (items_in (readFile r)) (few-both Asked.History o l r e) (merge-passed Asked.History o l r e) (short-sheet Asked.History o l r e)
+pub history_most_points : (o l r : List ℕ) → (result_of Asked.History o l r).verdict ≡ W.Accepted → length (result_of Asked.History o l r).product.points ≤ 6144
+unfolding result_of outcome_of
+history_most_points o l r e =
+    told_enough (points o) (items_in (read_file l)) (items_in (read_file r)) (few_both Asked.History o l r e) (merge_passed Asked.History o l r e) (short_sheet Asked.History o l r e)
 
 -- so rooms of that length are never too short
 
@@ -162,9 +162,9 @@ unfolding and_then roomed
 enough W.Accepted n m h room l = rw (le-leb n room (omega (arith, h refl)))
 enough (W.Refused r) n m h room l = refl
 
-pub in-room : (o l r out out' : List ℕ) (z : Counted) → 14393 ≤ length out → Written (result_of Asked.File o l r) out out' z
-    → (z ≡ countedOf (result_of Asked.File o l r).verdict (length (result_of Asked.File o l r).product.bytes))
+pub in_room : (o l r out out' : List ℕ) (z : Counted) → 14393 ≤ length out → Written (result_of Asked.File o l r) out out' z
+    → (z ≡ counted_of (result_of Asked.File o l r).verdict (length (result_of Asked.File o l r).product.bytes))
     × (out' ≡ leaves (result_of Asked.File o l r).verdict (result_of Asked.File o l r).product.bytes out)
-in-room o l r out out' z h w =
-    let t = enough (result_of Asked.File o l r).verdict (length (result_of Asked.File o l r).product.bytes) 14393 (file-most-bytes o l r) (length out) h in
+in_room o l r out out' z h w =
+    let t = enough (result_of Asked.File o l r).verdict (length (result_of Asked.File o l r).product.bytes) 14393 (file_most_bytes o l r) (length out) h in
     (rw t at w.answer, rw t at w.room)

@@ -1,12 +1,12 @@
 // The program's work, from the bytes of three files: their merge as an edit file, as a text in UTF-8 or as a history, or the first refusal.
 ghost use Rattle.std.specs.Prelude.{◌≡◌};
-ghost use Rattle.records.specs.Operations.{operationsOf};
-ghost use Rattle.edit_format.specs.Reading.{readFile};
+ghost use Rattle.records.specs.Operations.{operations_of};
+ghost use Rattle.edit_format.specs.Reading.{read_file};
 ghost use Rattle.edit_list.specs.Raws.{items_in};
 ghost use Rattle.merging.specs.Lent.{lent_of};
 ghost use Rattle.merge_files.specs.declared.View.TheVariants.{File, Text, History};
-ghost use Rattle.merge_files.specs.Program.{utf8Verdict, fileVerdict, filesVerdict, outcomeOf, outcomeBy, result_of, MadeBy, Written, Told};
-ghost use Rattle.merge_files.specs.Steps.{shown, fromCounted, fromHistory, toCounted, toHistory, Viewable, Mergeable, Files};
+ghost use Rattle.merge_files.specs.Program.{utf8_verdict, file_verdict, files_verdict, outcome_of, outcome_by, result_of, MadeBy, Written, Told};
+ghost use Rattle.merge_files.specs.Steps.{shown, from_counted, from_history, to_counted, to_history, Viewable, Mergeable, Files};
 
 use refusal::{Counted, Refusal};
 use verdict::Verdict;
@@ -28,7 +28,7 @@ pub enum Made {
 
 // Bad UTF-8 is refusal 10.
 fn check_utf8(bytes: &[u8]) -> Verdict
-    ensures { result ≡ utf8Verdict bytes.now }
+    ensures { result ≡ utf8_verdict bytes.now }
 {
     match utf8::read_length(bytes) {
         Counted::Count(_) => Verdict::Accepted,
@@ -38,7 +38,7 @@ fn check_utf8(bytes: &[u8]) -> Verdict
 
 // A bad edit file is refusal 8.
 fn check_edits(bytes: &[u8]) -> Verdict
-    ensures { result ≡ fileVerdict (readFile bytes.now) }
+    ensures { result ≡ file_verdict (read_file bytes.now) }
 {
     match edit_read::read_lengths(bytes) {
         edit_read::FileRead::Counts { items: _, text: _ } => Verdict::Accepted,
@@ -48,7 +48,7 @@ fn check_edits(bytes: &[u8]) -> Verdict
 
 // The first refusal before the merge's own: 3, 10 or 8.
 fn check_files(original: &[u8], left: &[u8], right: &[u8]) -> Verdict
-    ensures { result ≡ filesVerdict original.now left.now right.now }
+    ensures { result ≡ files_verdict original.now left.now right.now }
 {
     if 2048 < original.len() {
         return Verdict::Refused(Refusal::Size);
@@ -83,8 +83,8 @@ fn show_file(
     operations: &[usize],
     out: &mut [u8],
 ) -> Counted
-    requires { Viewable (lent_of original.now text.now spans.now keys.now) (operationsOf operations.now) }
-    ensures { Written (shown File (lent_of original.now text.now spans.now keys.now) (operationsOf operations.now)) out.old out.new result }
+    requires { Viewable (lent_of original.now text.now spans.now keys.now) (operations_of operations.now) }
+    ensures { Written (shown File (lent_of original.now text.now spans.now keys.now) (operations_of operations.now)) out.old out.new result }
 {
     let mut items = [0i64; 2046];
     let mut added = [0u32; 2048];
@@ -108,8 +108,8 @@ fn show_text(
     operations: &[usize],
     out: &mut [u8],
 ) -> Counted
-    requires { Viewable (lent_of original.now text.now spans.now keys.now) (operationsOf operations.now) }
-    ensures { Written (shown Text (lent_of original.now text.now spans.now keys.now) (operationsOf operations.now)) out.old out.new result }
+    requires { Viewable (lent_of original.now text.now spans.now keys.now) (operations_of operations.now) }
+    ensures { Written (shown Text (lent_of original.now text.now spans.now keys.now) (operations_of operations.now)) out.old out.new result }
 {
     let mut points = [0u32; 4096];
     let mut cursors = [0usize; 1];
@@ -143,8 +143,8 @@ fn show(
     points: &mut [u32],
     bytes: &mut [u8],
 ) -> Made
-    requires { Viewable (lent_of original.now text.now spans.now keys.now) (operationsOf operations.now) }
-    ensures { MadeBy (shown view (lent_of original.now text.now spans.now keys.now) (operationsOf operations.now)) history.old points.old bytes.old history.new points.new bytes.new result }
+    requires { Viewable (lent_of original.now text.now spans.now keys.now) (operations_of operations.now) }
+    ensures { MadeBy (shown view (lent_of original.now text.now spans.now keys.now) (operations_of operations.now)) history.old points.old bytes.old history.new points.new bytes.new result }
 {
     match view {
         View::File => counted(show_file(original, text, spans, keys, operations, bytes)),
@@ -156,7 +156,7 @@ fn show(
 }
 
 fn counted(bytes: Counted) -> Made
-    ensures { result ≡ fromCounted bytes }
+    ensures { result ≡ from_counted bytes }
 {
     match bytes {
         Counted::Count(first) => Made::Counts { first, second: 0 },
@@ -165,7 +165,7 @@ fn counted(bytes: Counted) -> Made
 }
 
 fn told(history: apply::WithHistory) -> Made
-    ensures { result ≡ fromHistory history }
+    ensures { result ≡ from_history history }
 {
     match history {
         apply::WithHistory::Counts { spans, text } => Made::Counts {
@@ -189,8 +189,8 @@ fn merge_lists(
     points: &mut [u32],
     bytes: &mut [u8],
 ) -> Made
-    requires { Mergeable (lent_of original.now text.now spans.now keys.now) (operationsOf left.now) (operationsOf right.now) }
-    ensures { MadeBy (outcomeOf view (lent_of original.now text.now spans.now keys.now) (operationsOf left.now) (operationsOf right.now)) history.old points.old bytes.old history.new points.new bytes.new result }
+    requires { Mergeable (lent_of original.now text.now spans.now keys.now) (operations_of left.now) (operations_of right.now) }
+    ensures { MadeBy (outcome_of view (lent_of original.now text.now spans.now keys.now) (operations_of left.now) (operations_of right.now)) history.old points.old bytes.old history.new points.new bytes.new result }
 {
     let mut merged = [0usize; 4092];
     let mut cursors = [0usize; 1];
@@ -234,7 +234,7 @@ fn merge_edits(
     bytes: &mut [u8],
 ) -> Made
     requires { Files original.now left.now right.now }
-    ensures { MadeBy (outcomeBy view original.now (items_in (readFile left.now)) (items_in (readFile right.now))) history.old points.old bytes.old history.new points.new bytes.new result }
+    ensures { MadeBy (outcome_by view original.now (items_in (read_file left.now)) (items_in (read_file right.now))) history.old points.old bytes.old history.new points.new bytes.new result }
 {
     let mut text = [0u32; 2048];
     let mut lefts = [0usize; 2046];
@@ -294,7 +294,7 @@ fn make(
 }
 
 fn bytes_made(made: Made) -> Counted
-    ensures { result ≡ toCounted made }
+    ensures { result ≡ to_counted made }
 {
     match made {
         Made::Counts { first, second: _ } => Counted::Count(first),
@@ -359,7 +359,7 @@ pub fn merge_files_history(
 }
 
 fn history_made(made: Made) -> apply::WithHistory
-    ensures { result ≡ toHistory made }
+    ensures { result ≡ to_history made }
 {
     match made {
         Made::Counts { first, second } => apply::WithHistory::Counts {

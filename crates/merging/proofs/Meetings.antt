@@ -10,32 +10,32 @@ use borrow.Author.Tests.{eq-eqb, ne_eqb}
 use Rattle.overlap.specs.declared.Range.{Range}
 use Rattle.overlap.specs.Overlap.{width_of}
 use Rattle.merging.specs.Lent.{sum}
-use Rattle.merging.specs.Meeting.{inserted, usedUp, appended}
-use Rattle.merging.specs.Cursors.{overlapPlace}
+use Rattle.merging.specs.Meeting.{inserted, used_up, appended}
+use Rattle.merging.specs.Cursors.{overlap_place}
 
 module _ (r : Range) where
-  pub place_none : (ls : List ℕ) (m : ℕ) → width_of r ≡ 0 → overlapPlace r ls m ≡ record { start = m; shared = 0 }
-  unfolding overlapPlace
-  place_none ls m h = rw (eq-eqb (width_of r) 0 h, overlapPlace)
+  pub place_none : (ls : List ℕ) (m : ℕ) → width_of r ≡ 0 → overlap_place r ls m ≡ record { start = m; shared = 0 }
+  unfolding overlap_place
+  place_none ls m h = rw (eq-eqb (width_of r) 0 h, overlap_place)
 
-  pub place-some : (ls : List ℕ) (m : ℕ) → 0 < width_of r
-      → overlapPlace r ls m ≡ record { start = m - sum (drop r.start ls); shared = sum (slice r.start r.end ls) }
-  unfolding overlapPlace
-  place-some ls m h = rw (ne_eqb (width_of r) 0 (λ e. omega arith), overlapPlace)
+  pub place_some : (ls : List ℕ) (m : ℕ) → 0 < width_of r
+      → overlap_place r ls m ≡ record { start = m - sum (drop r.start ls); shared = sum (slice r.start r.end ls) }
+  unfolding overlap_place
+  place_some ls m h = rw (ne_eqb (width_of r) 0 (λ e. omega arith), overlap_place)
 
-  pub used_all : (n o : ℕ) (ks ls : List ℕ) → width_of r ≡ n → usedUp r n o ks ls ≡ inserted o (drop r.end ks) (drop r.end ls)
-  unfolding usedUp
-  used_all n o ks ls h = rw (eq-eqb (width_of r) n h, usedUp)
+  pub used_all : (n o : ℕ) (ks ls : List ℕ) → width_of r ≡ n → used_up r n o ks ls ≡ inserted o (drop r.end ks) (drop r.end ls)
+  unfolding used_up
+  used_all n o ks ls h = rw (eq-eqb (width_of r) n h, used_up)
 
-  pub used-rest : (n o : ℕ) (ks ls : List ℕ) → (width_of r ≡ n → ⊥) → usedUp r n o ks ls ≡ inserted o [] []
-  unfolding usedUp
-  used-rest n o ks ls h = rw (ne_eqb (width_of r) n h, usedUp)
+  pub used_rest : (n o : ℕ) (ks ls : List ℕ) → (width_of r ≡ n → ⊥) → used_up r n o ks ls ≡ inserted o [] []
+  unfolding used_up
+  used_rest n o ks ls h = rw (ne_eqb (width_of r) n h, used_up)
 
 module _ (o' : ℕ) (ks' ls' : List ℕ) (o : ℕ) (ks ls : List ℕ) where
-  pub appended-same : o' ≡ o → appended o' ks' ls' o ks ls ≡ inserted o' (ks' ++ ks) (ls' ++ ls)
+  pub appended_same : o' ≡ o → appended o' ks' ls' o ks ls ≡ inserted o' (ks' ++ ks) (ls' ++ ls)
   unfolding appended
-  appended-same h = rw (eq-eqb o' o h, appended)
+  appended_same h = rw (eq-eqb o' o h, appended)
 
-  pub appended-new : (o' ≡ o → ⊥) → appended o' ks' ls' o ks ls ≡ inserted o ks ls
+  pub appended_new : (o' ≡ o → ⊥) → appended o' ks' ls' o ks ls ≡ inserted o ks ls
   unfolding appended
-  appended-new h = rw (ne_eqb o' o h, appended)
+  appended_new h = rw (ne_eqb o' o h, appended)

@@ -9,68 +9,68 @@ use Rattle.merging.specs.declared.Order.{Order}
 use Rattle.merging.specs.declared.Order.TheVariants.{Less, Equal, Greater}
 use Rattle.merging.specs.declared.Op.{Op}
 use Rattle.merging.specs.declared.Op.TheVariants.{Delete, Insert, Retain}
-use Rattle.merging.specs.Lent.{Lent, spellingOf}
+use Rattle.merging.specs.Lent.{Lent, spelling_of}
 use Rattle.merging.specs.Operations.{order_of, kind_of}
-use Rattle.merging.specs.OrderRule.{compareNumbers, compareSpelling, thenBy, contentRule, orderRule, priorityOf, reversed}
-use Rattle.merging.proofs.Turns.{numbers-less, numbers_more, numbers-same, by_order}
+use Rattle.merging.specs.OrderRule.{compare_numbers, compare_spelling, then_by, content_rule, order_rule, priority_of, reversed}
+use Rattle.merging.proofs.Turns.{numbers_less, numbers_more, numbers_same, by_order}
 
-then-reversed : (x y : Order) → reversed (thenBy x y) ≡ thenBy (reversed x) (reversed y)
-then-reversed Less y = refl
-then-reversed Equal y = refl
-then-reversed Greater y = refl
+then_reversed : (x y : Order) → reversed (then_by x y) ≡ then_by (reversed x) (reversed y)
+then_reversed Less y = refl
+then_reversed Equal y = refl
+then_reversed Greater y = refl
 
-numbers-reversed : (a b : ℕ) → compareNumbers b a ≡ reversed (compareNumbers a b)
-numbers-reversed a b =
-    by_order a b (compareNumbers b a ≡ reversed (compareNumbers a b)) (λ h. rw (numbers-less a b h, numbers_more b a h))
-    (λ h. rw (numbers-same a b h, numbers-same b a (sym h))) (λ h. rw (numbers_more a b h, numbers-less b a h))
+numbers_reversed : (a b : ℕ) → compare_numbers b a ≡ reversed (compare_numbers a b)
+numbers_reversed a b =
+    by_order a b (compare_numbers b a ≡ reversed (compare_numbers a b)) (λ h. rw (numbers_less a b h, numbers_more b a h))
+    (λ h. rw (numbers_same a b h, numbers_same b a (sym h))) (λ h. rw (numbers_more a b h, numbers_less b a h))
 
 -- how two spellings compare, by their first code points
 module _ (x y : ℕ) (xs ys : List ℕ) where
-  first-less : x < y → compareSpelling (x ∷ xs) (y ∷ ys) ≡ Less
-  unfolding compareSpelling
-  first-less h = rw (lt-ltb x y h, compareSpelling)
+  first_less : x < y → compare_spelling (x ∷ xs) (y ∷ ys) ≡ Less
+  unfolding compare_spelling
+  first_less h = rw (lt-ltb x y h, compare_spelling)
 
-  first_more : y < x → compareSpelling (x ∷ xs) (y ∷ ys) ≡ Greater
-  unfolding compareSpelling
-  first_more h = rw (le-ltb x y (omega arith), lt-ltb y x h, compareSpelling)
+  first_more : y < x → compare_spelling (x ∷ xs) (y ∷ ys) ≡ Greater
+  unfolding compare_spelling
+  first_more h = rw (le-ltb x y (omega arith), lt-ltb y x h, compare_spelling)
 
-  first-same : x ≡ y → compareSpelling (x ∷ xs) (y ∷ ys) ≡ compareSpelling xs ys
-  unfolding compareSpelling
-  first-same h = rw (le-ltb x y (omega arith), le-ltb y x (omega arith), compareSpelling)
+  first_same : x ≡ y → compare_spelling (x ∷ xs) (y ∷ ys) ≡ compare_spelling xs ys
+  unfolding compare_spelling
+  first_same h = rw (le-ltb x y (omega arith), le-ltb y x (omega arith), compare_spelling)
 
-spelling-reversed : (xs ys : List ℕ) → compareSpelling ys xs ≡ reversed (compareSpelling xs ys)
-unfolding compareSpelling
-spelling-reversed [] [] = refl
-spelling-reversed [] (y ∷ ys) = refl
-spelling-reversed (x ∷ xs) [] = refl
-spelling-reversed (x ∷ xs) (y ∷ ys) =
-    by_order x y (compareSpelling (y ∷ ys) (x ∷ xs) ≡ reversed (compareSpelling (x ∷ xs) (y ∷ ys)))
-    (λ h. first_more y x ys xs h ∙ sym (ap reversed (first-less x y xs ys h)))
-    (λ h. first-same y x ys xs (sym h) ∙ (spelling-reversed xs ys ∙ sym (ap reversed (first-same x y xs ys h))))
-    (λ h. first-less y x ys xs h ∙ sym (ap reversed (first_more x y xs ys h)))
+spelling_reversed : (xs ys : List ℕ) → compare_spelling ys xs ≡ reversed (compare_spelling xs ys)
+unfolding compare_spelling
+spelling_reversed [] [] = refl
+spelling_reversed [] (y ∷ ys) = refl
+spelling_reversed (x ∷ xs) [] = refl
+spelling_reversed (x ∷ xs) (y ∷ ys) =
+    by_order x y (compare_spelling (y ∷ ys) (x ∷ xs) ≡ reversed (compare_spelling (x ∷ xs) (y ∷ ys)))
+    (λ h. first_more y x ys xs h ∙ sym (ap reversed (first_less x y xs ys h)))
+    (λ h. first_same y x ys xs (sym h) ∙ (spelling_reversed xs ys ∙ sym (ap reversed (first_same x y xs ys h))))
+    (λ h. first_less y x ys xs h ∙ sym (ap reversed (first_more x y xs ys h)))
 
-content-reversed : (lent : Lent) (a b : Op) → contentRule lent b a ≡ reversed (contentRule lent a b)
-unfolding contentRule
-content-reversed lent (Delete o l) (Delete o' l') = numbers-reversed l l'
-content-reversed lent (Delete o l) (Insert o' f' n') = refl
-content-reversed lent (Delete o l) (Retain o' l') = refl
-content-reversed lent (Insert o f n) (Delete o' l') = refl
-content-reversed lent (Insert o f n) (Insert o' f' n') = spelling-reversed (spellingOf lent f n) (spellingOf lent f' n')
-content-reversed lent (Insert o f n) (Retain o' l') = refl
-content-reversed lent (Retain o l) (Delete o' l') = refl
-content-reversed lent (Retain o l) (Insert o' f' n') = refl
-content-reversed lent (Retain o l) (Retain o' l') = numbers-reversed l l'
+content_reversed : (lent : Lent) (a b : Op) → content_rule lent b a ≡ reversed (content_rule lent a b)
+unfolding content_rule
+content_reversed lent (Delete o l) (Delete o' l') = numbers_reversed l l'
+content_reversed lent (Delete o l) (Insert o' f' n') = refl
+content_reversed lent (Delete o l) (Retain o' l') = refl
+content_reversed lent (Insert o f n) (Delete o' l') = refl
+content_reversed lent (Insert o f n) (Insert o' f' n') = spelling_reversed (spelling_of lent f n) (spelling_of lent f' n')
+content_reversed lent (Insert o f n) (Retain o' l') = refl
+content_reversed lent (Retain o l) (Delete o' l') = refl
+content_reversed lent (Retain o l) (Insert o' f' n') = refl
+content_reversed lent (Retain o l) (Retain o' l') = numbers_reversed l l'
 
 -- "Order rule": b against a is a against b, reversed
-pub order-reversed : (lent : Lent) (a b : Op) → orderRule lent b a ≡ reversed (orderRule lent a b)
-unfolding orderRule
-order-reversed lent a b =
-    rw (numbers-reversed (order_of a) (order_of b), numbers-reversed (kind_of a) (kind_of b), content-reversed lent a b, then-reversed, then-reversed)
+pub order_reversed : (lent : Lent) (a b : Op) → order_rule lent b a ≡ reversed (order_rule lent a b)
+unfolding order_rule
+order_reversed lent a b =
+    rw (numbers_reversed (order_of a) (order_of b), numbers_reversed (kind_of a) (kind_of b), content_reversed lent a b, then_reversed, then_reversed)
 
 -- "Stream priority": of exchanged lists it is reversed
-pub priority-reversed : (lent : Lent) (ls rs : List Op) → priorityOf lent rs ls ≡ reversed (priorityOf lent ls rs)
-unfolding priorityOf
-priority-reversed lent [] [] = refl
-priority-reversed lent [] (b ∷ rs) = refl
-priority-reversed lent (a ∷ ls) [] = refl
-priority-reversed lent (a ∷ ls) (b ∷ rs) = rw (order-reversed lent a b, priority-reversed lent ls rs, then-reversed)
+pub priority_reversed : (lent : Lent) (ls rs : List Op) → priority_of lent rs ls ≡ reversed (priority_of lent ls rs)
+unfolding priority_of
+priority_reversed lent [] [] = refl
+priority_reversed lent [] (b ∷ rs) = refl
+priority_reversed lent (a ∷ ls) [] = refl
+priority_reversed lent (a ∷ ls) (b ∷ rs) = rw (order_reversed lent a b, priority_reversed lent ls rs, then_reversed)

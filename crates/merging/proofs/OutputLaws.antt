@@ -9,113 +9,113 @@ use lib.Seq.{drop-drop, take-add}
 use Rattle.verdict.specs.declared.Verdict.TheVariants.{Accepted}
 use Rattle.diff.specs.Replay.{Edit, retain, delete, insert, replayed, mentioned, left, added}
 use Rattle.diff.specs.Checks.{numbers, covers}
-use Rattle.diff.proofs.Laws.{enough-numbers}
+use Rattle.diff.proofs.Laws.{enough_numbers}
 use Rattle.merging.specs.declared.Op.{Op}
 use Rattle.merging.specs.declared.Op.TheVariants.{Delete, Insert, Retain}
-use Rattle.merging.specs.Lent.{Lent, spellingOf}
-use Rattle.merging.specs.Operations.{Out, opsIn}
-use Rattle.merging.specs.Outputs.{words_of, text_of, Span, spanned, historyOf, ofText, ofOriginal, spelledBy, joined, toDiff}
-use Rattle.merging.specs.Tiling.{Tiled, total_of, ofInsert}
+use Rattle.merging.specs.Lent.{Lent, spelling_of}
+use Rattle.merging.specs.Operations.{Out, ops_in}
+use Rattle.merging.specs.Outputs.{words_of, text_of, Span, spanned, history_of, of_text, of_original, spelled_by, joined, to_diff}
+use Rattle.merging.specs.Tiling.{Tiled, total_of, of_insert}
 
 -- the text of a list, one operation more
-text-more : (lent : Lent) (side : ℕ) (a : Op) (ps : List Span) (ls : List Op) → spelledBy ofText ps ≡ text_of lent ls
-    → spelledBy ofText (spanned lent side a ∷ ps) ≡ text_of lent (a ∷ ls)
-unfolding spelledBy text_of
-text-more lent side (Delete o l) ps ls e = e
-text-more lent side (Insert o f n) ps ls e = ap (λ (t : List ℕ). spellingOf lent f n ++ t) e
-text-more lent side (Retain o l) ps ls e = ap (λ (t : List ℕ). words_of lent (Retain o l) ++ t) e
+text_more : (lent : Lent) (side : ℕ) (a : Op) (ps : List Span) (ls : List Op) → spelled_by of_text ps ≡ text_of lent ls
+    → spelled_by of_text (spanned lent side a ∷ ps) ≡ text_of lent (a ∷ ls)
+unfolding spelled_by text_of
+text_more lent side (Delete o l) ps ls e = e
+text_more lent side (Insert o f n) ps ls e = ap (λ (t : List ℕ). spelling_of lent f n ++ t) e
+text_more lent side (Retain o l) ps ls e = ap (λ (t : List ℕ). words_of lent (Retain o l) ++ t) e
 
 -- unchanged and added spans spell the text
-pub history-text : (lent : Lent) (xs : List Out) → spelledBy ofText (historyOf lent xs) ≡ text_of lent (opsIn xs)
-unfolding historyOf opsIn
-history-text lent [] = unfold spelledBy text_of in refl
-history-text lent (x ∷ xs) = text-more lent x.side x.op (historyOf lent xs) (opsIn xs) (history-text lent xs)
+pub history_text : (lent : Lent) (xs : List Out) → spelled_by of_text (history_of lent xs) ≡ text_of lent (ops_in xs)
+unfolding history_of ops_in
+history_text lent [] = unfold spelled_by text_of in refl
+history_text lent (x ∷ xs) = text_more lent x.side x.op (history_of lent xs) (ops_in xs) (history_text lent xs)
 
 -- a part of the original, and what is behind it
-part-drop : (o l : ℕ) (xs : List ℕ) → take l (drop o xs) ++ drop (o + l) xs ≡ drop o xs
-part-drop o l xs = ap (λ (t : List ℕ). take l (drop o xs) ++ t) (sym (drop-drop l o xs)) ∙ take-append-drop l (drop o xs)
+part_drop : (o l : ℕ) (xs : List ℕ) → take l (drop o xs) ++ drop (o + l) xs ≡ drop o xs
+part_drop o l xs = ap (λ (t : List ℕ). take l (drop o xs) ++ t) (sym (drop-drop l o xs)) ∙ take-append-drop l (drop o xs)
 
-original-more : (lent : Lent) (side : ℕ) (a : Op) (ps : List Span) (ls : List Op) (at n : ℕ) → Tiled (a ∷ ls) at n
-    → ((p : ℕ) → Tiled ls p n → spelledBy ofOriginal ps ≡ drop p lent.original)
-    → spelledBy ofOriginal (spanned lent side a ∷ ps) ≡ drop at lent.original
-unfolding spelledBy
-original-more lent side (Delete o l) ps ls at n t e = rw (← t.0, e (o + l) t.2) (part-drop o l lent.original)
-original-more lent side (Insert o f k) ps ls at n t e = e at t.2
-original-more lent side (Retain o l) ps ls at n t e = rw (← t.0, e (o + l) t.2) (part-drop o l lent.original)
+original_more : (lent : Lent) (side : ℕ) (a : Op) (ps : List Span) (ls : List Op) (at n : ℕ) → Tiled (a ∷ ls) at n
+    → ((p : ℕ) → Tiled ls p n → spelled_by of_original ps ≡ drop p lent.original)
+    → spelled_by of_original (spanned lent side a ∷ ps) ≡ drop at lent.original
+unfolding spelled_by
+original_more lent side (Delete o l) ps ls at n t e = rw (← t.0, e (o + l) t.2) (part_drop o l lent.original)
+original_more lent side (Insert o f k) ps ls at n t e = e at t.2
+original_more lent side (Retain o l) ps ls at n t e = rw (← t.0, e (o + l) t.2) (part_drop o l lent.original)
 
 -- unchanged and removed spans spell the original, from where the list stands
-pub history-original : (lent : Lent) (xs : List Out) (at n : ℕ) → n ≡ length lent.original → Tiled (opsIn xs) at n
-    → spelledBy ofOriginal (historyOf lent xs) ≡ drop at lent.original
-unfolding historyOf opsIn
-history-original lent [] at n h t = unfold spelledBy in sym (drop_of_length-le lent.original {i = at} (omega arith))
-history-original lent (x ∷ xs) at n h t =
-    original-more lent x.side x.op (historyOf lent xs) (opsIn xs) at n t (λ p u. history-original lent xs p n h u)
+pub history_original : (lent : Lent) (xs : List Out) (at n : ℕ) → n ≡ length lent.original → Tiled (ops_in xs) at n
+    → spelled_by of_original (history_of lent xs) ≡ drop at lent.original
+unfolding history_of ops_in
+history_original lent [] at n h t = unfold spelled_by in sym (drop_of_length-le lent.original {i = at} (omega arith))
+history_original lent (x ∷ xs) at n h t =
+    original_more lent x.side x.op (history_of lent xs) (ops_in xs) at n t (λ p u. history_original lent xs p n h u)
 
 -- "History has one span for each operation, in order."
-pub history-length : (lent : Lent) (xs : List Out) → length (historyOf lent xs) ≡ length xs
-unfolding historyOf
-history-length lent [] = refl
-history-length lent (x ∷ xs) = ap suc (history-length lent xs)
+pub history_length : (lent : Lent) (xs : List Out) → length (history_of lent xs) ≡ length xs
+unfolding history_of
+history_length lent [] = refl
+history_length lent (x ∷ xs) = ap suc (history_length lent xs)
 
 -- a joined retain replays as the two
-joined-replayed : (l : ℕ) (o : List ℕ) (es : List Edit) → replayed o (joined l es) ≡ take l o ++ replayed (drop l o) es
+joined_replayed : (l : ℕ) (o : List ℕ) (es : List Edit) → replayed o (joined l es) ≡ take l o ++ replayed (drop l o) es
 unfolding replayed
-joined-replayed l o [] = refl
-joined-replayed l o (retain n ∷ es) =
+joined_replayed l o [] = refl
+joined_replayed l o (retain n ∷ es) =
     rw (take-add l n o, ← drop-drop n l o) (append_assoc (take l o) (take n (drop l o)) (replayed (drop n (drop l o)) es))
-joined-replayed l o (delete n ∷ es) = refl
-joined-replayed l o (insert s ∷ es) = refl
+joined_replayed l o (delete n ∷ es) = refl
+joined_replayed l o (insert s ∷ es) = refl
 
-joined-mentioned : (l : ℕ) (es : List Edit) → mentioned (joined l es) ≡ l + mentioned es
+joined_mentioned : (l : ℕ) (es : List Edit) → mentioned (joined l es) ≡ l + mentioned es
 unfolding mentioned
-joined-mentioned l [] = refl
-joined-mentioned l (retain n ∷ es) = omega arith
-joined-mentioned l (delete n ∷ es) = refl
-joined-mentioned l (insert s ∷ es) = refl
+joined_mentioned l [] = refl
+joined_mentioned l (retain n ∷ es) = omega arith
+joined_mentioned l (delete n ∷ es) = refl
+joined_mentioned l (insert s ∷ es) = refl
 
 drop_past : (lent : Lent) (at o l : ℕ) → o ≡ at → drop l (drop at lent.original) ≡ drop (o + l) lent.original
 drop_past lent at o l e = drop-drop l at lent.original ∙ ap (λ (x : ℕ). drop (x + l) lent.original) (sym e)
 
 -- the diff replayed over the original spells that same text, from where the list stands
-pub diff-replayed : (lent : Lent) (ls : List Op) (at n : ℕ) → Tiled ls at n → replayed (drop at lent.original) (toDiff lent ls) ≡ text_of lent ls
-unfolding toDiff replayed text_of
-diff-replayed lent [] at n t = refl
-diff-replayed lent (Delete o l ∷ ls) at n t =
-    ap (λ (s : List ℕ). replayed s (toDiff lent ls)) (drop_past lent at o l t.0) ∙ diff-replayed lent ls (o + l) n t.2
-diff-replayed lent (Insert o f k ∷ ls) at n t = ap (λ (s : List ℕ). spellingOf lent f k ++ s) (diff-replayed lent ls at n t.2)
-diff-replayed lent (Retain o l ∷ ls) at n t =
-    joined-replayed l (drop at lent.original) (toDiff lent ls)
-    ∙ (ap (λ (s : List ℕ). take l (drop at lent.original) ++ replayed s (toDiff lent ls)) (drop_past lent at o l t.0)
-    ∙ (ap (λ (s : List ℕ). take l (drop at lent.original) ++ s) (diff-replayed lent ls (o + l) n t.2)
+pub diff_replayed : (lent : Lent) (ls : List Op) (at n : ℕ) → Tiled ls at n → replayed (drop at lent.original) (to_diff lent ls) ≡ text_of lent ls
+unfolding to_diff replayed text_of
+diff_replayed lent [] at n t = refl
+diff_replayed lent (Delete o l ∷ ls) at n t =
+    ap (λ (s : List ℕ). replayed s (to_diff lent ls)) (drop_past lent at o l t.0) ∙ diff_replayed lent ls (o + l) n t.2
+diff_replayed lent (Insert o f k ∷ ls) at n t = ap (λ (s : List ℕ). spelling_of lent f k ++ s) (diff_replayed lent ls at n t.2)
+diff_replayed lent (Retain o l ∷ ls) at n t =
+    joined_replayed l (drop at lent.original) (to_diff lent ls)
+    ∙ (ap (λ (s : List ℕ). take l (drop at lent.original) ++ replayed s (to_diff lent ls)) (drop_past lent at o l t.0)
+    ∙ (ap (λ (s : List ℕ). take l (drop at lent.original) ++ s) (diff_replayed lent ls (o + l) n t.2)
     ∙ ap (λ (x : ℕ). take l (drop x lent.original) ++ text_of lent ls) (sym t.0)))
 
 -- the diff speaks of all of the original
-pub diff-mentioned : (lent : Lent) (ls : List Op) (at n : ℕ) → Tiled ls at n → at + mentioned (toDiff lent ls) ≡ n
-unfolding toDiff mentioned
-diff-mentioned lent [] at n t = omega arith
-diff-mentioned lent (Delete o l ∷ ls) at n t = omega (arith, diff-mentioned lent ls (o + l) n t.2)
-diff-mentioned lent (Insert o f k ∷ ls) at n t = diff-mentioned lent ls at n t.2
-diff-mentioned lent (Retain o l ∷ ls) at n t = omega (arith, joined-mentioned l (toDiff lent ls), diff-mentioned lent ls (o + l) n t.2)
+pub diff_mentioned : (lent : Lent) (ls : List Op) (at n : ℕ) → Tiled ls at n → at + mentioned (to_diff lent ls) ≡ n
+unfolding to_diff mentioned
+diff_mentioned lent [] at n t = omega arith
+diff_mentioned lent (Delete o l ∷ ls) at n t = omega (arith, diff_mentioned lent ls (o + l) n t.2)
+diff_mentioned lent (Insert o f k ∷ ls) at n t = diff_mentioned lent ls at n t.2
+diff_mentioned lent (Retain o l ∷ ls) at n t = omega (arith, joined_mentioned l (to_diff lent ls), diff_mentioned lent ls (o + l) n t.2)
 
-covers-accepted : (len : ℕ) (es : List Edit) → mentioned es ≡ len → covers len es ≡ Accepted
+covers_accepted : (len : ℕ) (es : List Edit) → mentioned es ≡ len → covers len es ≡ Accepted
 unfolding covers left
-covers-accepted len es h = let z : len - mentioned es ≡ 0 = omega arith in rw z
+covers_accepted len es h = let z : len - mentioned es ≡ 0 = omega arith in rw z
 
 -- "Text, history and replay agree over the defined text": the diff replays to the text, plain and covering, and nothing is left
 pub record Replays (lent : Lent) (ls : List Op) : Type 0 where
-  pub text : replayed lent.original (toDiff lent ls) ≡ text_of lent ls
-  pub asks : numbers 0 (length lent.original) (toDiff lent ls) ≡ Accepted
-  pub covers-all : covers (length lent.original) (toDiff lent ls) ≡ Accepted
-  pub nothing_left : left (length lent.original) (toDiff lent ls) ≡ 0
+  pub text : replayed lent.original (to_diff lent ls) ≡ text_of lent ls
+  pub asks : numbers 0 (length lent.original) (to_diff lent ls) ≡ Accepted
+  pub covers_all : covers (length lent.original) (to_diff lent ls) ≡ Accepted
+  pub nothing_left : left (length lent.original) (to_diff lent ls) ≡ 0
 
 pub replays : (lent : Lent) (ls : List Op) → Tiled ls 0 (length lent.original) → Replays lent ls
 unfolding left
 replays lent ls t =
-    let m : mentioned (toDiff lent ls) ≡ length lent.original = omega (arith, diff-mentioned lent ls 0 (length lent.original) t) in
+    let m : mentioned (to_diff lent ls) ≡ length lent.original = omega (arith, diff_mentioned lent ls 0 (length lent.original) t) in
     record {
-      text = diff-replayed lent ls 0 (length lent.original) t;
-      asks = enough-numbers 0 (length lent.original) (toDiff lent ls) (omega arith);
-      covers-all = covers-accepted (length lent.original) (toDiff lent ls) m;
+      text = diff_replayed lent ls 0 (length lent.original) t;
+      asks = enough_numbers 0 (length lent.original) (to_diff lent ls) (omega arith);
+      covers_all = covers_accepted (length lent.original) (to_diff lent ls) m;
       nothing_left = omega arith;
     }
 
@@ -126,23 +126,23 @@ joined_length l (retain n ∷ es) = omega arith
 joined_length l (delete n ∷ es) = omega arith
 joined_length l (insert s ∷ es) = omega arith
 
-pub diff-items : (lent : Lent) (ls : List Op) → length (toDiff lent ls) ≤ length ls
-unfolding toDiff
-diff-items lent [] = omega arith
-diff-items lent (Delete o l ∷ ls) = omega (arith, diff-items lent ls)
-diff-items lent (Insert o f k ∷ ls) = omega (arith, diff-items lent ls)
-diff-items lent (Retain o l ∷ ls) = omega (arith, joined_length l (toDiff lent ls), diff-items lent ls)
+pub diff_items : (lent : Lent) (ls : List Op) → length (to_diff lent ls) ≤ length ls
+unfolding to_diff
+diff_items lent [] = omega arith
+diff_items lent (Delete o l ∷ ls) = omega (arith, diff_items lent ls)
+diff_items lent (Insert o f k ∷ ls) = omega (arith, diff_items lent ls)
+diff_items lent (Retain o l ∷ ls) = omega (arith, joined_length l (to_diff lent ls), diff_items lent ls)
 
-joined-added : (l : ℕ) (es : List Edit) → added (joined l es) ≡ added es
+joined_added : (l : ℕ) (es : List Edit) → added (joined l es) ≡ added es
 unfolding added
-joined-added l [] = refl
-joined-added l (retain n ∷ es) = refl
-joined-added l (delete n ∷ es) = refl
-joined-added l (insert s ∷ es) = refl
+joined_added l [] = refl
+joined_added l (retain n ∷ es) = refl
+joined_added l (delete n ∷ es) = refl
+joined_added l (insert s ∷ es) = refl
 
-pub diff-added : (lent : Lent) (ls : List Op) → added (toDiff lent ls) ≡ total_of (ofInsert (λ f k. length (spellingOf lent f k))) ls
-unfolding toDiff added total_of
-diff-added lent [] = refl
-diff-added lent (Delete o l ∷ ls) = omega (arith, diff-added lent ls)
-diff-added lent (Insert o f k ∷ ls) = omega (arith, diff-added lent ls)
-diff-added lent (Retain o l ∷ ls) = omega (arith, joined-added l (toDiff lent ls), diff-added lent ls)
+pub diff_added : (lent : Lent) (ls : List Op) → added (to_diff lent ls) ≡ total_of (of_insert (λ f k. length (spelling_of lent f k))) ls
+unfolding to_diff added total_of
+diff_added lent [] = refl
+diff_added lent (Delete o l ∷ ls) = omega (arith, diff_added lent ls)
+diff_added lent (Insert o f k ∷ ls) = omega (arith, diff_added lent ls)
+diff_added lent (Retain o l ∷ ls) = omega (arith, joined_added l (to_diff lent ls), diff_added lent ls)

@@ -11,35 +11,35 @@ use Rattle.merging.specs.declared.Op.{Op}
 use Rattle.merging.specs.declared.Op.TheVariants.{Delete, Insert, Retain}
 use Rattle.merging.specs.Lent.{Lent, Rules, Lawful}
 use Rattle.merging.specs.Operations.{length_of, order_of, span_of}
-use Rattle.merging.specs.Meeting.{frontOf, tailOf, behindCut, keptLength, nothing}
-use Rattle.merging.specs.Turn.{State, turned, turnWith, turnLeft}
-use Rattle.merging.specs.Tiling.{Tiled, total_of, tokensOf, Inserts}
+use Rattle.merging.specs.Meeting.{front_of, tail_of, behind_cut, kept_length, nothing}
+use Rattle.merging.specs.Turn.{State, turned, turn_with, turn_left}
+use Rattle.merging.specs.Tiling.{Tiled, total_of, tokens_of, Inserts}
 use Rattle.merging.specs.Reached.{remembered}
-use Rattle.merging.proofs.OneTurn.{placeAfter, tiled-le, keep-less}
+use Rattle.merging.proofs.OneTurn.{place_after, tiled_le, keep_less}
 use Rattle.merging.proofs.Places.{back, roomed}
-use Rattle.merging.proofs.Turns.{Stands, stands-start, stands-turned, stands-next, Turning}
-use Rattle.merging.proofs.Count.{asked-tail}
-use Rattle.merging.proofs.WorkRoom.{own-less, other-less}
+use Rattle.merging.proofs.Turns.{Stands, stands_start, stands_turned, stands_next, Turning}
+use Rattle.merging.proofs.Count.{asked_tail}
+use Rattle.merging.proofs.WorkRoom.{own_less, other_less}
 
 -- the text that operations give
-abbrev pub textOfAll : Lent → List Op → ℕ
-textOfAll lent ls = total_of (length_of lent) ls
+abbrev pub text_of_all : Lent → List Op → ℕ
+text_of_all lent ls = total_of (length_of lent) ls
 
 -- a state between turns of the merge of ls and rs over an original of n code points, whose sides stand at p and q of it; Q is what was asked of each insert's tokens
 pub record Sound (R : Rules) (Q : ℕ → ℕ → Type 0) (ls rs : List Op) (n : ℕ) (s : State) (p q : ℕ) : Type 0 where
   pub stands : Stands s p q n
-  pub place-left : back s.right.last p q ≤ s.merged
-  pub place-right : back s.left.last q p ≤ s.merged
-  pub seen-left : s.left.seen + textOfAll R.lent s.left.next ≡ textOfAll R.lent ls
-  pub seen-right : s.right.seen + textOfAll R.lent s.right.next ≡ textOfAll R.lent rs
-  pub merged-most : s.merged ≤ s.left.seen + s.right.seen
-  pub inserts-left : Inserts Q s.left.next
-  pub inserts-right : Inserts Q s.right.next
-  pub tokens-left : remembered s.left.last + tokensOf s.left.next ≤ tokensOf ls
-  pub tokens-right : remembered s.right.last + tokensOf s.right.next ≤ tokensOf rs
+  pub place_left : back s.right.last p q ≤ s.merged
+  pub place_right : back s.left.last q p ≤ s.merged
+  pub seen_left : s.left.seen + text_of_all R.lent s.left.next ≡ text_of_all R.lent ls
+  pub seen_right : s.right.seen + text_of_all R.lent s.right.next ≡ text_of_all R.lent rs
+  pub merged_most : s.merged ≤ s.left.seen + s.right.seen
+  pub inserts_left : Inserts Q s.left.next
+  pub inserts_right : Inserts Q s.right.next
+  pub tokens_left : remembered s.left.last + tokens_of s.left.next ≤ tokens_of ls
+  pub tokens_right : remembered s.right.last + tokens_of s.right.next ≤ tokens_of rs
 
 -- whatever the cursors are
-pub sound-start : (R : Rules) (Q : ℕ → ℕ → Type 0) (ls rs : List Op) (cs ds : List Cursor) (n : ℕ) → Tiled ls 0 n → Tiled rs 0 n → Inserts Q ls → Inserts Q rs
+pub sound_start : (R : Rules) (Q : ℕ → ℕ → Type 0) (ls rs : List Op) (cs ds : List Cursor) (n : ℕ) → Tiled ls 0 n → Tiled rs 0 n → Inserts Q ls → Inserts Q rs
     → Sound R Q ls rs n
     (record {
       left = record { next = ls; last = nothing; seen = 0; cursors = cs };
@@ -47,74 +47,74 @@ pub sound-start : (R : Rules) (Q : ℕ → ℕ → Type 0) (ls rs : List Op) (cs
       merged = 0;
       consumed = 0;
     }) 0 0
-sound-start R Q ls rs cs ds n tx ty ix iy =
+sound_start R Q ls rs cs ds n tx ty ix iy =
     record {
-      stands = record { good = (stands-start ls rs cs ds n tx ty).good; at = refl };
-      place-left = omega arith;
-      place-right = omega arith;
-      seen-left = omega arith;
-      seen-right = omega arith;
-      merged-most = omega arith;
-      inserts-left = ix;
-      inserts-right = iy;
-      tokens-left = omega arith;
-      tokens-right = omega arith;
+      stands = record { good = (stands_start ls rs cs ds n tx ty).good; at = refl };
+      place_left = omega arith;
+      place_right = omega arith;
+      seen_left = omega arith;
+      seen_right = omega arith;
+      merged_most = omega arith;
+      inserts_left = ix;
+      inserts_right = iy;
+      tokens_left = omega arith;
+      tokens_right = omega arith;
     }
 
 -- with the sides exchanged
-pub sound-turned : {R : Rules} {Q : ℕ → ℕ → Type 0} {ls rs : List Op} {n : ℕ} {s : State} {p q : ℕ} → Sound R Q ls rs n s p q → Sound R Q rs ls n (turned s) q p
-sound-turned {n = n} {s = s} {p = p} {q = q} g =
+pub sound_turned : {R : Rules} {Q : ℕ → ℕ → Type 0} {ls rs : List Op} {n : ℕ} {s : State} {p q : ℕ} → Sound R Q ls rs n s p q → Sound R Q rs ls n (turned s) q p
+sound_turned {n = n} {s = s} {p = p} {q = q} g =
     record {
-      stands = stands-turned s p q n g.stands;
-      place-left = g.place-right;
-      place-right = g.place-left;
-      seen-left = g.seen-right;
-      seen-right = g.seen-left;
-      merged-most = omega (arith, g.merged-most);
-      inserts-left = g.inserts-right;
-      inserts-right = g.inserts-left;
-      tokens-left = g.tokens-right;
-      tokens-right = g.tokens-left;
+      stands = stands_turned s p q n g.stands;
+      place_left = g.place_right;
+      place_right = g.place_left;
+      seen_left = g.seen_right;
+      seen_right = g.seen_left;
+      merged_most = omega (arith, g.merged_most);
+      inserts_left = g.inserts_right;
+      inserts_right = g.inserts_left;
+      tokens_left = g.tokens_right;
+      tokens_right = g.tokens_left;
     }
 
-behind-text : (lent : Lent) (o l k : ℕ) (ls : List Op) → k ≤ l → k + textOfAll lent (behindCut o l k ls) ≡ l + textOfAll lent ls
-unfolding total_of behindCut
-behind-text lent o l k ls h =
-    elim (dec_lt k l) [ yes z ↦ rw (lt-ltb k l z, behindCut) (omega arith) | no z ↦ rw (le-ltb k l (omega arith), behindCut) (omega arith) ]
+behind_text : (lent : Lent) (o l k : ℕ) (ls : List Op) → k ≤ l → k + text_of_all lent (behind_cut o l k ls) ≡ l + text_of_all lent ls
+unfolding total_of behind_cut
+behind_text lent o l k ls h =
+    elim (dec_lt k l) [ yes z ↦ rw (lt-ltb k l z, behind_cut) (omega arith) | no z ↦ rw (le-ltb k l (omega arith), behind_cut) (omega arith) ]
 
 -- what is taken of a list and what stays next are its text
-front-tail : (lent : Lent) (a : Op) (rs ls : List Op) → length_of lent (frontOf a rs) + textOfAll lent (tailOf a rs ls) ≡ textOfAll lent (a ∷ ls)
+front_tail : (lent : Lent) (a : Op) (rs ls : List Op) → length_of lent (front_of a rs) + text_of_all lent (tail_of a rs ls) ≡ text_of_all lent (a ∷ ls)
 unfolding total_of
-front-tail lent (Delete o l) rs ls = omega arith
-front-tail lent (Insert o f k) rs ls = refl
-front-tail lent (Retain o l) rs ls = behind-text lent o l (keptLength o l rs) ls (keep-less o l rs)
+front_tail lent (Delete o l) rs ls = omega arith
+front_tail lent (Insert o f k) rs ls = refl
+front_tail lent (Retain o l) rs ls = behind_text lent o l (kept_length o l rs) ls (keep_less o l rs)
 
 -- a turn of the left side; one of the right is one of the left with the sides exchanged
-pub sound-next : {R : Rules} {Q : ℕ → ℕ → Type 0} {ls rs : List Op} {n : ℕ} {s : State} {p q : ℕ} → Lawful R → Sound R Q ls rs n s p q → (side : ℕ) (a : Op) (xs : List Op)
-    → Turning s a xs p q n → Sound R Q ls rs n (turnLeft R side a xs s).state (placeAfter a s.right.next) q
-unfolding turnLeft turnWith
-sound-next {R} {Q} {ls} {rs} {n} {s} {p} {q} law g side a xs t =
+pub sound_next : {R : Rules} {Q : ℕ → ℕ → Type 0} {ls rs : List Op} {n : ℕ} {s : State} {p q : ℕ} → Lawful R → Sound R Q ls rs n s p q → (side : ℕ) (a : Op) (xs : List Op)
+    → Turning s a xs p q n → Sound R Q ls rs n (turn_left R side a xs s).state (place_after a s.right.next) q
+unfolding turn_left turn_with
+sound_next {R} {Q} {ls} {rs} {n} {s} {p} {q} law g side a xs t =
     let ys : List Op = s.right.next in
     let r =
-    roomed R law a s.left.last xs s.right.last ys p q n t.good t.le s.merged 0 0 (omega (arith, g.place-left)) (omega (arith, g.place-right))
+    roomed R law a s.left.last xs s.right.last ys p q n t.good t.le s.merged 0 0 (omega (arith, g.place_left)) (omega (arith, g.place_right))
     in
-    let lt : textOfAll R.lent s.left.next ≡ textOfAll R.lent (a ∷ xs) = ap (textOfAll R.lent) t.next in
-    let lk : tokensOf s.left.next ≡ tokensOf (a ∷ xs) = ap tokensOf t.next in
+    let lt : text_of_all R.lent s.left.next ≡ text_of_all R.lent (a ∷ xs) = ap (text_of_all R.lent) t.next in
+    let lk : tokens_of s.left.next ≡ tokens_of (a ∷ xs) = ap tokens_of t.next in
     record {
-      stands = stands-next R side s a xs p q n t;
-      place-left = omega (arith, r.own);
-      place-right = omega (arith, r.other);
-      seen-left = omega (arith, front-tail R.lent a ys xs, g.seen-left);
-      seen-right = g.seen-right;
-      merged-most = omega (arith, r.rest, g.merged-most);
-      inserts-left = asked-tail Q a xs ys (rw t.next at g.inserts-left);
-      inserts-right = g.inserts-right;
-      tokens-left = omega (arith, own-less R s.left.last s.right.last a xs ys, g.tokens-left);
-      tokens-right = omega (arith, other-less R (frontOf a ys) s.right.last, g.tokens-right);
+      stands = stands_next R side s a xs p q n t;
+      place_left = omega (arith, r.own);
+      place_right = omega (arith, r.other);
+      seen_left = omega (arith, front_tail R.lent a ys xs, g.seen_left);
+      seen_right = g.seen_right;
+      merged_most = omega (arith, r.rest, g.merged_most);
+      inserts_left = asked_tail Q a xs ys (rw t.next at g.inserts_left);
+      inserts_right = g.inserts_right;
+      tokens_left = omega (arith, own_less R s.left.last s.right.last a xs ys, g.tokens_left);
+      tokens_right = omega (arith, other_less R (front_of a ys) s.right.last, g.tokens_right);
     }
 
 -- where the operations of a list that tiles the original end
-pub next-within : (a : Op) (xs : List Op) (p n : ℕ) → Tiled (a ∷ xs) p n → order_of a + span_of a ≤ n
-next-within (Delete o l) xs p n t = tiled-le xs (o + l) n t.2
-next-within (Insert o f k) xs p n t = omega (arith, t.0, tiled-le xs p n t.2)
-next-within (Retain o l) xs p n t = tiled-le xs (o + l) n t.2
+pub next_within : (a : Op) (xs : List Op) (p n : ℕ) → Tiled (a ∷ xs) p n → order_of a + span_of a ≤ n
+next_within (Delete o l) xs p n t = tiled_le xs (o + l) n t.2
+next_within (Insert o f k) xs p n t = omega (arith, t.0, tiled_le xs p n t.2)
+next_within (Retain o l) xs p n t = tiled_le xs (o + l) n t.2

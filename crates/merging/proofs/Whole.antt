@@ -15,71 +15,71 @@ use Rattle.merging.specs.declared.Op.{Op}
 use Rattle.merging.specs.declared.Op.TheVariants.{Delete, Insert, Retain}
 use Rattle.merging.specs.declared.Order.{Order}
 use Rattle.merging.specs.Lent.{Rules}
-use Rattle.merging.specs.Operations.{Out, opsIn, emptyOp, span_of}
-use Rattle.merging.specs.OrderRule.{priorityOf}
-use Rattle.merging.specs.Meeting.{frontOf, tailOf, metOf}
-use Rattle.merging.specs.Turn.{State, anchored, emitted, turnWith, turnLeft}
-use Rattle.merging.specs.Merge.{Outcome, before, run, work, start_of, outcomeOf}
+use Rattle.merging.specs.Operations.{Out, ops_in, empty_op, span_of}
+use Rattle.merging.specs.OrderRule.{priority_of}
+use Rattle.merging.specs.Meeting.{front_of, tail_of, met_of}
+use Rattle.merging.specs.Turn.{State, anchored, emitted, turn_with, turn_left}
+use Rattle.merging.specs.Merge.{Outcome, before, run, work, start_of, outcome_of}
 use Rattle.merging.specs.Tiling.{Tiled, kept_at, Merges}
-use Rattle.merging.proofs.OneTurn.{Emits, Both, placeAfter}
-use Rattle.merging.proofs.Turns.{Stands, Turning, turn_step, stands-start, shows}
+use Rattle.merging.proofs.OneTurn.{Emits, Both, place_after}
+use Rattle.merging.proofs.Turns.{Stands, Turning, turn_step, stands_start, shows}
 
-and-swap : (a b : Bool) → (a && b) ≡ (b && a)
-and-swap true true = refl
-and-swap true false = refl
-and-swap false true = refl
-and-swap false false = refl
+and_swap : (a b : Bool) → (a && b) ≡ (b && a)
+and_swap true true = refl
+and_swap true false = refl
+and_swap false true = refl
+and_swap false false = refl
 
-merges-swap : {os ls rs : List Op} {m n : ℕ} → Merges os ls rs m n → Merges os rs ls m n
-merges-swap {ls = ls} {rs = rs} w = record { tiled = w.tiled; kept = λ x h. w.kept x h ∙ and-swap (kept_at ls x) (kept_at rs x) }
+merges_swap : {os ls rs : List Op} {m n : ℕ} → Merges os ls rs m n → Merges os rs ls m n
+merges_swap {ls = ls} {rs = rs} w = record { tiled = w.tiled; kept = λ x h. w.kept x h ∙ and_swap (kept_at ls x) (kept_at rs x) }
 
 -- the same from where less of the first list is left
-merges-same : {os ls ls' rs : List Op} {m n : ℕ} → ((x : ℕ) → m ≤ x → kept_at ls x ≡ kept_at ls' x) → Merges os ls rs m n → Merges os ls' rs m n
-merges-same {rs = rs} s w = record { tiled = w.tiled; kept = λ x h. w.kept x h ∙ ap (λ (t : Bool). t && kept_at rs x) (s x h) }
+merges_same : {os ls ls' rs : List Op} {m n : ℕ} → ((x : ℕ) → m ≤ x → kept_at ls x ≡ kept_at ls' x) → Merges os ls rs m n → Merges os ls' rs m n
+merges_same {rs = rs} s w = record { tiled = w.tiled; kept = λ x h. w.kept x h ∙ ap (λ (t : Bool). t && kept_at rs x) (s x h) }
 
 module _ (o l : ℕ) (os : List Op) (x : ℕ) where
   kept_r : x < o + l → kept_at (Retain o l ∷ os) x ≡ true
   kept_r h = rw (lt-ltb x (o + l) h, kept_at)
 
-  pastR : o + l ≤ x → kept_at (Retain o l ∷ os) x ≡ kept_at os x
-  pastR h = rw (le-ltb x (o + l) h, kept_at)
+  past_r : o + l ≤ x → kept_at (Retain o l ∷ os) x ≡ kept_at os x
+  past_r h = rw (le-ltb x (o + l) h, kept_at)
 
-  keptD : x < o + l → kept_at (Delete o l ∷ os) x ≡ false
-  keptD h = rw (lt-ltb x (o + l) h, kept_at)
+  kept_d : x < o + l → kept_at (Delete o l ∷ os) x ≡ false
+  kept_d h = rw (lt-ltb x (o + l) h, kept_at)
 
-  pastD : o + l ≤ x → kept_at (Delete o l ∷ os) x ≡ kept_at os x
-  pastD h = rw (le-ltb x (o + l) h, kept_at)
+  past_d : o + l ≤ x → kept_at (Delete o l ∷ os) x ≡ kept_at os x
+  past_d h = rw (le-ltb x (o + l) h, kept_at)
 
 -- what is emitted
-pub emit-none : (side at : ℕ) (m : Op) → emptyOp m ≡ true → emitted side at m ≡ []
+pub emit_none : (side at : ℕ) (m : Op) → empty_op m ≡ true → emitted side at m ≡ []
 unfolding emitted
-emit-none side at m h = rw (h, emitted)
+emit_none side at m h = rw (h, emitted)
 
-pub emit-one : (side at : ℕ) (m : Op) → emptyOp m ≡ false → emitted side at m ≡ record { side = side; op = anchored at m } ∷ []
+pub emit_one : (side at : ℕ) (m : Op) → empty_op m ≡ false → emitted side at m ≡ record { side = side; op = anchored at m } ∷ []
 unfolding emitted
-emit-one side at m h = rw (h, emitted)
+emit_one side at m h = rw (h, emitted)
 
 -- a result goes in front of what the rest of the run emits
 module _ (side : ℕ) (ls ls' rs : List Op) (at q n : ℕ) (os : List Out) where
   -- a retain, which is `kept`, or a delete, which is not
-  part-merges : (m : Op) (o l : ℕ) (kept : Bool) → emptyOp m ≡ eqb l 0 → anchored q m ≡ m
-      → ((o ≡ q) × (0 < l) × Tiled (opsIn os) (o + l) n → Tiled (m ∷ opsIn os) q n)
-      → ((x : ℕ) → x < o + l → kept_at (m ∷ opsIn os) x ≡ kept)
-      → ((x : ℕ) → o + l ≤ x → kept_at (m ∷ opsIn os) x ≡ kept_at (opsIn os) x)
+  part_merges : (m : Op) (o l : ℕ) (kept : Bool) → empty_op m ≡ eqb l 0 → anchored q m ≡ m
+      → ((o ≡ q) × (0 < l) × Tiled (ops_in os) (o + l) n → Tiled (m ∷ ops_in os) q n)
+      → ((x : ℕ) → x < o + l → kept_at (m ∷ ops_in os) x ≡ kept)
+      → ((x : ℕ) → o + l ≤ x → kept_at (m ∷ ops_in os) x ≡ kept_at (ops_in os) x)
       → ((l ≡ 0) × (at ≤ q)) ⊎ ((0 < l) × (o ≡ q) × (o + l ≡ at))
       → ((x : ℕ) → q ≤ x → x < at → (kept_at ls x && kept_at rs x) ≡ kept)
       → ((x : ℕ) → at ≤ x → kept_at ls' x ≡ kept_at ls x)
-      → Merges (opsIn os) ls' rs (q + l) n
-      → Merges (opsIn (emitted side q m ++ os)) ls rs q n
-  unfolding opsIn
-  part-merges m o l kept em an td here past e b sm w =
+      → Merges (ops_in os) ls' rs (q + l) n
+      → Merges (ops_in (emitted side q m ++ os)) ls rs q n
+  unfolding ops_in
+  part_merges m o l kept em an td here past e b sm w =
       ⊎_elim
       (λ (h : (l ≡ 0) × (at ≤ q)).
       let z : q + l ≡ q = omega arith in
-      rw (emit-none side q m (em ∙ eq-eqb l 0 h.0)) (merges-same (λ x k. sm x (omega arith)) (rw z at w)))
+      rw (emit_none side q m (em ∙ eq-eqb l 0 h.0)) (merges_same (λ x k. sm x (omega arith)) (rw z at w)))
       (λ (h : (0 < l) × (o ≡ q) × (o + l ≡ at)).
       let z : q + l ≡ o + l = omega arith in
-      rw (emit-one side q m (em ∙ ne_eqb l 0 (λ z. omega arith)), an)
+      rw (emit_one side q m (em ∙ ne_eqb l 0 (λ z. omega arith)), an)
       (record {
         tiled = td (h.1, h.0, rw z at w.tiled);
         kept =
@@ -91,50 +91,50 @@ module _ (side : ℕ) (ls ls' rs : List Op) (at q n : ℕ) (os : List Out) where
       }))
       e
 
-  emit-merges : (m : Op) → Emits m at q
+  emit_merges : (m : Op) → Emits m at q
       → ((x : ℕ) → q ≤ x → x < at → Both m (kept_at ls x && kept_at rs x))
       → ((x : ℕ) → at ≤ x → kept_at ls' x ≡ kept_at ls x)
-      → Merges (opsIn os) ls' rs (q + span_of m) n
-      → Merges (opsIn (emitted side q m ++ os)) ls rs q n
-  unfolding opsIn
-  emit-merges (Retain o l) e b sm w =
-      part-merges (Retain o l) o l true refl refl (λ t. t) (λ x h. kept_r o l (opsIn os) x h) (λ x h. pastR o l (opsIn os) x h) e b sm w
-  emit-merges (Delete o l) e b sm w =
-      part-merges (Delete o l) o l false refl refl (λ t. t) (λ x h. keptD o l (opsIn os) x h) (λ x h. pastD o l (opsIn os) x h) e b sm w
-  emit-merges (Insert o f k) e b sm w = go (emptyOp (Insert o f k)) refl
+      → Merges (ops_in os) ls' rs (q + span_of m) n
+      → Merges (ops_in (emitted side q m ++ os)) ls rs q n
+  unfolding ops_in
+  emit_merges (Retain o l) e b sm w =
+      part_merges (Retain o l) o l true refl refl (λ t. t) (λ x h. kept_r o l (ops_in os) x h) (λ x h. past_r o l (ops_in os) x h) e b sm w
+  emit_merges (Delete o l) e b sm w =
+      part_merges (Delete o l) o l false refl refl (λ t. t) (λ x h. kept_d o l (ops_in os) x h) (λ x h. past_d o l (ops_in os) x h) e b sm w
+  emit_merges (Insert o f k) e b sm w = go (empty_op (Insert o f k)) refl
     where
-      w' : Merges (opsIn os) ls rs q n
-      w' = merges-same (λ x k. sm x (omega arith)) (rw (add-zero q) at w)
+      w' : Merges (ops_in os) ls rs q n
+      w' = merges_same (λ x k. sm x (omega arith)) (rw (add-zero q) at w)
 
-      go : (t : Bool) → emptyOp (Insert o f k) ≡ t → Merges (opsIn (emitted side q (Insert o f k) ++ os)) ls rs q n
-      go true h = rw (emit-none side q (Insert o f k) h) w'
-      go false h = rw (emit-one side q (Insert o f k) h) (record { tiled = (refl, some, w'.tiled); kept = w'.kept })
+      go : (t : Bool) → empty_op (Insert o f k) ≡ t → Merges (ops_in (emitted side q (Insert o f k) ++ os)) ls rs q n
+      go true h = rw (emit_none side q (Insert o f k) h) w'
+      go false h = rw (emit_one side q (Insert o f k) h) (record { tiled = (refl, some, w'.tiled); kept = w'.kept })
         where
           some : 0 < k
           some = omega (arith, eqb-false k 0 h)
 
 module _ (R : Rules) (priority : Order) (n : ℕ) where
   abbrev Whole : State → ℕ → ℕ → Outcome → Type 0
-  Whole s p q o = Merges (opsIn o.outs) s.left.next s.right.next s.consumed n
+  Whole s p q o = Merges (ops_in o.outs) s.left.next s.right.next s.consumed n
 
-  wholeTurn : (side : ℕ) → side < 2 → (s : State) (a : Op) (ls : List Op) (p q : ℕ) (o : Outcome) → Turning s a ls p q n
-      → Whole (turnLeft R side a ls s).state (placeAfter a s.right.next) q o → Whole s p q (before (turnLeft R side a ls s) o)
-  unfolding turnLeft turnWith
-  wholeTurn side two s a ls p q o g w =
+  whole_turn : (side : ℕ) → side < 2 → (s : State) (a : Op) (ls : List Op) (p q : ℕ) (o : Outcome) → Turning s a ls p q n
+      → Whole (turn_left R side a ls s).state (place_after a s.right.next) q o → Whole s p q (before (turn_left R side a ls s) o)
+  unfolding turn_left turn_with
+  whole_turn side two s a ls p q o g w =
       let st = turn_step R s a ls p q n g in
       rw (g.next, g.at)
-      (emit-merges side (a ∷ ls) (tailOf a s.right.next ls) s.right.next (placeAfter a s.right.next) q n o.outs
-      (metOf R (frontOf a s.right.next) s.right.last) st.out st.both st.same (rw g.at at w))
+      (emit_merges side (a ∷ ls) (tail_of a s.right.next ls) s.right.next (place_after a s.right.next) q n o.outs
+      (met_of R (front_of a s.right.next) s.right.last) st.out st.both st.same (rw g.at at w))
 
   whole : (f : ℕ) (s : State) (p q : ℕ) → Stands s p q n → work s.left.next + work s.right.next ≤ f → Whole s p q (run R priority f s)
-  unfolding opsIn
+  unfolding ops_in
   whole =
-      shows R priority n Whole (λ s p q o w. merges-swap w)
+      shows R priority n Whole (λ s p q o w. merges_swap w)
       (λ s p q d. rw (d.left, d.right, d.at) (record { tiled = refl; kept = λ x k. refl }))
-      wholeTurn
+      whole_turn
 
 -- demand 3, first half: the merge of two lists that tile the original
-pub merges : (R : Rules) (ls rs : List Op) (cs ds : List Cursor) (n : ℕ) → Tiled ls 0 n → Tiled rs 0 n → Merges (opsIn (outcomeOf R ls rs cs ds).outs) ls rs 0 n
-unfolding outcomeOf
+pub merges : (R : Rules) (ls rs : List Op) (cs ds : List Cursor) (n : ℕ) → Tiled ls 0 n → Tiled rs 0 n → Merges (ops_in (outcome_of R ls rs cs ds).outs) ls rs 0 n
+unfolding outcome_of
 merges R ls rs cs ds n tl tr =
-    whole R (priorityOf R.lent ls rs) n (work ls + work rs) (start_of ls rs cs ds) 0 0 (stands-start ls rs cs ds n tl tr) (omega arith)
+    whole R (priority_of R.lent ls rs) n (work ls + work rs) (start_of ls rs cs ds) 0 0 (stands_start ls rs cs ds n tl tr) (omega arith)

@@ -11,9 +11,9 @@ identities (c ∷ cs) = c.identity ∷ identities cs
 
 -- "sorted stably": zs are the cursors xs and ys, each in its own order
 pub data Woven : List Cursor → List Cursor → List Cursor → Type 0 where
-  woven-none : Woven [] [] []
-  woven-left : {xs ys zs : List Cursor} (c : Cursor) → Woven xs ys zs → Woven (c ∷ xs) ys (c ∷ zs)
-  woven-right : {xs ys zs : List Cursor} (c : Cursor) → Woven xs ys zs → Woven xs (c ∷ ys) (c ∷ zs)
+  woven_none : Woven [] [] []
+  woven_left : {xs ys zs : List Cursor} (c : Cursor) → Woven xs ys zs → Woven (c ∷ xs) ys (c ∷ zs)
+  woven_right : {xs ys zs : List Cursor} (c : Cursor) → Woven xs ys zs → Woven xs (c ∷ ys) (c ∷ zs)
 
 -- "A cursor moved to a new index keeps its identity number." `out` are the left's cursors cs and the right's ds at new indexes: each once, with its identity number, those of one side in their
 -- order, and none past e
@@ -22,7 +22,7 @@ pub record Carried (cs ds out : List Cursor) (e : ℕ) : Type 0 where
   pub right : List Cursor
   pub woven : Woven left right out
   pub same_left : identities left ≡ identities cs
-  pub same-right : identities right ≡ identities ds
-  pub ordered-left : Ordered left
-  pub ordered-right : Ordered right
+  pub same_right : identities right ≡ identities ds
+  pub ordered_left : Ordered left
+  pub ordered_right : Ordered right
   pub within : Within e out

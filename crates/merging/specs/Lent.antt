@@ -2,7 +2,7 @@
 use Rattle.std.specs.Prelude.{ℕ, zero, suc, ◌+◌, ◌-◌, ◌*◌, ◌≤◌, List, [], ◌∷◌, get_or, length}
 use Rattle.std.proofs.Math.Seq.{slice}
 use Rattle.overlap.specs.declared.Range.{Range}
-use Rattle.overlap.specs.Overlap.{overlapOf, overlapAt}
+use Rattle.overlap.specs.Overlap.{overlap_of, overlap_at}
 use Rattle.records.specs.Tokens.{spelling}
 
 -- "All lists of one call share one lent inserted text"
@@ -21,9 +21,9 @@ unfoldable pub keys_of : Lent → ℕ → ℕ → List ℕ
 keys_of lent first count = slice first (first + count) lent.keys
 
 -- "the sum of its tokens' lengths": the lengths of the k tokens from place i on
-unfoldable pub lengthsOf : Lent → ℕ → ℕ → List ℕ
-lengthsOf lent i zero = []
-lengthsOf lent i (suc k) = get_or lent.spans (i * 2 + 1) 0 ∷ lengthsOf lent (i + 1) k
+unfoldable pub lengths_of : Lent → ℕ → ℕ → List ℕ
+lengths_of lent i zero = []
+lengths_of lent i (suc k) = get_or lent.spans (i * 2 + 1) 0 ∷ lengths_of lent (i + 1) k
 
 -- "the sum of its tokens' lengths": a sum
 unfoldable pub sum : List ℕ → ℕ
@@ -31,8 +31,8 @@ sum [] = 0
 sum (x ∷ xs) = x + sum xs
 
 -- "insert tokens' spelling": what the k tokens from place i on spell
-abbrev pub spellingOf : Lent → ℕ → ℕ → List ℕ
-spellingOf lent i k = spelling lent.inserted lent.spans lent.keys i k
+abbrev pub spelling_of : Lent → ℕ → ℕ → List ℕ
+spelling_of lent i k = spelling lent.inserted lent.spans lent.keys i k
 
 -- "Overlap of inserts", "Given old and new tokens": what a merge goes by is what was lent and the overlap of old and new keys. The laws hold for any overlap, so that they outlive
 -- a change of its rule.
@@ -41,12 +41,12 @@ pub record Rules : Type 0 where
   pub overlap : List ℕ → List ℕ → Range
 
 -- "the longest beginning of new that occurs in old, at its first occurrence; 0..0 if none": the rules of the paper
-abbrev pub rulesOf : Lent → Rules
-rulesOf lent = record { lent = lent; overlap = overlapOf }
+abbrev pub rules_of : Lent → Rules
+rules_of lent = record { lent = lent; overlap = overlap_of }
 
--- the rules where an overlap of fewer tokens than `least` counts as none, unless it is all of new: those of the paper at 1, by law `rules-one`
-abbrev pub rulesAt : ℕ → Lent → Rules
-rulesAt least lent = record { lent = lent; overlap = overlapAt least }
+-- the rules where an overlap of fewer tokens than `least` counts as none, unless it is all of new: those of the paper at 1, by law `rules_one`
+abbrev pub rules_at : ℕ → Lent → Rules
+rules_at least lent = record { lent = lent; overlap = overlap_at least }
 
 -- "the longest beginning of new": all that the laws ask of an overlap is that it is no longer than new
 pub record Lawful (R : Rules) : Type 0 where

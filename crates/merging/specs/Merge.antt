@@ -5,8 +5,8 @@ use Rattle.records.specs.declared.Cursor.{Cursor}
 use Rattle.merging.specs.declared.Op.{Op}
 use Rattle.merging.specs.declared.Order.{Order}
 use Rattle.merging.specs.Lent.{Rules}
-use Rattle.merging.specs.Operations.{Out, span_of, opsFrom, recordsOf}
-use Rattle.merging.specs.OrderRule.{priorityOf}
+use Rattle.merging.specs.Operations.{Out, span_of, ops_from, records_of}
+use Rattle.merging.specs.OrderRule.{priority_of}
 use Rattle.merging.specs.Meeting.{nothing}
 use Rattle.merging.specs.Cursors.{ended}
 use Rattle.cursors.specs.Sorted.{sorted}
@@ -40,16 +40,16 @@ work [] = 0
 work (a ∷ ls) = suc (span_of a + work ls)
 
 -- "Cursors are sorted stably by index, going in": a side before the first turn
-abbrev pub streamOf : List Op → List Cursor → Stream
-streamOf ls cs = record { next = ls; last = nothing; seen = 0; cursors = sorted cs }
+abbrev pub stream_of : List Op → List Cursor → Stream
+stream_of ls cs = record { next = ls; last = nothing; seen = 0; cursors = sorted cs }
 
 -- "Cursors are sorted stably by index, going in": both sides before the first turn
 abbrev pub start_of : List Op → List Op → List Cursor → List Cursor → State
-start_of ls rs cs ds = record { left = streamOf ls cs; right = streamOf rs ds; merged = 0; consumed = 0 }
+start_of ls rs cs ds = record { left = stream_of ls cs; right = stream_of rs ds; merged = 0; consumed = 0 }
 
 -- "Stream priority", and turns from the start
-unfoldable pub outcomeOf : Rules → List Op → List Op → List Cursor → List Cursor → Outcome
-outcomeOf R ls rs cs ds = run R (priorityOf R.lent ls rs) (work ls + work rs) (start_of ls rs cs ds)
+unfoldable pub outcome_of : Rules → List Op → List Op → List Cursor → List Cursor → Outcome
+outcome_of R ls rs cs ds = run R (priority_of R.lent ls rs) (work ls + work rs) (start_of ls rs cs ds)
 
 -- "The merge": what it gives
 pub record Merged : Type 0 where
@@ -57,7 +57,7 @@ pub record Merged : Type 0 where
   pub cursors : List Cursor
 
 -- "The merge", over records: "Cursors are sorted stably by index, going in and coming out."
-unfoldable pub mergeOf : Rules → List Operation → List Operation → List Cursor → List Cursor → Merged
-mergeOf R left right cs ds =
-    let o = outcomeOf R (opsFrom 0 left) (opsFrom 0 right) cs ds in
-    record { operations = recordsOf R.lent o.outs; cursors = sorted o.cursors }
+unfoldable pub merge_of : Rules → List Operation → List Operation → List Cursor → List Cursor → Merged
+merge_of R left right cs ds =
+    let o = outcome_of R (ops_from 0 left) (ops_from 0 right) cs ds in
+    record { operations = records_of R.lent o.outs; cursors = sorted o.cursors }

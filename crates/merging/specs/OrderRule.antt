@@ -4,25 +4,25 @@ use Rattle.merging.specs.declared.Order.{Order}
 use Rattle.merging.specs.declared.Order.TheVariants.{Less, Equal, Greater}
 use Rattle.merging.specs.declared.Op.{Op}
 use Rattle.merging.specs.declared.Op.TheVariants.{Delete, Insert, Retain}
-use Rattle.merging.specs.Lent.{Lent, spellingOf}
+use Rattle.merging.specs.Lent.{Lent, spelling_of}
 use Rattle.merging.specs.Operations.{order_of, kind_of}
 
 -- "smaller order first"
-unfoldable pub compareNumbers : ℕ → ℕ → Order
-compareNumbers a b = elim (ltb a b) [ true ↦ Less | false ↦ elim (ltb b a) [ true ↦ Greater | false ↦ Equal ] ]
+unfoldable pub compare_numbers : ℕ → ℕ → Order
+compare_numbers a b = elim (ltb a b) [ true ↦ Less | false ↦ elim (ltb b a) [ true ↦ Greater | false ↦ Equal ] ]
 
 -- "by spelling, code point by code point with a beginning first"
-unfoldable pub compareSpelling : List ℕ → List ℕ → Order
-compareSpelling [] [] = Equal
-compareSpelling [] (y ∷ ys) = Less
-compareSpelling (x ∷ xs) [] = Greater
-compareSpelling (x ∷ xs) (y ∷ ys) = elim (ltb x y) [ true ↦ Less | false ↦ elim (ltb y x) [ true ↦ Greater | false ↦ compareSpelling xs ys ] ]
+unfoldable pub compare_spelling : List ℕ → List ℕ → Order
+compare_spelling [] [] = Equal
+compare_spelling [] (y ∷ ys) = Less
+compare_spelling (x ∷ xs) [] = Greater
+compare_spelling (x ∷ xs) (y ∷ ys) = elim (ltb x y) [ true ↦ Less | false ↦ elim (ltb y x) [ true ↦ Greater | false ↦ compare_spelling xs ys ] ]
 
 -- "then", "else": the second where the first says equal
-abbrev pub thenBy : Order → Order → Order
-thenBy Less y = Less
-thenBy Equal y = y
-thenBy Greater y = Greater
+abbrev pub then_by : Order → Order → Order
+then_by Less y = Less
+then_by Equal y = y
+then_by Greater y = Greater
 
 -- "smaller", "shorter": the answer for exchanged operations
 abbrev pub reversed : Order → Order
@@ -31,34 +31,34 @@ reversed Equal = Equal
 reversed Greater = Less
 
 -- "then inserts by spelling, code point by code point with a beginning first, retains and deletes by shorter length; else equal."
-unfoldable pub contentRule : Lent → Op → Op → Order
-contentRule lent (Delete o l) (Delete o' l') = compareNumbers l l'
-contentRule lent (Delete o l) (Insert o' f' n') = Equal
-contentRule lent (Delete o l) (Retain o' l') = Equal
-contentRule lent (Insert o f n) (Delete o' l') = Equal
-contentRule lent (Insert o f n) (Insert o' f' n') = compareSpelling (spellingOf lent f n) (spellingOf lent f' n')
-contentRule lent (Insert o f n) (Retain o' l') = Equal
-contentRule lent (Retain o l) (Delete o' l') = Equal
-contentRule lent (Retain o l) (Insert o' f' n') = Equal
-contentRule lent (Retain o l) (Retain o' l') = compareNumbers l l'
+unfoldable pub content_rule : Lent → Op → Op → Order
+content_rule lent (Delete o l) (Delete o' l') = compare_numbers l l'
+content_rule lent (Delete o l) (Insert o' f' n') = Equal
+content_rule lent (Delete o l) (Retain o' l') = Equal
+content_rule lent (Insert o f n) (Delete o' l') = Equal
+content_rule lent (Insert o f n) (Insert o' f' n') = compare_spelling (spelling_of lent f n) (spelling_of lent f' n')
+content_rule lent (Insert o f n) (Retain o' l') = Equal
+content_rule lent (Retain o l) (Delete o' l') = Equal
+content_rule lent (Retain o l) (Insert o' f' n') = Equal
+content_rule lent (Retain o l) (Retain o' l') = compare_numbers l l'
 
 -- "Order rule: smaller order first; then delete, insert, retain; then inserts by spelling"
-unfoldable pub orderRule : Lent → Op → Op → Order
-orderRule lent a b = thenBy (compareNumbers (order_of a) (order_of b)) (thenBy (compareNumbers (kind_of a) (kind_of b)) (contentRule lent a b))
+unfoldable pub order_rule : Lent → Op → Op → Order
+order_rule lent a b = then_by (compare_numbers (order_of a) (order_of b)) (then_by (compare_numbers (kind_of a) (kind_of b)) (content_rule lent a b))
 
 -- "Stream priority: the first unequal pair under the order rule, else the shorter list first, else equal."
-unfoldable pub priorityOf : Lent → List Op → List Op → Order
-priorityOf lent [] [] = Equal
-priorityOf lent [] (b ∷ rs) = Less
-priorityOf lent (a ∷ ls) [] = Greater
-priorityOf lent (a ∷ ls) (b ∷ rs) = thenBy (orderRule lent a b) (priorityOf lent ls rs)
+unfoldable pub priority_of : Lent → List Op → List Op → Order
+priority_of lent [] [] = Equal
+priority_of lent [] (b ∷ rs) = Less
+priority_of lent (a ∷ ls) [] = Greater
+priority_of lent (a ∷ ls) (b ∷ rs) = then_by (order_rule lent a b) (priority_of lent ls rs)
 
 -- "Each turn takes the smaller next operation": is it the left one
-abbrev pub isLess : Order → Bool
-isLess Less = true
-isLess Equal = false
-isLess Greater = false
+abbrev pub is_less : Order → Bool
+is_less Less = true
+is_less Equal = false
+is_less Greater = false
 
 -- "Each turn takes the smaller next operation; ties use stream priority; what is not less goes right."
-unfoldable pub goesLeft : Lent → Order → Op → Op → Bool
-goesLeft lent priority a b = isLess (thenBy (orderRule lent a b) priority)
+unfoldable pub goes_left : Lent → Order → Op → Op → Bool
+goes_left lent priority a b = is_less (then_by (order_rule lent a b) priority)

@@ -4,13 +4,13 @@ use Rattle.room.specs.Choice.{pick}
 use Rattle.diff.specs.Replay.{Edit, retain, delete, insert}
 use Rattle.merging.specs.declared.Op.{Op}
 use Rattle.merging.specs.declared.Op.TheVariants.{Delete, Insert, Retain}
-use Rattle.merging.specs.Lent.{Lent, spellingOf}
+use Rattle.merging.specs.Lent.{Lent, spelling_of}
 use Rattle.merging.specs.Operations.{Out}
 
 -- "retained original and insert tokens' spelling"; of a delete the original text that it drops
 abbrev pub words_of : Lent → Op → List ℕ
 words_of lent (Delete o l) = take l (drop o lent.original)
-words_of lent (Insert o f n) = spellingOf lent f n
+words_of lent (Insert o f n) = spelling_of lent f n
 words_of lent (Retain o l) = take l (drop o lent.original)
 
 -- "A list's text: retained original and insert tokens' spelling, in list order."
@@ -33,32 +33,32 @@ spanned lent side (Insert o f n) = record { kind = 1; side = side; text = words_
 spanned lent side (Retain o l) = record { kind = 0; side = 0; text = words_of lent (Retain o l) }
 
 -- "History has one span for each operation, in order."
-unfoldable pub historyOf : Lent → List Out → List Span
-historyOf lent [] = []
-historyOf lent (x ∷ xs) = spanned lent x.side x.op ∷ historyOf lent xs
+unfoldable pub history_of : Lent → List Out → List Span
+history_of lent [] = []
+history_of lent (x ∷ xs) = spanned lent x.side x.op ∷ history_of lent xs
 
 -- "Text, history and replay agree over the defined text": the kinds of span, unchanged and added, that make the list's text
-abbrev pub ofText : ℕ → Bool
-ofText kind = eqb kind 0 || eqb kind 1
+abbrev pub of_text : ℕ → Bool
+of_text kind = eqb kind 0 || eqb kind 1
 
 -- "Text, history and replay agree over the defined text": the kinds of span, unchanged and removed, that make the original
-abbrev pub ofOriginal : ℕ → Bool
-ofOriginal kind = eqb kind 0 || eqb kind 2
+abbrev pub of_original : ℕ → Bool
+of_original kind = eqb kind 0 || eqb kind 2
 
 -- "Text, history and replay agree over the defined text": what the spans of some kinds spell
-unfoldable pub spelledBy : (ℕ → Bool) → List Span → List ℕ
-spelledBy p [] = []
-spelledBy p (x ∷ xs) = pick (p x.kind) x.text [] ++ spelledBy p xs
+unfoldable pub spelled_by : (ℕ → Bool) → List Span → List ℕ
+spelled_by p [] = []
+spelled_by p (x ∷ xs) = pick (p x.kind) x.text [] ++ spelled_by p xs
 
 -- "one span for each operation, in order": the text of all spans, one behind the other
-unfoldable pub historyText : List Span → List ℕ
-historyText [] = []
-historyText (p ∷ ps) = p.text ++ historyText ps
+unfoldable pub history_text : List Span → List ℕ
+history_text [] = []
+history_text (p ∷ ps) = p.text ++ history_text ps
 
 -- "one span for each operation, in order": the spans as numbers: kind, side, and where the text stands in the text of all, `at` of it standing before
-unfoldable pub flatSpans : ℕ → List Span → List ℕ
-flatSpans at [] = []
-flatSpans at (p ∷ ps) = p.kind ∷ p.side ∷ at ∷ length p.text ∷ flatSpans (at + length p.text) ps
+unfoldable pub flat_spans : ℕ → List Span → List ℕ
+flat_spans at [] = []
+flat_spans at (p ∷ ps) = p.kind ∷ p.side ∷ at ∷ length p.text ∷ flat_spans (at + length p.text) ps
 
 -- "retains positive with neighbours joined": a retain in front of a diff
 abbrev pub joined : ℕ → List Edit → List Edit
@@ -68,8 +68,8 @@ joined l (delete n ∷ es) = retain l ∷ delete n ∷ es
 joined l (insert s ∷ es) = retain l ∷ insert s ∷ es
 
 -- "to_diff: retains positive with neighbours joined, deletes negative and never joined, inserts as text."
-unfoldable pub toDiff : Lent → List Op → List Edit
-toDiff lent [] = []
-toDiff lent (Delete o l ∷ ls) = delete l ∷ toDiff lent ls
-toDiff lent (Insert o f n ∷ ls) = insert (words_of lent (Insert o f n)) ∷ toDiff lent ls
-toDiff lent (Retain o l ∷ ls) = joined l (toDiff lent ls)
+unfoldable pub to_diff : Lent → List Op → List Edit
+to_diff lent [] = []
+to_diff lent (Delete o l ∷ ls) = delete l ∷ to_diff lent ls
+to_diff lent (Insert o f n ∷ ls) = insert (words_of lent (Insert o f n)) ∷ to_diff lent ls
+to_diff lent (Retain o l ∷ ls) = joined l (to_diff lent ls)

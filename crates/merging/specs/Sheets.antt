@@ -3,18 +3,18 @@ use Rattle.std.specs.Prelude.{ℕ, ◌≡◌, List, [], ◌∷◌}
 use Rattle.records.specs.declared.Operation.{Operation}
 use Rattle.records.specs.declared.Cursor.{Cursor}
 use Rattle.diff.specs.Replay.{Edit, retain, delete, insert}
-use Rattle.merging.specs.Lent.{Lent, rulesOf}
-use Rattle.merging.specs.Operations.{opsIn, outsFrom}
-use Rattle.merging.specs.Merge.{Merged, mergeOf}
-use Rattle.merging.specs.Outputs.{Span, text_of, historyOf, toDiff}
+use Rattle.merging.specs.Lent.{Lent, rules_of}
+use Rattle.merging.specs.Operations.{ops_in, outs_from}
+use Rattle.merging.specs.Merge.{Merged, merge_of}
+use Rattle.merging.specs.Outputs.{Span, text_of, history_of, to_diff}
 
 -- "Sheets on the bench": what is lent to a merge, and what comes of it
 pub record Sheet : Type 0 where
   pub lent : Lent
   pub left : List Operation
   pub right : List Operation
-  pub leftCursors : List Cursor
-  pub rightCursors : List Cursor
+  pub left_cursors : List Cursor
+  pub right_cursors : List Cursor
   pub merged : Merged
   pub text : List ℕ
   pub history : List Span
@@ -22,10 +22,10 @@ pub record Sheet : Type 0 where
 
 -- "★ proved, one statement over the table": the merge gives the operations and the cursors, and the merged list the text, the history and the diff
 pub record Holds (s : Sheet) : Type 0 where
-  pub merges : mergeOf (rulesOf s.lent) s.left s.right s.leftCursors s.rightCursors ≡ s.merged
-  pub says : text_of s.lent (opsIn (outsFrom 0 s.merged.operations)) ≡ s.text
-  pub tells : historyOf s.lent (outsFrom 0 s.merged.operations) ≡ s.history
-  pub writes : toDiff s.lent (opsIn (outsFrom 0 s.merged.operations)) ≡ s.diff
+  pub merges : merge_of (rules_of s.lent) s.left s.right s.left_cursors s.right_cursors ≡ s.merged
+  pub says : text_of s.lent (ops_in (outs_from 0 s.merged.operations)) ≡ s.text
+  pub tells : history_of s.lent (outs_from 0 s.merged.operations) ≡ s.history
+  pub writes : to_diff s.lent (ops_in (outs_from 0 s.merged.operations)) ≡ s.diff
 
 -- "★ proved, one statement over the table": each row holds
 abbrev pub Hold : List Sheet → Type 0
@@ -66,8 +66,8 @@ sheets =
       lent = record { original = 97 ∷ 98 ∷ 99 ∷ 100 ∷ 101 ∷ 102 ∷ []; inserted = 88 ∷ 89 ∷ []; spans = 0 ∷ 1 ∷ 1 ∷ 1 ∷ []; keys = 88 ∷ 89 ∷ [] };
       left = keeps 0 2 ∷ drops 2 2 ∷ adds 0 1 ∷ keeps 4 2 ∷ [];
       right = keeps 0 3 ∷ drops 3 2 ∷ adds 1 1 ∷ keeps 5 1 ∷ [];
-      leftCursors = cursor 1 3 ∷ [];
-      rightCursors = cursor 2 3 ∷ cursor 3 4 ∷ [];
+      left_cursors = cursor 1 3 ∷ [];
+      right_cursors = cursor 2 3 ∷ cursor 3 4 ∷ [];
       merged =
           record {
             operations =
@@ -102,8 +102,8 @@ sheets =
           };
       left = adds 0 2 ∷ [];
       right = adds 2 2 ∷ [];
-      leftCursors = [];
-      rightCursors = cursor 1 0 ∷ cursor 2 1 ∷ cursor 3 2 ∷ [];
+      left_cursors = [];
+      right_cursors = cursor 1 0 ∷ cursor 2 1 ∷ cursor 3 2 ∷ [];
       merged =
           record {
             operations = operation 1 0 2 0 0 2 ∷ operation 1 0 1 1 3 1 ∷ [];
@@ -118,8 +118,8 @@ sheets =
       lent = record { original = 97 ∷ []; inserted = 98 ∷ 98 ∷ []; spans = 0 ∷ 1 ∷ 1 ∷ 1 ∷ []; keys = 98 ∷ 98 ∷ [] };
       left = drops 0 1 ∷ adds 0 1 ∷ [];
       right = drops 0 1 ∷ adds 1 1 ∷ [];
-      leftCursors = [];
-      rightCursors = [];
+      left_cursors = [];
+      right_cursors = [];
       merged = record { operations = operation 0 0 1 1 0 0 ∷ operation 1 1 1 1 1 1 ∷ []; cursors = [] };
       text = 98 ∷ [];
       history = span 2 1 (97 ∷ []) ∷ span 1 1 (98 ∷ []) ∷ [];
@@ -135,8 +135,8 @@ examples =
       lent = record { original = 97 ∷ 98 ∷ []; inserted = 120 ∷ []; spans = 0 ∷ 1 ∷ []; keys = 120 ∷ [] };
       left = adds 0 1 ∷ drops 0 2 ∷ [];
       right = drops 0 2 ∷ adds 0 1 ∷ [];
-      leftCursors = cursor 1 1 ∷ [];
-      rightCursors = cursor 2 1 ∷ [];
+      left_cursors = cursor 1 1 ∷ [];
+      right_cursors = cursor 2 1 ∷ [];
       merged =
           record {
             operations = operation 0 0 2 1 0 0 ∷ operation 1 2 1 0 0 1 ∷ operation 1 2 1 1 0 1 ∷ [];
@@ -151,8 +151,8 @@ examples =
       lent = record { original = 97 ∷ []; inserted = 120 ∷ []; spans = 0 ∷ 1 ∷ []; keys = 120 ∷ [] };
       left = adds 0 1 ∷ keeps 0 1 ∷ [];
       right = drops 0 1 ∷ adds 0 1 ∷ [];
-      leftCursors = cursor 1 2 ∷ [];
-      rightCursors = cursor 2 1 ∷ [];
+      left_cursors = cursor 1 2 ∷ [];
+      right_cursors = cursor 2 1 ∷ [];
       merged =
           record {
             operations = operation 0 0 1 1 0 0 ∷ operation 1 1 1 0 0 1 ∷ operation 1 1 1 1 0 1 ∷ [];
@@ -167,8 +167,8 @@ examples =
       lent = record { original = 97 ∷ []; inserted = []; spans = []; keys = [] };
       left = drops 0 1 ∷ [];
       right = drops 0 1 ∷ [];
-      leftCursors = cursor 1 0 ∷ [];
-      rightCursors = cursor 2 0 ∷ [];
+      left_cursors = cursor 1 0 ∷ [];
+      right_cursors = cursor 2 0 ∷ [];
       merged = record { operations = operation 0 0 1 1 0 0 ∷ []; cursors = cursor 1 0 ∷ cursor 2 0 ∷ [] };
       text = [];
       history = span 2 1 (97 ∷ []) ∷ [];
@@ -180,8 +180,8 @@ examples =
       lent = record { original = []; inserted = 97 ∷ 98 ∷ 99 ∷ 100 ∷ []; spans = 0 ∷ 1 ∷ 1 ∷ 1 ∷ 2 ∷ 1 ∷ 3 ∷ 1 ∷ []; keys = 1 ∷ 2 ∷ 1 ∷ 2 ∷ [] };
       left = adds 0 2 ∷ [];
       right = adds 2 1 ∷ adds 3 1 ∷ [];
-      leftCursors = [];
-      rightCursors = cursor 1 0 ∷ cursor 2 1 ∷ cursor 3 2 ∷ [];
+      left_cursors = [];
+      right_cursors = cursor 1 0 ∷ cursor 2 1 ∷ cursor 3 2 ∷ [];
       merged = record { operations = operation 1 0 2 0 0 2 ∷ []; cursors = cursor 1 0 ∷ cursor 2 1 ∷ cursor 3 2 ∷ [] };
       text = 97 ∷ 98 ∷ [];
       history = span 1 0 (97 ∷ 98 ∷ []) ∷ [];
@@ -192,8 +192,8 @@ examples =
       lent = record { original = 97 ∷ 98 ∷ []; inserted = []; spans = []; keys = [] };
       left = keeps 0 1 ∷ keeps 1 1 ∷ [];
       right = keeps 0 2 ∷ [];
-      leftCursors = [];
-      rightCursors = cursor 1 1 ∷ cursor 2 2 ∷ [];
+      left_cursors = [];
+      right_cursors = cursor 1 1 ∷ cursor 2 2 ∷ [];
       merged = record { operations = keeps 0 1 ∷ keeps 1 1 ∷ []; cursors = cursor 1 1 ∷ cursor 2 2 ∷ [] };
       text = 97 ∷ 98 ∷ [];
       history = span 0 0 (97 ∷ []) ∷ span 0 0 (98 ∷ []) ∷ [];
@@ -204,8 +204,8 @@ examples =
       lent = record { original = 97 ∷ 98 ∷ []; inserted = []; spans = []; keys = [] };
       left = drops 0 2 ∷ [];
       right = drops 0 1 ∷ drops 1 1 ∷ [];
-      leftCursors = [];
-      rightCursors = [];
+      left_cursors = [];
+      right_cursors = [];
       merged = record { operations = operation 0 0 1 1 0 0 ∷ operation 0 1 1 0 0 0 ∷ []; cursors = [] };
       text = [];
       history = span 2 1 (97 ∷ []) ∷ span 2 0 (98 ∷ []) ∷ [];

@@ -24,14 +24,14 @@ total_of w [] = 0
 total_of w (a ∷ ls) = w a + total_of w ls
 
 -- "insert tokens", "inserted text": what an insert of n tokens from f on adds
-abbrev pub ofInsert : (ℕ → ℕ → ℕ) → Op → ℕ
-ofInsert w (Delete o l) = 0
-ofInsert w (Insert o f n) = w f n
-ofInsert w (Retain o l) = 0
+abbrev pub of_insert : (ℕ → ℕ → ℕ) → Op → ℕ
+of_insert w (Delete o l) = 0
+of_insert w (Insert o f n) = w f n
+of_insert w (Retain o l) = 0
 
 -- "twice the insert tokens of both lists": those of one
-abbrev pub tokensOf : List Op → ℕ
-tokensOf ls = total_of (ofInsert (λ f n. n)) ls
+abbrev pub tokens_of : List Op → ℕ
+tokens_of ls = total_of (of_insert (λ f n. n)) ls
 
 -- "insert [..] with no tokens; token or range outside what was lent": what is asked of each insert's tokens, n from f on
 unfoldable pub Inserts : (ℕ → ℕ → Type 0) → List Op → Type 0

@@ -5,10 +5,10 @@ use Rattle.merging.specs.declared.Op.{Op}
 use Rattle.merging.specs.declared.Op.TheVariants.{Delete, Insert, Retain}
 use Rattle.merging.specs.declared.Order.{Order}
 use Rattle.merging.specs.Lent.{Lent, Rules}
-use Rattle.merging.specs.Operations.{Out, length_of, span_of, emptyOp}
-use Rattle.merging.specs.OrderRule.{goesLeft}
-use Rattle.merging.specs.Meeting.{Remembered, frontOf, tailOf, metOf, other_of, rememberOf}
-use Rattle.merging.specs.Cursors.{shift_of, movedBy, behindOf}
+use Rattle.merging.specs.Operations.{Out, length_of, span_of, empty_op}
+use Rattle.merging.specs.OrderRule.{goes_left}
+use Rattle.merging.specs.Meeting.{Remembered, front_of, tail_of, met_of, other_of, remember_of}
+use Rattle.merging.specs.Cursors.{shift_of, moved_by, behind_of}
 
 -- "Each turn takes the smaller next operation": one side between two turns: its operations that are next, what is remembered of it, how much of its own text was taken, and its
 -- cursors that have not moved
@@ -37,7 +37,7 @@ anchored at (Retain o l) = Retain o l
 
 -- "Empty results aren't emitted."
 unfoldable pub emitted : ℕ → ℕ → Op → List Out
-emitted side at a = elim (emptyOp a) [ true ↦ [] | false ↦ record { side = side; op = anchored at a } ∷ [] ]
+emitted side at a = elim (empty_op a) [ true ↦ [] | false ↦ record { side = side; op = anchored at a } ∷ [] ]
 
 -- "Each turn": what it gives: the state after it, the operation emitted if there is one, the cursors moved
 pub record Turned : Type 0 where
@@ -47,10 +47,10 @@ pub record Turned : Type 0 where
 
 -- a turn of the left side, whose number is `side`, with the operation b, already cut, and `next` behind it. "The result is
 -- remembered, even when empty"; "Cursors [..] move with a retain or insert"
-unfoldable pub turnWith : Rules → ℕ → State → Op → List Op → Turned
-turnWith R side s b next =
+unfoldable pub turn_with : Rules → ℕ → State → Op → List Op → Turned
+turn_with R side s b next =
     let v = s.right.last in
-    let m = metOf R b v in
+    let m = met_of R b v in
     let t = shift_of R b v s.left.seen s.merged in
     record {
       state =
@@ -58,39 +58,39 @@ turnWith R side s b next =
             left =
                 record {
                   next = next;
-                  last = rememberOf R.lent s.left.last m;
+                  last = remember_of R.lent s.left.last m;
                   seen = s.left.seen + length_of R.lent b;
-                  cursors = behindOf b t s.left.cursors;
+                  cursors = behind_of b t s.left.cursors;
                 };
             right = record { next = s.right.next; last = other_of R b v; seen = s.right.seen; cursors = s.right.cursors };
             merged = s.merged + length_of R.lent m;
             consumed = s.consumed + span_of m;
           };
       out = emitted side s.consumed m;
-      cursors = movedBy b t s.left.cursors;
+      cursors = moved_by b t s.left.cursors;
     }
 
 -- "A taken retain is cut [..]. The tail stays next.": a turn of the left side, which takes a, with ls behind it
-unfoldable pub turnLeft : Rules → ℕ → Op → List Op → State → Turned
-turnLeft R side a ls s = turnWith R side s (frontOf a s.right.next) (tailOf a s.right.next ls)
+unfoldable pub turn_left : Rules → ℕ → Op → List Op → State → Turned
+turn_left R side a ls s = turn_with R side s (front_of a s.right.next) (tail_of a s.right.next ls)
 
 -- "what is not less goes right": a turn of the right side
-unfoldable pub turnRight : Rules → ℕ → Op → List Op → State → Turned
-turnRight R side a rs s =
-    let t = turnLeft R side a rs (turned s) in
+unfoldable pub turn_right : Rules → ℕ → Op → List Op → State → Turned
+turn_right R side a rs s =
+    let t = turn_left R side a rs (turned s) in
     record { state = turned t.state; out = t.out; cursors = t.cursors }
 
 -- "Each turn takes the smaller next operation": an operation of one side, with what stands behind it; or both sides are done
 pub data Taken : Type 0 where
   none : Taken
-  fromLeft fromRight : Op → List Op → Taken
+  from_left from_right : Op → List Op → Taken
 
 -- "Each turn takes the smaller next operation; ties use stream priority; what is not less goes right."
 unfoldable pub taken_of : Lent → Order → List Op → List Op → Taken
 taken_of lent priority [] [] = none
-taken_of lent priority [] (b ∷ rs) = fromRight b rs
-taken_of lent priority (a ∷ ls) [] = fromLeft a ls
-taken_of lent priority (a ∷ ls) (b ∷ rs) = elim (goesLeft lent priority a b) [ true ↦ fromLeft a ls | false ↦ fromRight b rs ]
+taken_of lent priority [] (b ∷ rs) = from_right b rs
+taken_of lent priority (a ∷ ls) [] = from_left a ls
+taken_of lent priority (a ∷ ls) (b ∷ rs) = elim (goes_left lent priority a b) [ true ↦ from_left a ls | false ↦ from_right b rs ]
 
 -- "Each turn": a turn, or the end
 pub data Step : Type 0 where
@@ -102,6 +102,6 @@ unfoldable pub step_of : Rules → Order → State → Step
 step_of R priority s =
     elim (taken_of R.lent priority s.left.next s.right.next) [
       | none ↦ stop
-      | fromLeft a ls ↦ on (turnLeft R 0 a ls s)
-      | fromRight b rs ↦ on (turnRight R 1 b rs s)
+      | from_left a ls ↦ on (turn_left R 0 a ls s)
+      | from_right b rs ↦ on (turn_right R 1 b rs s)
     ]

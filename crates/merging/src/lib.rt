@@ -1,7 +1,7 @@
 // What the merge's definitions and its code both speak of: the answers of the order rule, operations as the merge takes them,
 // and what a turn does to the cursors of its side. The merge itself is a definition here, see specs/ and proofs/.
 ghost use Rattle.std.specs.Prelude.{◌≡◌};
-ghost use Rattle.merging.specs.OrderRule.{thenBy};
+ghost use Rattle.merging.specs.OrderRule.{then_by};
 ghost use Rattle.merging.specs.Operations.{order_of, span_of, op_of};
 
 #[derive(Drop)]
@@ -14,7 +14,7 @@ pub enum Order {
 impl Order {
     // This order, or where it says equal the other.
     pub fn then(self, other: Order) -> Order
-        ensures { result ≡ thenBy self other }
+        ensures { result ≡ then_by self other }
     {
         match self {
             Order::Less => Order::Less,

@@ -8,70 +8,70 @@ use native.Mathlib.Nat.{add-zero, sub-zero}
 use lib.ListN.{length}
 use Rattle.records.specs.declared.Operation.{Operation}
 use Rattle.records.specs.declared.Cursor.{Cursor}
-use Rattle.records.specs.Tokens.{tokensFrom}
+use Rattle.records.specs.Tokens.{tokens_from}
 use Rattle.cursors.specs.Sorted.{sorted}
-use Rattle.cursors.proofs.Sinks.{length-sorted}
-use Rattle.sizes.specs.Texts.{total, claimedBy, insertedBy, textLength}
+use Rattle.cursors.proofs.Sinks.{length_sorted}
+use Rattle.sizes.specs.Texts.{total, claimed_by, inserted_by, text_length}
 use Rattle.sizes.specs.Sizes.{merging, otherwise}
 use Rattle.shapes.specs.Accepted.{AllIn, AcceptedList}
 use Rattle.merging.specs.declared.Op.{Op}
-use Rattle.merging.specs.Lent.{Lent, rulesOf, lengthsOf, sum}
-use Rattle.merging.specs.Operations.{length_of, opsIn, opsFrom, recordsOf}
-use Rattle.merging.specs.OrderRule.{priorityOf}
+use Rattle.merging.specs.Lent.{Lent, rules_of, lengths_of, sum}
+use Rattle.merging.specs.Operations.{length_of, ops_in, ops_from, records_of}
+use Rattle.merging.specs.OrderRule.{priority_of}
 use Rattle.merging.specs.Turn.{State}
-use Rattle.merging.specs.Merge.{Outcome, start_of, outcomeOf, mergeOf}
+use Rattle.merging.specs.Merge.{Outcome, start_of, outcome_of, merge_of}
 use Rattle.merging.specs.Reached.{Reached}
-use Rattle.merging.specs.Tiling.{Tiled, Merges, total_of, ofInsert, Inserts, Sided}
-use Rattle.merging.specs.Carried.{identities, Woven, woven-none, woven-left, woven-right, Carried}
+use Rattle.merging.specs.Tiling.{Tiled, Merges, total_of, of_insert, Inserts, Sided}
+use Rattle.merging.specs.Carried.{identities, Woven, woven_none, woven_left, woven_right, Carried}
 use Rattle.merging.proofs.Lawful.{lawful}
-use Rattle.merging.proofs.Sums.{lengths-split}
+use Rattle.merging.proofs.Sums.{lengths_split}
 use Rattle.merging.proofs.Whole.{merges}
-use Rattle.merging.proofs.Count.{operations-most, inserted-most, inserts-part}
+use Rattle.merging.proofs.Count.{operations_most, inserted_most, inserts_part}
 use Rattle.merging.proofs.CursorLaws.{carried}
-use Rattle.merging.proofs.WorkRoom.{Enough, work-room}
-use Rattle.merging_laws.proofs.Decoding.{Run, Listed, length-ops, tiled, runs, tokens-total, inserted-total, length-total}
-use Rattle.merging_laws.proofs.Encoding.{length-records, read_back, listed}
+use Rattle.merging.proofs.WorkRoom.{Enough, work_room}
+use Rattle.merging_laws.proofs.Decoding.{Run, Listed, length_ops, tiled, runs, tokens_total, inserted_total, length_total}
+use Rattle.merging_laws.proofs.Encoding.{length_records, read_back, listed}
 
 -- an insert that lost tokens is lent
-all-in-rest : (n : ℕ) (spans keys : List ℕ) (f k z : ℕ) → z ≤ k → AllIn n (tokensFrom spans keys f k) → AllIn n (tokensFrom spans keys (f + z) (k - z))
-unfolding AllIn tokensFrom
-all-in-rest n spans keys f k zero h a = rw (add-zero f, sub-zero k) a
-all-in-rest n spans keys f zero (suc z) h a = absurd (omega arith)
-all-in-rest n spans keys f (suc k) (suc z) h a =
+all_in_rest : (n : ℕ) (spans keys : List ℕ) (f k z : ℕ) → z ≤ k → AllIn n (tokens_from spans keys f k) → AllIn n (tokens_from spans keys (f + z) (k - z))
+unfolding AllIn tokens_from
+all_in_rest n spans keys f k zero h a = rw (add-zero f, sub-zero k) a
+all_in_rest n spans keys f zero (suc z) h a = absurd (omega arith)
+all_in_rest n spans keys f (suc k) (suc z) h a =
     let e : f + 1 + z ≡ f + suc z = omega arith in
     let d : k - z ≡ suc k - suc z = omega arith in
-    rw (e, d) at (all-in-rest n spans keys (f + 1) k z (omega arith) a.1.1)
+    rw (e, d) at (all_in_rest n spans keys (f + 1) k z (omega arith) a.1.1)
 
-run-rest : (lent : Lent) (f k z : ℕ) → z < k → Run lent f k → Run lent (f + z) (k - z)
-run-rest lent f k z h r =
+run_rest : (lent : Lent) (f k z : ℕ) → z < k → Run lent f k → Run lent (f + z) (k - z)
+run_rest lent f k z h r =
     record {
       some = omega arith;
       lends = omega (arith, r.lends);
-      tokens = all-in-rest (length lent.inserted) lent.spans lent.keys f k z (omega arith) r.tokens;
+      tokens = all_in_rest (length lent.inserted) lent.spans lent.keys f k z (omega arith) r.tokens;
     }
 
 -- how many cursors come out
-length-woven : {xs ys zs : List Cursor} → Woven xs ys zs → length zs ≡ length xs + length ys
-length-woven woven-none = refl
-length-woven (woven-left c w) = omega (arith, length-woven w)
-length-woven (woven-right c w) = omega (arith, length-woven w)
+length_woven : {xs ys zs : List Cursor} → Woven xs ys zs → length zs ≡ length xs + length ys
+length_woven woven_none = refl
+length_woven (woven_left c w) = omega (arith, length_woven w)
+length_woven (woven_right c w) = omega (arith, length_woven w)
 
-length-identities : (cs : List Cursor) → length (identities cs) ≡ length cs
+length_identities : (cs : List Cursor) → length (identities cs) ≡ length cs
 unfolding identities
-length-identities [] = refl
-length-identities (c ∷ cs) = ap suc (length-identities cs)
+length_identities [] = refl
+length_identities (c ∷ cs) = ap suc (length_identities cs)
 
-carried-length : {cs ds out : List Cursor} {e : ℕ} → Carried cs ds out e → length out ≡ length cs + length ds
-carried-length {cs} {ds} c =
+carried_length : {cs ds out : List Cursor} {e : ℕ} → Carried cs ds out e → length out ≡ length cs + length ds
+carried_length {cs} {ds} c =
     omega (
       arith,
-      length-woven c.woven,
+      length_woven c.woven,
       ap length c.same_left,
-      ap length c.same-right,
-      length-identities c.left,
-      length-identities c.right,
-      length-identities cs,
-      length-identities ds,
+      ap length c.same_right,
+      length_identities c.left,
+      length_identities c.right,
+      length_identities cs,
+      length_identities ds,
     )
 
 -- a list that was accepted for merging
@@ -83,110 +83,110 @@ module _ (lent : Lent) (left right : List Operation) (cs ds : List Cursor) (al :
   n = length lent.original
 
   abbrev ls : List Op
-  ls = opsFrom 0 left
+  ls = ops_from 0 left
 
   abbrev rs : List Op
-  rs = opsFrom 0 right
+  rs = ops_from 0 right
 
   abbrev out : Outcome
-  out = outcomeOf (rulesOf lent) ls rs cs ds
+  out = outcome_of (rules_of lent) ls rs cs ds
 
-  listedL : Listed lent n left 0
-  listedL = record { shapes = al.shapes; tiles = al.tiles }
+  listed_l : Listed lent n left 0
+  listed_l = record { shapes = al.shapes; tiles = al.tiles }
 
-  listedR : Listed lent n right 0
-  listedR = record { shapes = ar.shapes; tiles = ar.tiles }
+  listed_r : Listed lent n right 0
+  listed_r = record { shapes = ar.shapes; tiles = ar.tiles }
 
-  tiledL : Tiled ls 0 n
-  tiledL = tiled lent n left 0 listedL
+  tiled_l : Tiled ls 0 n
+  tiled_l = tiled lent n left 0 listed_l
 
-  tiledR : Tiled rs 0 n
-  tiledR = tiled lent n right 0 listedR
+  tiled_r : Tiled rs 0 n
+  tiled_r = tiled lent n right 0 listed_r
 
-  whole : Merges (opsIn out.outs) ls rs 0 n
-  whole = merges (rulesOf lent) ls rs cs ds n tiledL tiledR
+  whole : Merges (ops_in out.outs) ls rs 0 n
+  whole = merges (rules_of lent) ls rs cs ds n tiled_l tiled_r
 
-  parts : Inserts (Run lent) (opsIn out.outs) × Sided out.outs
-  parts = inserts-part (rulesOf lent) (lawful lent) (Run lent) (run-rest lent) ls rs cs ds n tiledL tiledR (runs lent n left 0 listedL) (runs lent n right 0 listedR)
+  parts : Inserts (Run lent) (ops_in out.outs) × Sided out.outs
+  parts = inserts_part (rules_of lent) (lawful lent) (Run lent) (run_rest lent) ls rs cs ds n tiled_l tiled_r (runs lent n left 0 listed_l) (runs lent n right 0 listed_r)
 
-  listedM : Listed lent n (recordsOf lent out.outs) 0
-  listedM = listed lent out.outs n whole.tiled parts.0 parts.1
+  listed_m : Listed lent n (records_of lent out.outs) 0
+  listed_m = listed lent out.outs n whole.tiled parts.0 parts.1
 
-  same : opsFrom 0 (recordsOf lent out.outs) ≡ opsIn out.outs
+  same : ops_from 0 (records_of lent out.outs) ≡ ops_in out.outs
   same = read_back lent out.outs 0 n whole.tiled
 
-  many : length (recordsOf lent out.outs) ≤ length left + length right
-  many = omega (arith, length-records lent out.outs, operations-most (rulesOf lent) ls rs cs ds n tiledL tiledR, length-ops left 0, length-ops right 0)
+  many : length (records_of lent out.outs) ≤ length left + length right
+  many = omega (arith, length_records lent out.outs, operations_most (rules_of lent) ls rs cs ds n tiled_l tiled_r, length_ops left 0, length_ops right 0)
 
-  tokens : total claimedBy (recordsOf lent out.outs) ≤ total claimedBy left + total claimedBy right
+  tokens : total claimed_by (records_of lent out.outs) ≤ total claimed_by left + total claimed_by right
   tokens =
       omega (
         arith,
-        tokens-total lent n (recordsOf lent out.outs) 0 listedM,
-        ap (total_of (ofInsert (λ f k. k))) same,
-        inserted-most (rulesOf lent) (lawful lent) (λ f k. k) (λ f k z h. omega arith) ls rs cs ds n tiledL tiledR,
-        tokens-total lent n left 0 listedL,
-        tokens-total lent n right 0 listedR,
+        tokens_total lent n (records_of lent out.outs) 0 listed_m,
+        ap (total_of (of_insert (λ f k. k))) same,
+        inserted_most (rules_of lent) (lawful lent) (λ f k. k) (λ f k z h. omega arith) ls rs cs ds n tiled_l tiled_r,
+        tokens_total lent n left 0 listed_l,
+        tokens_total lent n right 0 listed_r,
       )
 
-  adds : total (insertedBy (length lent.inserted) lent.spans lent.keys) (recordsOf lent out.outs)
-      ≤ total (insertedBy (length lent.inserted) lent.spans lent.keys) left + total (insertedBy (length lent.inserted) lent.spans lent.keys) right
+  adds : total (inserted_by (length lent.inserted) lent.spans lent.keys) (records_of lent out.outs)
+      ≤ total (inserted_by (length lent.inserted) lent.spans lent.keys) left + total (inserted_by (length lent.inserted) lent.spans lent.keys) right
   adds =
       omega (
         arith,
-        inserted-total lent n (recordsOf lent out.outs) 0 listedM,
-        ap (total_of (ofInsert (λ f k. sum (lengthsOf lent f k)))) same,
-        inserted-most (rulesOf lent) (lawful lent) (λ f k. sum (lengthsOf lent f k)) (λ f k z h. omega (arith, lengths-split lent z f k h)) ls rs cs ds n tiledL tiledR,
-        inserted-total lent n left 0 listedL,
-        inserted-total lent n right 0 listedR,
+        inserted_total lent n (records_of lent out.outs) 0 listed_m,
+        ap (total_of (of_insert (λ f k. sum (lengths_of lent f k)))) same,
+        inserted_most (rules_of lent) (lawful lent) (λ f k. sum (lengths_of lent f k)) (λ f k z h. omega (arith, lengths_split lent z f k h)) ls rs cs ds n tiled_l tiled_r,
+        inserted_total lent n left 0 listed_l,
+        inserted_total lent n right 0 listed_r,
       )
 
-  textual : textLength (length lent.inserted) lent.spans lent.keys (recordsOf lent out.outs) ≡ total_of (length_of lent) (opsIn out.outs)
-  textual = length-total lent n (recordsOf lent out.outs) 0 listedM ∙ ap (total_of (length_of lent)) same
+  textual : text_length (length lent.inserted) lent.spans lent.keys (records_of lent out.outs) ≡ total_of (length_of lent) (ops_in out.outs)
+  textual = length_total lent n (records_of lent out.outs) 0 listed_m ∙ ap (total_of (length_of lent)) same
 
   -- every cursor comes out exactly once with its identity number, within the merged text, and those of one side keep their order
-  pub merged-cursors : Carried (sorted cs) (sorted ds) (mergeOf (rulesOf lent) left right cs ds).cursors
-      (textLength (length lent.inserted) lent.spans lent.keys (mergeOf (rulesOf lent) left right cs ds).operations)
-  unfolding mergeOf
-  merged-cursors = rw textual (carried (rulesOf lent) (lawful lent) ls rs cs ds n tiledL tiledR)
+  pub merged_cursors : Carried (sorted cs) (sorted ds) (merge_of (rules_of lent) left right cs ds).cursors
+      (text_length (length lent.inserted) lent.spans lent.keys (merge_of (rules_of lent) left right cs ds).operations)
+  unfolding merge_of
+  merged_cursors = rw textual (carried (rules_of lent) (lawful lent) ls rs cs ds n tiled_l tiled_r)
 
   -- "operations, as many as both lists have together; cursors, both counts together"
-  pub merged-operations-most : length (mergeOf (rulesOf lent) left right cs ds).operations ≤ length left + length right
-  unfolding mergeOf
-  merged-operations-most = many
+  pub merged_operations_most : length (merge_of (rules_of lent) left right cs ds).operations ≤ length left + length right
+  unfolding merge_of
+  merged_operations_most = many
 
   -- the text inserted is bounded by both lists together
-  pub merged-text-most : total (insertedBy (length lent.inserted) lent.spans lent.keys) (mergeOf (rulesOf lent) left right cs ds).operations
-      ≤ total (insertedBy (length lent.inserted) lent.spans lent.keys) left + total (insertedBy (length lent.inserted) lent.spans lent.keys) right
-  unfolding mergeOf
-  merged-text-most = adds
+  pub merged_text_most : total (inserted_by (length lent.inserted) lent.spans lent.keys) (merge_of (rules_of lent) left right cs ds).operations
+      ≤ total (inserted_by (length lent.inserted) lent.spans lent.keys) left + total (inserted_by (length lent.inserted) lent.spans lent.keys) right
+  unfolding merge_of
+  merged_text_most = adds
 
   -- "work, twice the insert tokens of both lists": what each state of the merge needs of one half
-  pub merged-work-room : {s : State} → Reached (rulesOf lent) (priorityOf lent ls rs) (start_of ls rs cs ds) s → Enough s (total claimedBy left) (total claimedBy right)
-  merged-work-room r =
-      rw (tokens-total lent n left 0 listedL, tokens-total lent n right 0 listedR) (work-room (rulesOf lent) ls rs cs ds r)
+  pub merged_work_room : {s : State} → Reached (rules_of lent) (priority_of lent ls rs) (start_of ls rs cs ds) s → Enough s (total claimed_by left) (total claimed_by right)
+  merged_work_room r =
+      rw (tokens_total lent n left 0 listed_l, tokens_total lent n right 0 listed_r) (work_room (rules_of lent) ls rs cs ds r)
 
-  pub merged-cursors-all : length (mergeOf (rulesOf lent) left right cs ds).cursors ≡ length cs + length ds
-  merged-cursors-all = omega (arith, carried-length merged-cursors, length-sorted cs, length-sorted ds)
+  pub merged_cursors_all : length (merge_of (rules_of lent) left right cs ds).cursors ≡ length cs + length ds
+  merged_cursors_all = omega (arith, carried_length merged_cursors, length_sorted cs, length_sorted ds)
 
   -- the merged list is an accepted list, within the sizes "for text, history and diff"
-  pub merged-accepted : AcceptedList otherwise lent.original lent.inserted lent.spans lent.keys (mergeOf (rulesOf lent) left right cs ds).operations
-      (mergeOf (rulesOf lent) left right cs ds).cursors
-  unfolding mergeOf
-  merged-accepted =
+  pub merged_accepted : AcceptedList otherwise lent.original lent.inserted lent.spans lent.keys (merge_of (rules_of lent) left right cs ds).operations
+      (merge_of (rules_of lent) left right cs ds).cursors
+  unfolding merge_of
+  merged_accepted =
       record {
-        original-most = al.original-most;
-        text-most = al.text-most;
-        operations-most = omega (arith, many, al.operations-most, ar.operations-most);
-        cursors-most = omega (arith, merged-cursors-all, al.cursors-most, ar.cursors-most);
-        tokens-most = omega (arith, tokens, al.tokens-most, ar.tokens-most);
-        inserted-most = omega (arith, adds, al.inserted-most, ar.inserted-most);
-        shapes = listedM.shapes;
-        tiles = listedM.tiles;
-        within = merged-cursors.within;
+        original_most = al.original_most;
+        text_most = al.text_most;
+        operations_most = omega (arith, many, al.operations_most, ar.operations_most);
+        cursors_most = omega (arith, merged_cursors_all, al.cursors_most, ar.cursors_most);
+        tokens_most = omega (arith, tokens, al.tokens_most, ar.tokens_most);
+        inserted_most = omega (arith, adds, al.inserted_most, ar.inserted_most);
+        shapes = listed_m.shapes;
+        tiles = listed_m.tiles;
+        within = merged_cursors.within;
       }
 
   -- demand 3, first half: the merged records' retains and deletes tile the original, and retain a code point exactly if both lists do
-  pub merged-merges : Merges (opsFrom 0 (mergeOf (rulesOf lent) left right cs ds).operations) (opsFrom 0 left) (opsFrom 0 right) 0 (length lent.original)
-  unfolding mergeOf
-  merged-merges = rw same whole
+  pub merged_merges : Merges (ops_from 0 (merge_of (rules_of lent) left right cs ds).operations) (ops_from 0 left) (ops_from 0 right) 0 (length lent.original)
+  unfolding merge_of
+  merged_merges = rw same whole

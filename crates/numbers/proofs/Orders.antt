@@ -8,19 +8,19 @@ use native.Mathlib.Omega.{arith}
 use lib.Dec.{leb}
 use borrow.Author.Tests.{le-leb, lt-leb}
 
-pub le-or-lt : (a b : ℕ) → (a ≤ b) ⊎ (b < a)
-le-or-lt a b = go (dec_le a b)
+pub le_or_lt : (a b : ℕ) → (a ≤ b) ⊎ (b < a)
+le_or_lt a b = go (dec_le a b)
   where
     go : Dec (a ≤ b) → (a ≤ b) ⊎ (b < a)
     go (yes h) = inl h
     go (no h) = inr (omega arith)
 
-not-le : {a b : ℕ} → (a ≤ b → ⊥) → b < a
-not-le h = omega arith
+not_le : {a b : ℕ} → (a ≤ b → ⊥) → b < a
+not_le h = omega arith
 
-pub leb-same : (a b x y : ℕ) → (a ≤ b → x ≤ y) → (x ≤ y → a ≤ b) → leb a b ≡ leb x y
-leb-same a b x y f g = go (dec_le a b)
+pub leb_same : (a b x y : ℕ) → (a ≤ b → x ≤ y) → (x ≤ y → a ≤ b) → leb a b ≡ leb x y
+leb_same a b x y f g = go (dec_le a b)
   where
     go : Dec (a ≤ b) → leb a b ≡ leb x y
     go (yes h) = le-leb a b h ∙ sym (le-leb x y (f h))
-    go (no h) = lt-leb a b (omega arith) ∙ sym (lt-leb x y (not-le (λ k. h (g k))))
+    go (no h) = lt-leb a b (omega arith) ∙ sym (lt-leb x y (not_le (λ k. h (g k))))

@@ -7,9 +7,9 @@ use lib.Dec.{lit<}
 use mir.Syntax.{w64}
 use mir.Val.{SFits}
 
-pub pos-fits : (k : ℕ) → k < 2 ^ 63 → SFits w64 (pos k)
-pos-fits k h = record { sfits = h }
+pub pos_fits : (k : ℕ) → k < 2 ^ 63 → SFits w64 (pos k)
+pos_fits k h = record { sfits = h }
 
-pub neg-fits : (k : ℕ) → k < 2 ^ 63 → SFits w64 (neg_ℤ (pos k))
-neg-fits zero h = record { sfits = lit< tt }
-neg-fits (suc k) h = record { sfits = lt_of_le_of_lt (le-suc k) h }
+pub neg_fits : (k : ℕ) → k < 2 ^ 63 → SFits w64 (neg_ℤ (pos k))
+neg_fits zero h = record { sfits = lit< tt }
+neg_fits (suc k) h = record { sfits = lt_of_le_of_lt (le-suc k) h }

@@ -7,13 +7,13 @@ use native.Mathlib.Omega.{arith}
 use borrow.Author.Tests.{le-leb, lt-leb}
 use Rattle.numbers.specs.Steps.{step}
 
-pub step-yes : (x n : ℕ) → n ≤ x → 1 ≡ step x n
+pub step_yes : (x n : ℕ) → n ≤ x → 1 ≡ step x n
 unfolding step
-step-yes x n h = rw (le-leb n x h)
+step_yes x n h = rw (le-leb n x h)
 
-pub step-no : (x n : ℕ) → x < n → 0 ≡ step x n
+pub step_no : (x n : ℕ) → x < n → 0 ≡ step x n
 unfolding step
-step-no x n h = rw (lt-leb n x h)
+step_no x n h = rw (lt-leb n x h)
 
-pub step-most : (x n : ℕ) → step x n ≤ 1
-step-most x n = elim (dec_lt x n) [ yes h ↦ omega (arith, step-no x n h) | no h ↦ omega (arith, step-yes x n (omega arith)) ]
+pub step_most : (x n : ℕ) → step x n ≤ 1
+step_most x n = elim (dec_lt x n) [ yes h ↦ omega (arith, step_no x n h) | no h ↦ omega (arith, step_yes x n (omega arith)) ]

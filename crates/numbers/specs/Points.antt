@@ -4,14 +4,14 @@ use Rattle.room.specs.Choice.{pick}
 
 -- "a number above 10FFFF hex or in D800 to DFFF" is none. RFC 3629, section 3: "characters from the U+0000..U+10FFFF range", and
 -- "The definition of UTF-8 prohibits encoding character numbers between U+D800 and U+DFFF"
-unfoldable pub isPoint : ℕ → Bool
-isPoint x = ltb x 0xd800 || (leb 0xe000 x && leb x 0x10ffff)
+unfoldable pub is_point : ℕ → Bool
+is_point x = ltb x 0xd800 || (leb 0xe000 x && leb x 0x10ffff)
 
 -- "a lent text holds a number above 10FFFF hex or in D800 to DFFF", "its index": how many numbers before the first such one; all, where none is
 unfoldable pub scalars : List ℕ → ℕ
 scalars [] = 0
-scalars (x ∷ xs) = pick (isPoint x) (suc (scalars xs)) 0
+scalars (x ∷ xs) = pick (is_point x) (suc (scalars xs)) 0
 
 -- the same, looked for from a place on
-abbrev pub scalarsFrom : List ℕ → ℕ → ℕ
-scalarsFrom s i = i + scalars (drop i s)
+abbrev pub scalars_from : List ℕ → ℕ → ℕ
+scalars_from s i = i + scalars (drop i s)

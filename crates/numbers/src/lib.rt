@@ -1,13 +1,13 @@
 // Numbers: which are code points and how far those of a text are, an order as a number, and a number in a wider type. A cast is a function, so that a proof speaks of the number alone.
 ghost use Rattle.std.specs.Prelude.{◌≡◌, true, ◌<◌, ◌≤◌, length};
-ghost use Rattle.numbers.specs.Points.{isPoint, scalars, scalarsFrom};
+ghost use Rattle.numbers.specs.Points.{is_point, scalars, scalars_from};
 ghost use Rattle.numbers.specs.Steps.{step};
 
 pub mod bytes;
 
 // Whether a number is a code point: no surrogate, and at most 10FFFF. No way out between the tests, so that a caller branches once.
 pub fn is_point(x: u32) -> bool
-    ensures { result ≡ isPoint x }
+    ensures { result ≡ is_point x }
 {
     (x < 0xd800) | ((0xe000 <= x) & (x <= 0x10ffff))
 }
@@ -15,7 +15,7 @@ pub fn is_point(x: u32) -> bool
 // Whether the numbers from one place to another are below the surrogates; they may be and it is not told, since only the bits of all together are looked at. No way out before the end: it is made of vectors.
 fn all_low(text: &[u32], at: usize, end: usize) -> bool
     requires { (at ≤ end) × (end ≤ length text.now) }
-    ensures { result ≡ true → scalarsFrom text.now end ≡ scalarsFrom text.now at }
+    ensures { result ≡ true → scalars_from text.now end ≡ scalars_from text.now at }
 {
     let mut bits: u32 = 0;
     let mut i = at;
@@ -29,7 +29,7 @@ fn all_low(text: &[u32], at: usize, end: usize) -> bool
 // Whether the numbers from one place to another are code points: a surrogate has 27 above its lowest eleven bits, and only the bits of all together are held to 10FFFF, which is quicker. So they may be and it is not told, where some are above FFFFF and others above FFFF. No way out before the end: it is made of vectors.
 fn all_points(text: &[u32], at: usize, end: usize) -> bool
     requires { (at ≤ end) × (end ≤ length text.now) }
-    ensures { result ≡ true → scalarsFrom text.now end ≡ scalarsFrom text.now at }
+    ensures { result ≡ true → scalars_from text.now end ≡ scalars_from text.now at }
 {
     let mut points = true;
     let mut bits: u32 = 0;
@@ -46,7 +46,7 @@ fn all_points(text: &[u32], at: usize, end: usize) -> bool
 // The first place from `at` on that holds no code point, or the end.
 fn points_to(text: &[u32], at: usize, end: usize) -> usize
     requires { (at ≤ end) × (end ≤ length text.now) }
-    ensures { (result ≤ end) × (scalarsFrom text.now result ≡ scalarsFrom text.now at) × (result < end → result ≡ scalarsFrom text.now at) }
+    ensures { (result ≤ end) × (scalars_from text.now result ≡ scalars_from text.now at) × (result < end → result ≡ scalars_from text.now at) }
 {
     let mut i = at;
     'points: while i < end {

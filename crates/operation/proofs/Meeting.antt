@@ -9,53 +9,53 @@ use lib.Dec.{eqb, ltb}
 use lib.ListN.{take, drop, get_or}
 use lib.Seq.{slice, slice_empty, drop-drop}
 use Rattle.overlap.specs.declared.Range.{Range}
-use Rattle.overlap.specs.Overlap.{overlapAt}
+use Rattle.overlap.specs.Overlap.{overlap_at}
 use Rattle.merging.specs.declared.Op.{Op}
 use Rattle.merging.specs.declared.Op.TheVariants.{Delete, Insert, Retain}
-use Rattle.merging.specs.Lent.{Lent, rulesOf, rulesAt, keys_of, lengthsOf, sum}
+use Rattle.merging.specs.Lent.{Lent, rules_of, rules_at, keys_of, lengths_of, sum}
 use Rattle.merging.specs.Operations.{length_of}
-use Rattle.merging.specs.Meeting.{inserted, keptLength, tailOf, behindCut, lostOf, other_of, usedUp}
-use Rattle.merging.specs.Cursors.{place_of, removedOf}
+use Rattle.merging.specs.Meeting.{inserted, kept_length, tail_of, behind_cut, lost_of, other_of, used_up}
+use Rattle.merging.specs.Cursors.{place_of, removed_of}
 use Rattle.operation.specs.declared.Next.TheVariants.{Here, Done}
 use Rattle.operation.specs.declared.Last.{Last}
 use Rattle.operation.specs.declared.Last.TheVariants.{Nothing, Deleted, Retained, Inserted}
-use Rattle.operation.specs.Views.{heads, last_of, ofSpans}
-use Rattle.operation.specs.Meets.{tailBy, lostBy, metBy, usedBy, placeBy}
+use Rattle.operation.specs.Views.{heads, last_of, of_spans}
+use Rattle.operation.specs.Meets.{tail_by, lost_by, met_by, used_by, place_by}
 
 -- a tail in front of what stands behind it
-pub tail-next : (a : Op) (rs ls : List Op) → heads (tailBy a rs) ls ≡ tailOf a rs ls
-unfolding tailBy behindCut
-tail-next (Delete o l) rs ls = refl
-tail-next (Insert o f n) rs ls = refl
-tail-next (Retain o l) rs ls = go (ltb (keptLength o l rs) l)
+pub tail_next : (a : Op) (rs ls : List Op) → heads (tail_by a rs) ls ≡ tail_of a rs ls
+unfolding tail_by behind_cut
+tail_next (Delete o l) rs ls = refl
+tail_next (Insert o f n) rs ls = refl
+tail_next (Retain o l) rs ls = go (ltb (kept_length o l rs) l)
   where
     go :
         (t : Bool)
-        → heads (elim t [ true ↦ Here (Retain (o + keptLength o l rs) (l - keptLength o l rs)) | false ↦ Done ]) ls
-        ≡ elim t [ true ↦ Retain (o + keptLength o l rs) (l - keptLength o l rs) ∷ ls | false ↦ ls ]
+        → heads (elim t [ true ↦ Here (Retain (o + kept_length o l rs) (l - kept_length o l rs)) | false ↦ Done ]) ls
+        ≡ elim t [ true ↦ Retain (o + kept_length o l rs) (l - kept_length o l rs) ∷ ls | false ↦ ls ]
     go true = refl
     go false = refl
 
 module _ (least : ℕ) (lent : Lent) (w : List ℕ) (half fill : ℕ) where
   -- "loses the overlap", "lose from the front the part before the earlier one's end"
-  pub lost-is : (a : Op) (v : Last) → (metBy least lent.keys w fill a v).lost ≡ lostOf (rulesAt least lent) a (last_of w half fill v)
-  unfolding metBy lostBy lostOf keys_of
-  lost-is (Delete o l) Nothing = refl
-  lost-is (Delete o l) (Deleted o' l') = refl
-  lost-is (Delete o l) (Retained o' l') = refl
-  lost-is (Delete o l) (Inserted o' from) = refl
-  lost-is (Insert o f n) Nothing = refl
-  lost-is (Insert o f n) (Deleted o' l') = refl
-  lost-is (Insert o f n) (Retained o' l') = refl
-  lost-is (Insert o f n) (Inserted o' from) = refl
-  lost-is (Retain o l) Nothing = refl
-  lost-is (Retain o l) (Deleted o' l') = refl
-  lost-is (Retain o l) (Retained o' l') = refl
-  lost-is (Retain o l) (Inserted o' from) = refl
+  pub lost_is : (a : Op) (v : Last) → (met_by least lent.keys w fill a v).lost ≡ lost_of (rules_at least lent) a (last_of w half fill v)
+  unfolding met_by lost_by lost_of keys_of
+  lost_is (Delete o l) Nothing = refl
+  lost_is (Delete o l) (Deleted o' l') = refl
+  lost_is (Delete o l) (Retained o' l') = refl
+  lost_is (Delete o l) (Inserted o' from) = refl
+  lost_is (Insert o f n) Nothing = refl
+  lost_is (Insert o f n) (Deleted o' l') = refl
+  lost_is (Insert o f n) (Retained o' l') = refl
+  lost_is (Insert o f n) (Inserted o' from) = refl
+  lost_is (Retain o l) Nothing = refl
+  lost_is (Retain o l) (Deleted o' l') = refl
+  lost_is (Retain o l) (Retained o' l') = refl
+  lost_is (Retain o l) (Inserted o' from) = refl
 
   -- a start that moved by e
-  moved-start : (o from e : ℕ) → last_of w half fill (Inserted o (from + e)) ≡ inserted o (drop e (slice from fill w)) (drop e (slice (half + from) (half + fill) w))
-  moved-start o from e =
+  moved_start : (o from e : ℕ) → last_of w half fill (Inserted o (from + e)) ≡ inserted o (drop e (slice from fill w)) (drop e (slice (half + from) (half + fill) w))
+  moved_start o from e =
       ap₂ (inserted o) (sym (drop-drop e from (take fill w)))
       (ap (λ (n : ℕ). drop n (take (half + fill) w)) (sym (add_assoc half from e)) ∙ sym (drop-drop e (half + from) (take (half + fill) w)))
 
@@ -63,16 +63,16 @@ module _ (least : ℕ) (lent : Lent) (w : List ℕ) (half fill : ℕ) where
   used_all o = ap₂ (inserted o) (slice_empty fill w) (slice_empty (half + fill) w)
 
   -- "the remembered tokens up to the overlap's end are used up, else all are"
-  pub used-is : (a : Op) (v : Last) → last_of w half fill (usedBy a v (metBy least lent.keys w fill a v) fill) ≡ other_of (rulesAt least lent) a (last_of w half fill v)
-  unfolding metBy usedBy usedUp keys_of
-  used-is (Delete o l) v = refl
-  used-is (Insert o f n) Nothing = refl
-  used-is (Insert o f n) (Deleted o' l') = refl
-  used-is (Insert o f n) (Retained o' l') = refl
-  used-is (Insert o f n) (Inserted o' from) = go (eqb (r.end - r.start) n)
+  pub used_is : (a : Op) (v : Last) → last_of w half fill (used_by a v (met_by least lent.keys w fill a v) fill) ≡ other_of (rules_at least lent) a (last_of w half fill v)
+  unfolding met_by used_by used_up keys_of
+  used_is (Delete o l) v = refl
+  used_is (Insert o f n) Nothing = refl
+  used_is (Insert o f n) (Deleted o' l') = refl
+  used_is (Insert o f n) (Retained o' l') = refl
+  used_is (Insert o f n) (Inserted o' from) = go (eqb (r.end - r.start) n)
     where
       r : Range
-      r = overlapAt least (slice from fill w) (slice f (f + n) lent.keys)
+      r = overlap_at least (slice from fill w) (slice f (f + n) lent.keys)
 
       go :
           (t : Bool)
@@ -81,13 +81,13 @@ module _ (least : ℕ) (lent : Lent) (w : List ℕ) (half fill : ℕ) where
             | true ↦ inserted o' (drop r.end (slice from fill w)) (drop r.end (slice (half + from) (half + fill) w))
             | false ↦ inserted o' [] []
           ]
-      go true = moved-start o' from r.end
+      go true = moved_start o' from r.end
       go false = used_all o'
-  used-is (Retain o l) v = refl
+  used_is (Retain o l) v = refl
 
   -- "the overlap's place for inserts, the end of merged text for a retain lost to a retain, one point for a retain lost to a delete"
-  pub place_is : (a : Op) (v : Last) (merged : ℕ) → placeBy w half fill a v (metBy least lent.keys w fill a v) merged ≡ place_of (rulesAt least lent) a (last_of w half fill v) merged
-  unfolding metBy lostBy placeBy place_of lostOf keys_of
+  pub place_is : (a : Op) (v : Last) (merged : ℕ) → place_by w half fill a v (met_by least lent.keys w fill a v) merged ≡ place_of (rules_at least lent) a (last_of w half fill v) merged
+  unfolding met_by lost_by place_by place_of lost_of keys_of
   place_is (Delete o l) v merged = refl
   place_is (Insert o f n) Nothing merged = refl
   place_is (Insert o f n) (Deleted o' l') merged = refl
@@ -99,17 +99,17 @@ module _ (least : ℕ) (lent : Lent) (w : List ℕ) (half fill : ℕ) where
   place_is (Retain o l) (Inserted o' from) merged = refl
 
 -- lengths are read from the spans alone
-pub lengths-of : (lent : Lent) (i k : ℕ) → lengthsOf (ofSpans lent.spans) i k ≡ lengthsOf lent i k
-unfolding lengthsOf
-lengths-of lent i zero = refl
-lengths-of lent i (suc k) = ap (λ (ls : List ℕ). get_or lent.spans (i * 2 + 1) 0 ∷ ls) (lengths-of lent (i + 1) k)
+pub lengths_of : (lent : Lent) (i k : ℕ) → lengths_of (of_spans lent.spans) i k ≡ lengths_of lent i k
+unfolding lengths_of
+lengths_of lent i zero = refl
+lengths_of lent i (suc k) = ap (λ (ls : List ℕ). get_or lent.spans (i * 2 + 1) 0 ∷ ls) (lengths_of lent (i + 1) k)
 
-pub length-is : (lent : Lent) (a : Op) → length_of (ofSpans lent.spans) a ≡ length_of lent a
-length-is lent (Delete o l) = refl
-length-is lent (Insert o f n) = ap sum (lengths-of lent f n)
-length-is lent (Retain o l) = refl
+pub length_is : (lent : Lent) (a : Op) → length_of (of_spans lent.spans) a ≡ length_of lent a
+length_is lent (Delete o l) = refl
+length_is lent (Insert o f n) = ap sum (lengths_of lent f n)
+length_is lent (Retain o l) = refl
 
-pub removed-is : (least : ℕ) (lent : Lent) (a : Op) (z : ℕ) → removedOf (rulesOf (ofSpans lent.spans)) a z ≡ removedOf (rulesAt least lent) a z
-removed-is least lent (Delete o l) z = refl
-removed-is least lent (Insert o f n) z = ap sum (lengths-of lent f z)
-removed-is least lent (Retain o l) z = refl
+pub removed_is : (least : ℕ) (lent : Lent) (a : Op) (z : ℕ) → removed_of (rules_of (of_spans lent.spans)) a z ≡ removed_of (rules_at least lent) a z
+removed_is least lent (Delete o l) z = refl
+removed_is least lent (Insert o f n) z = ap sum (lengths_of lent f z)
+removed_is least lent (Retain o l) z = refl

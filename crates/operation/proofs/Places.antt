@@ -9,24 +9,24 @@ use lib.ListN.{length, drop, length-drop}
 use lib.Seq.{slice, take_all}
 use borrow.Rule.Slice.PartMut.{mid_of}
 use Rattle.merging.specs.Lent.{sum}
-use Rattle.merging.specs.Cursors.{Place, overlapPlace}
+use Rattle.merging.specs.Cursors.{Place, overlap_place}
 use Rattle.operation.specs.declared.Place.{Place as Spot}
 use Rattle.operation.specs.Meets.{Placed, point}
-use Rattle.operation.proofs.Scratch.{part-is}
+use Rattle.operation.proofs.Scratch.{part_is}
 
-pub place_none : (s e : ℕ) (ls : List ℕ) (m : ℕ) → e ≤ s → overlapPlace (record { start = s; end = e }) ls m ≡ point m
-unfolding overlapPlace
-place_none s e ls m h = rw (eq-eqb (e - s) 0 (omega arith), overlapPlace)
+pub place_none : (s e : ℕ) (ls : List ℕ) (m : ℕ) → e ≤ s → overlap_place (record { start = s; end = e }) ls m ≡ point m
+unfolding overlap_place
+place_none s e ls m h = rw (eq-eqb (e - s) 0 (omega arith), overlap_place)
 
-pub place-some :
+pub place_some :
     (s e : ℕ) (ls : List ℕ) (m : ℕ) → s < e
-    → overlapPlace (record { start = s; end = e }) ls m ≡ record { start = m - sum (drop s ls); shared = sum (slice s e ls) }
-unfolding overlapPlace
-place-some s e ls m h = rw (ne_eqb (e - s) 0 (λ z. omega arith), overlapPlace)
+    → overlap_place (record { start = s; end = e }) ls m ≡ record { start = m - sum (drop s ls); shared = sum (slice s e ls) }
+unfolding overlap_place
+place_some s e ls m h = rw (ne_eqb (e - s) 0 (λ z. omega arith), overlap_place)
 
 -- a place of the code that is one of the definition's
-pub placed-as : {r : Spot} {p q : Place} → p ≡ q → r.start ≡ q.start → r.shared ≡ q.shared → Placed r p
-placed-as {r} {p} {q} e a b = subst (Placed r) (sym e) (record { start = a; shared = b })
+pub placed_as : {r : Spot} {p q : Place} → p ≡ q → r.start ≡ q.start → r.shared ≡ q.shared → Placed r p
+placed_as {r} {p} {q} e a b = subst (Placed r) (sym e) (record { start = a; shared = b })
 
 -- the part from a place on is what is left there
 pub rest_part : (s : ℕ) (ls : List ℕ) → mid_of s (length ls - s) ls ≡ drop s ls
@@ -34,8 +34,8 @@ rest_part s ls = take_all (length ls - s) (drop s ls) (omega (arith, length-drop
 
 pub found :
     (s e : ℕ) (ls : List ℕ) (m b h : ℕ) → s < e → e ≤ length ls → b ≡ sum (mid_of s (length ls - s) ls) → h ≡ sum (mid_of s (e - s) ls)
-    → (r : Spot) → r.start ≡ m - b → r.shared ≡ h → Placed r (overlapPlace (record { start = s; end = e }) ls m)
+    → (r : Spot) → r.start ≡ m - b → r.shared ≡ h → Placed r (overlap_place (record { start = s; end = e }) ls m)
 found s e ls m b h l k eb eh r p q =
-    placed-as (place-some s e ls m l)
+    placed_as (place_some s e ls m l)
     (p ∙ ap (λ (x : ℕ). m - x) (eb ∙ ap sum (rest_part s ls)))
-    (q ∙ eh ∙ ap sum (part-is s e ls (omega arith) (omega arith)))
+    (q ∙ eh ∙ ap sum (part_is s e ls (omega arith) (omega arith)))

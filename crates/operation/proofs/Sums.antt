@@ -7,7 +7,7 @@ use native.Mathlib.Omega.{arith}
 use native.Mathlib.Numerals.{add-one}
 use lib.ListN.{length, get_or, drop}
 use lib.Seq.{drop-cons, drop-length}
-use Rattle.merging.specs.Lent.{Lent, lengthsOf, sum}
+use Rattle.merging.specs.Lent.{Lent, lengths_of, sum}
 
 -- a sum over the rest of a list, from place i on
 pub record Summing (xs : List ℕ) (total i : ℕ) : Type 0 where
@@ -27,14 +27,14 @@ summed xs total i s h f =
       small = omega (arith, s.small);
     }
 
-pub all-summed : (xs : List ℕ) (total i : ℕ) → Summing xs total i → i ≡ length xs → total ≡ sum xs
+pub all_summed : (xs : List ℕ) (total i : ℕ) → Summing xs total i → i ≡ length xs → total ≡ sum xs
 unfolding sum
-all-summed xs total i s e = omega (arith, s.whole, ap sum (ap (λ (k : ℕ). drop k xs) e ∙ drop-length xs))
+all_summed xs total i s e = omega (arith, s.whole, ap sum (ap (λ (k : ℕ). drop k xs) e ∙ drop-length xs))
 
 -- the same over the tokens from first on
 pub record Counting (L : Lent) (first count total i : ℕ) : Type 0 where
   pub most : i ≤ count
-  pub whole : total + sum (lengthsOf L (first + i) (count - i)) ≡ sum (lengthsOf L first count)
+  pub whole : total + sum (lengths_of L (first + i) (count - i)) ≡ sum (lengths_of L first count)
   pub small : total ≤ i * 4294967296
 
 pub counting : (L : Lent) (first count : ℕ) → Counting L first count 0 0
@@ -43,7 +43,7 @@ counting L first count =
     let d : count - 0 ≡ count = omega arith in
     record {
       most = omega arith;
-      whole = omega (arith, ap (λ (n : ℕ). sum (lengthsOf L n (count - 0))) e, ap (λ (n : ℕ). sum (lengthsOf L first n)) d);
+      whole = omega (arith, ap (λ (n : ℕ). sum (lengths_of L n (count - 0))) e, ap (λ (n : ℕ). sum (lengths_of L first n)) d);
       small = omega arith;
     }
 
@@ -51,18 +51,18 @@ pub counted :
     (L : Lent) (first count total i : ℕ) → Counting L first count total i → i < count
     → get_or L.spans ((first + i) * 2 + 1) 0 < 4294967296
     → Counting L first count (total + get_or L.spans ((first + i) * 2 + 1) 0) (i + 1)
-unfolding sum lengthsOf
+unfolding sum lengths_of
 counted L first count total i s h f =
     let k : count - i ≡ suc (count - (i + 1)) = omega arith in
     let j : first + i + 1 ≡ first + (i + 1) = omega arith in
     record {
       most = omega arith;
-      whole = omega (arith, s.whole, ap (λ (n : ℕ). sum (lengthsOf L (first + i) n)) k, ap (λ (n : ℕ). sum (lengthsOf L n (count - (i + 1)))) j);
+      whole = omega (arith, s.whole, ap (λ (n : ℕ). sum (lengths_of L (first + i) n)) k, ap (λ (n : ℕ). sum (lengths_of L n (count - (i + 1)))) j);
       small = omega (arith, s.small);
     }
 
-pub all-counted : (L : Lent) (first count total i : ℕ) → Counting L first count total i → i ≡ count → total ≡ sum (lengthsOf L first count)
-unfolding sum lengthsOf
-all-counted L first count total i s e =
+pub all_counted : (L : Lent) (first count total i : ℕ) → Counting L first count total i → i ≡ count → total ≡ sum (lengths_of L first count)
+unfolding sum lengths_of
+all_counted L first count total i s e =
     let k : count - i ≡ zero = omega arith in
-    omega (arith, s.whole, ap (λ (n : ℕ). sum (lengthsOf L (first + i) n)) k)
+    omega (arith, s.whole, ap (λ (n : ℕ). sum (lengths_of L (first + i) n)) k)

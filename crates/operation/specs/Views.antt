@@ -61,8 +61,8 @@ Lies spans (Insert o f n) = ((f + n) * 2 ≤ length spans) × (n ≤ 65536)
 Lies spans (Retain o l) = Unit {0}
 
 -- the part of what was lent that a function sees
-abbrev pub ofSpans : List ℕ → Lent
-ofSpans spans = record { original = []; inserted = []; spans = spans; keys = [] }
+abbrev pub of_spans : List ℕ → Lent
+of_spans spans = record { original = []; inserted = []; spans = spans; keys = [] }
 
 -- the work room after n of its numbers from a place on were used
 pub record Scratched (w w' : List ℕ) (at n : ℕ) : Type 0 where

@@ -1,15 +1,15 @@
 // What a taken operation meets: the cut of a retain, the meet rule, and the overlap of inserts.
 ghost use Rattle.std.specs.Prelude.{◌≡◌, ◌+◌, ◌-◌, ◌*◌, ◌≤◌, min, [], length};
 ghost use Rattle.std.proofs.Math.Seq.{slice};
-ghost use Rattle.overlap.specs.Overlap.{overlapAt};
-ghost use Rattle.merging.specs.Lent.{lengthsOf, sum, rulesOf};
+ghost use Rattle.overlap.specs.Overlap.{overlap_at};
+ghost use Rattle.merging.specs.Lent.{lengths_of, sum, rules_of};
 ghost use Rattle.merging.specs.Operations.{length_of};
-ghost use Rattle.merging.specs.Meeting.{cutAt, cutAtEnd, keptLength, frontOf};
+ghost use Rattle.merging.specs.Meeting.{cut_at, cut_at_end, kept_length, front_of};
 ghost use Rattle.merging.specs.Meeting.{shortened as without};
-ghost use Rattle.merging.specs.Cursors.{overlapPlace, removedOf};
+ghost use Rattle.merging.specs.Cursors.{overlap_place, removed_of};
 ghost use Rattle.numbers.specs.Sizes.{most};
-ghost use Rattle.operation.specs.Views.{heads, reach, size, tokens, NextFits, LastFits, Apart, Meetable, Reaches, Lies, Placeable, Scratched, ofSpans};
-ghost use Rattle.operation.specs.Meets.{tailBy, lostBy, met, metBy, usedBy, placeBy, Placed};
+ghost use Rattle.operation.specs.Views.{heads, reach, size, tokens, NextFits, LastFits, Apart, Meetable, Reaches, Lies, Placeable, Scratched, of_spans};
+ghost use Rattle.operation.specs.Meets.{tail_by, lost_by, met, met_by, used_by, place_by, Placed};
 
 use merging::{Op, order_of};
 use numbers::wide;
@@ -35,7 +35,7 @@ pub enum Last {
 // How much of a retain is taken where the cut is at a boundary.
 pub fn cut_at(order: usize, length: usize, boundary: usize) -> usize
     requires { order + length ≤ most }
-    ensures { result ≡ cutAt order length boundary }
+    ensures { result ≡ cut_at order length boundary }
 {
     if order < boundary {
         if boundary < order + length {
@@ -47,7 +47,7 @@ pub fn cut_at(order: usize, length: usize, boundary: usize) -> usize
 
 fn cut_at_end(order: usize, length: usize, next: Op) -> usize
     requires { (order + length ≤ most) × (reach next ≤ most) }
-    ensures { result ≡ cutAtEnd order length next }
+    ensures { result ≡ cut_at_end order length next }
 {
     match next {
         Op::Delete {
@@ -69,7 +69,7 @@ fn cut_at_end(order: usize, length: usize, next: Op) -> usize
 // How much of a retain is taken before what is next on the other side.
 pub fn kept_length(order: usize, length: usize, next: Next) -> usize
     requires { (order + length ≤ most) × NextFits next }
-    ensures { result ≡ keptLength order length (heads next []) }
+    ensures { result ≡ kept_length order length (heads next []) }
 {
     match next {
         Next::Done => length,
@@ -94,7 +94,7 @@ pub struct Split {
 // A retain up to where the other side's next operation starts or ends, and its tail.
 pub fn split_retain_before(a: Op, next: Next) -> Split
     requires { (reach a ≤ most) × NextFits next }
-    ensures { (result.front ≡ frontOf a (heads next [])) × (result.tail ≡ tailBy a (heads next [])) }
+    ensures { (result.front ≡ front_of a (heads next [])) × (result.tail ≡ tail_by a (heads next [])) }
 {
     match a {
         Op::Delete { order, length } => Split {
@@ -150,7 +150,7 @@ pub fn past(a: usize, b: usize) -> usize
 // side. An insert loses nothing by it.
 pub fn merge_operations(a: Op, last: Last) -> usize
     requires { LastFits last }
-    ensures { result ≡ lostBy a last }
+    ensures { result ≡ lost_by a last }
 {
     match a {
         Op::Delete { order, length } => match last {
@@ -232,7 +232,7 @@ pub fn insert_overlap(
     table: usize,
 ) -> Range
     requires { (first + count ≤ length keys.now) × (count ≤ 8192) × (table + count ≤ length work.old) × (from ≤ fill) × (fill ≤ length work.old) × Apart from fill table count }
-    ensures value { result ≡ overlapAt least (slice from fill work.old) (slice first (first + count) keys.now) }
+    ensures value { result ≡ overlap_at least (slice from fill work.old) (slice first (first + count) keys.now) }
     ensures scratched { Scratched work.old work.new table count }
 {
     let end = first + count;
@@ -263,7 +263,7 @@ pub fn merge_operations_consuming_insert(
     table: usize,
 ) -> Met
     requires { LastFits last × Meetable keys.now work.old a last fill table }
-    ensures value { result ≡ metBy least keys.now work.old fill a last }
+    ensures value { result ≡ met_by least keys.now work.old fill a last }
     ensures scratched { Scratched work.old work.new table (tokens a) }
 {
     match a {
@@ -300,7 +300,7 @@ pub fn merge_operations_consuming_insert(
 // overlap's end, any other uses all.
 pub fn used_up(a: Op, last: Last, met: Met, fill: usize) -> Last
     requires { Reaches last met fill }
-    ensures { result ≡ usedBy a last met fill }
+    ensures { result ≡ used_by a last met fill }
 {
     match a {
         Op::Delete { order, length } => last,
@@ -353,7 +353,7 @@ pub fn sum_of(lengths: &[u32]) -> usize
 // The sum of the lengths of tokens.
 pub fn tokens_length(spans: &[u32], first: usize, count: usize) -> usize
     requires { ((first + count) * 2 ≤ length spans.now) × (count ≤ 65536) }
-    ensures { result ≡ sum (lengthsOf (ofSpans spans.now) first count) }
+    ensures { result ≡ sum (lengths_of (of_spans spans.now) first count) }
 {
     let mut total: usize = 0;
     let mut i: usize = 0;
@@ -367,7 +367,7 @@ pub fn tokens_length(spans: &[u32], first: usize, count: usize) -> usize
 // How much text an operation gives.
 pub fn length_of(spans: &[u32], a: Op) -> usize
     requires { Lies spans.now a }
-    ensures { result ≡ length_of (ofSpans spans.now) a }
+    ensures { result ≡ length_of (of_spans spans.now) a }
 {
     match a {
         Op::Delete { order, length } => 0,
@@ -383,7 +383,7 @@ pub fn length_of(spans: &[u32], a: Op) -> usize
 // How much of an operation's own text its lost front is.
 pub fn removed_of(spans: &[u32], a: Op, lost: usize) -> usize
     requires { Lies spans.now a × (lost ≤ size a) }
-    ensures { result ≡ removedOf (rulesOf (ofSpans spans.now)) a lost }
+    ensures { result ≡ removed_of (rules_of (of_spans spans.now)) a lost }
 {
     match a {
         Op::Delete { order, length } => 0,
@@ -406,7 +406,7 @@ pub struct Place {
 // The overlap's place: the remembered tokens, of these lengths, end the merged text.
 pub fn overlap_place(lengths: &[u32], start: usize, end: usize, merged: usize) -> Place
     requires { (start ≤ end) × (end ≤ length lengths.now) × (length lengths.now ≤ 65536) }
-    ensures { Placed result (overlapPlace (record { start = start; end = end }) lengths.now merged) }
+    ensures { Placed result (overlap_place (record { start = start; end = end }) lengths.now merged) }
 {
     if end <= start {
         return Place {
@@ -433,7 +433,7 @@ pub fn place_of(
     merged: usize,
 ) -> Place
     requires { Placeable work.now half fill last met }
-    ensures { Placed result (placeBy work.now half fill a last met merged) }
+    ensures { Placed result (place_by work.now half fill a last met merged) }
 {
     match a {
         Op::Delete { order, length } => Place {

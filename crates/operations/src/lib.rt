@@ -2,7 +2,7 @@
 // by one walk from the first operation to the last. What the walk does at one operation is a function
 // of its own, on values.
 ghost use Rattle.std.specs.Prelude.{◌≡◌, ◌+◌, min, leb};
-ghost use Rattle.operations.specs.Folds.{moved_to, stoppedAt, tileStep, tileEnd, shapeStep, shapeEnd, passed, sumStep, walkFrom, walkStep, walkAll, walkVerdict, walkLength};
+ghost use Rattle.operations.specs.Folds.{moved_to, stopped_at, tile_step, tile_end, shape_step, shape_end, passed, sum_step, walk_from, walk_step, walk_all, walk_verdict, walk_length};
 
 use verdict::Verdict;
 
@@ -67,7 +67,7 @@ fn moved(t: Tile, at: usize) -> Tile
 }
 
 fn stopped(t: Tile) -> Tile
-    ensures { result ≡ stoppedAt t }
+    ensures { result ≡ stopped_at t }
 {
     Tile {
         n: t.n,
@@ -78,7 +78,7 @@ fn stopped(t: Tile) -> Tile
 }
 
 fn tile_step(t: Tile, o: records::Operation) -> Tile
-    ensures { result ≡ tileStep t o }
+    ensures { result ≡ tile_step t o }
 {
     if !t.good {
         return t;
@@ -100,7 +100,7 @@ fn tile_step(t: Tile, o: records::Operation) -> Tile
 
 // Refusal 2, at the end of a walk.
 fn tile_end(t: Tile) -> Verdict
-    ensures { result ≡ tileEnd t }
+    ensures { result ≡ tile_end t }
 {
     let index = t.index;
     if t.good {
@@ -112,7 +112,7 @@ fn tile_end(t: Tile) -> Verdict
 }
 
 fn shape_step(spans: &[u32], keys: &[u32], m: usize, s: Shape, o: records::Operation) -> Shape
-    ensures { result ≡ shapeStep m spans.now keys.now s o }
+    ensures { result ≡ shape_step m spans.now keys.now s o }
 {
     if !s.good {
         return s;
@@ -129,7 +129,7 @@ fn shape_step(spans: &[u32], keys: &[u32], m: usize, s: Shape, o: records::Opera
 
 // Refusal 1, at the end of a walk.
 fn shape_end(s: Shape) -> Verdict
-    ensures { result ≡ shapeEnd s }
+    ensures { result ≡ shape_end s }
 {
     let index = s.index;
     if s.good {
@@ -168,7 +168,7 @@ fn at_most(n: usize, most: usize) -> usize
 
 // Tokens are read only while they keep their size.
 fn sum_step(spans: &[u32], keys: &[u32], m: usize, s: Sum, o: records::Operation) -> Sum
-    ensures { result ≡ sumStep m spans.now keys.now s o }
+    ensures { result ≡ sum_step m spans.now keys.now s o }
 {
     if !s.fits {
         return s;
@@ -199,7 +199,7 @@ fn sum_step(spans: &[u32], keys: &[u32], m: usize, s: Sum, o: records::Operation
 
 // The start of a walk over a list of an original of n code points.
 pub fn walk_start(n: usize, m: usize) -> Walk
-    ensures { result ≡ walkFrom n m }
+    ensures { result ≡ walk_from n m }
 {
     let tile = Tile {
         n,
@@ -228,7 +228,7 @@ pub fn walk_start(n: usize, m: usize) -> Walk
 
 // A walk with one operation more. Past a size nothing is looked at: refusal 3 hides the others.
 pub fn walk_step(spans: &[u32], keys: &[u32], w: Walk, o: records::Operation) -> Walk
-    ensures { result ≡ walkStep spans.now keys.now w o }
+    ensures { result ≡ walk_step spans.now keys.now w o }
 {
     let m = w.m;
     let tile = w.tile;
@@ -261,7 +261,7 @@ pub fn walk_all(
     keys: &[u32],
     operations: &[records::Operation],
 ) -> Walk
-    ensures { result ≡ walkAll spans.now keys.now operations.now (walkFrom n m) }
+    ensures { result ≡ walk_all spans.now keys.now operations.now (walk_from n m) }
 {
     let mut w = walk_start(n, m);
     let mut i = 0;
@@ -274,7 +274,7 @@ pub fn walk_all(
 
 // Refusals 3, 4, 1 and 2 of a list, in this order, at the end of its walk.
 pub fn walk_verdict(original: &[u32], text: &[u32], w: Walk) -> Verdict
-    ensures { result ≡ walkVerdict original.now text.now w }
+    ensures { result ≡ walk_verdict original.now text.now w }
 {
     let sum = w.sum;
     if !sizes::lent_fits(original, text) {
@@ -296,7 +296,7 @@ pub fn walk_verdict(original: &[u32], text: &[u32], w: Walk) -> Verdict
 
 // The same refusals, or the length of the list's text.
 pub fn walk_length(original: &[u32], text: &[u32], w: Walk) -> refusal::Counted
-    ensures { result ≡ walkLength original.now text.now w }
+    ensures { result ≡ walk_length original.now text.now w }
 {
     let sum = w.sum;
     match walk_verdict(original, text, w) {

@@ -6,7 +6,7 @@
 ghost use Rattle.std.specs.Prelude.{◌≡◌, [], ◌∷◌, length};
 ghost use Rattle.merging.specs.Lent.{lent_of};
 ghost use Rattle.replay.specs.Answers.{counted};
-ghost use Rattle.apply.specs.Answers.{textOn, verdictOn};
+ghost use Rattle.apply.specs.Answers.{text_on, verdict_on};
 
 use records::Operation;
 use refusal::Counted;
@@ -168,7 +168,7 @@ fn verdict_of(
     second: Operation,
     third: Operation,
 ) -> Verdict
-    ensures { result ≡ verdictOn (lent_of original.now text.now spans.now keys.now) (first ∷ second ∷ third ∷ []) [] }
+    ensures { result ≡ verdict_on (lent_of original.now text.now spans.now keys.now) (first ∷ second ∷ third ∷ []) [] }
 {
     let list = [first, second, third];
     reconcile::structs::check_tiling(original, text, spans, keys, &list)
@@ -183,7 +183,7 @@ fn length_of(
     second: Operation,
     third: Operation,
 ) -> Counted
-    ensures { result ≡ counted (verdictOn (lent_of original.now text.now spans.now keys.now) (first ∷ second ∷ third ∷ []) []) (length (textOn (lent_of original.now text.now spans.now keys.now) (first ∷ second ∷ third ∷ []))) }
+    ensures { result ≡ counted (verdict_on (lent_of original.now text.now spans.now keys.now) (first ∷ second ∷ third ∷ []) []) (length (text_on (lent_of original.now text.now spans.now keys.now) (first ∷ second ∷ third ∷ []))) }
 {
     let list = [first, second, third];
     reconcile::structs::text_length(original, text, spans, keys, &list)

@@ -9,91 +9,91 @@ use Rattle.merging.specs.declared.Order.{Order}
 use Rattle.merging.specs.declared.Order.TheVariants.{Less, Equal, Greater}
 use Rattle.merging.specs.declared.Op.{Op}
 use Rattle.merging.specs.declared.Op.TheVariants.{Delete, Insert, Retain}
-use Rattle.merging.specs.Lent.{Lent, spellingOf}
+use Rattle.merging.specs.Lent.{Lent, spelling_of}
 use Rattle.merging.specs.Operations.{order_of, kind_of}
-use Rattle.merging.specs.OrderRule.{compareNumbers, compareSpelling, contentRule, orderRule}
+use Rattle.merging.specs.OrderRule.{compare_numbers, compare_spelling, content_rule, order_rule}
 use Rattle.order.specs.Readable.{Run, Readable}
 
 module _ (a b : ℕ) where
-  pub number-less : a < b → compareNumbers a b ≡ Less
-  unfolding compareNumbers
-  number-less h = rw (lt-ltb a b h, compareNumbers)
+  pub number_less : a < b → compare_numbers a b ≡ Less
+  unfolding compare_numbers
+  number_less h = rw (lt-ltb a b h, compare_numbers)
 
-  pub number-greater : b < a → compareNumbers a b ≡ Greater
-  unfolding compareNumbers
-  number-greater h = rw (le-ltb a b (omega arith), lt-ltb b a h, compareNumbers)
+  pub number_greater : b < a → compare_numbers a b ≡ Greater
+  unfolding compare_numbers
+  number_greater h = rw (le-ltb a b (omega arith), lt-ltb b a h, compare_numbers)
 
-  pub number-equal : b ≤ a → a ≤ b → compareNumbers a b ≡ Equal
-  unfolding compareNumbers
-  number-equal h g = rw (le-ltb a b h, le-ltb b a g, compareNumbers)
+  pub number_equal : b ≤ a → a ≤ b → compare_numbers a b ≡ Equal
+  unfolding compare_numbers
+  number_equal h g = rw (le-ltb a b h, le-ltb b a g, compare_numbers)
 
 module _ {ks bs : List ℕ} where
-  pub none-none : ks ≡ [] → bs ≡ [] → compareSpelling ks bs ≡ Equal
-  unfolding compareSpelling
-  none-none e f = rw (e, f)
+  pub none_none : ks ≡ [] → bs ≡ [] → compare_spelling ks bs ≡ Equal
+  unfolding compare_spelling
+  none_none e f = rw (e, f)
 
-  pub none-some : {y : ℕ} {ys : List ℕ} → ks ≡ [] → bs ≡ y ∷ ys → compareSpelling ks bs ≡ Less
-  unfolding compareSpelling
-  none-some e f = rw (e, f)
+  pub none_some : {y : ℕ} {ys : List ℕ} → ks ≡ [] → bs ≡ y ∷ ys → compare_spelling ks bs ≡ Less
+  unfolding compare_spelling
+  none_some e f = rw (e, f)
 
-  pub some-none : {x : ℕ} {xs : List ℕ} → ks ≡ x ∷ xs → bs ≡ [] → compareSpelling ks bs ≡ Greater
-  unfolding compareSpelling
-  some-none e f = rw (e, f)
+  pub some_none : {x : ℕ} {xs : List ℕ} → ks ≡ x ∷ xs → bs ≡ [] → compare_spelling ks bs ≡ Greater
+  unfolding compare_spelling
+  some_none e f = rw (e, f)
 
   module _ {x y : ℕ} {xs ys : List ℕ} (e : ks ≡ x ∷ xs) (f : bs ≡ y ∷ ys) where
-    pub less : x < y → compareSpelling ks bs ≡ Less
-    unfolding compareSpelling
-    less h = rw (e, f, lt-ltb x y h, compareSpelling)
+    pub less : x < y → compare_spelling ks bs ≡ Less
+    unfolding compare_spelling
+    less h = rw (e, f, lt-ltb x y h, compare_spelling)
 
-    pub greater : y < x → compareSpelling ks bs ≡ Greater
-    unfolding compareSpelling
-    greater h = rw (e, f, le-ltb x y (omega arith), lt-ltb y x h, compareSpelling)
+    pub greater : y < x → compare_spelling ks bs ≡ Greater
+    unfolding compare_spelling
+    greater h = rw (e, f, le-ltb x y (omega arith), lt-ltb y x h, compare_spelling)
 
-    pub alike : y ≤ x → x ≤ y → compareSpelling ks bs ≡ compareSpelling xs ys
-    unfolding compareSpelling
-    alike h g = rw (e, f, le-ltb x y h, le-ltb y x g, compareSpelling)
+    pub alike : y ≤ x → x ≤ y → compare_spelling ks bs ≡ compare_spelling xs ys
+    unfolding compare_spelling
+    alike h g = rw (e, f, le-ltb x y h, le-ltb y x g, compare_spelling)
 
 module _ (lent : Lent) (a b : Op) where
-  pub order-less : order_of a < order_of b → Less ≡ orderRule lent a b
-  unfolding orderRule
-  order-less h = rw (number-less _ _ h)
+  pub order_less : order_of a < order_of b → Less ≡ order_rule lent a b
+  unfolding order_rule
+  order_less h = rw (number_less _ _ h)
 
-  pub order-greater : order_of b < order_of a → Greater ≡ orderRule lent a b
-  unfolding orderRule
-  order-greater h = rw (number-greater _ _ h)
+  pub order_greater : order_of b < order_of a → Greater ≡ order_rule lent a b
+  unfolding order_rule
+  order_greater h = rw (number_greater _ _ h)
 
   module _ (h : order_of b ≤ order_of a) (g : order_of a ≤ order_of b) where
-    pub kind-less : kind_of a < kind_of b → Less ≡ orderRule lent a b
-    unfolding orderRule
-    kind-less k = rw (number-equal _ _ h g, number-less _ _ k)
+    pub kind_less : kind_of a < kind_of b → Less ≡ order_rule lent a b
+    unfolding order_rule
+    kind_less k = rw (number_equal _ _ h g, number_less _ _ k)
 
-    pub kind-greater : kind_of b < kind_of a → Greater ≡ orderRule lent a b
-    unfolding orderRule
-    kind-greater k = rw (number-equal _ _ h g, number-greater _ _ k)
+    pub kind_greater : kind_of b < kind_of a → Greater ≡ order_rule lent a b
+    unfolding order_rule
+    kind_greater k = rw (number_equal _ _ h g, number_greater _ _ k)
 
-    pub by-content : {r : Order} → kind_of b ≤ kind_of a → kind_of a ≤ kind_of b → r ≡ contentRule lent a b → r ≡ orderRule lent a b
-    unfolding orderRule
-    by-content k l e = rw (number-equal _ _ h g, number-equal _ _ k l) e
+    pub by_content : {r : Order} → kind_of b ≤ kind_of a → kind_of a ≤ kind_of b → r ≡ content_rule lent a b → r ≡ order_rule lent a b
+    unfolding order_rule
+    by_content k l e = rw (number_equal _ _ h g, number_equal _ _ k l) e
 
 -- what holds for the cases that two operations were found to be holds for them
-pub by-case : (lent : Lent) {a b x y : Op} {r : Order} → a ≡ x → b ≡ y → r ≡ contentRule lent x y → r ≡ contentRule lent a b
-by-case lent e f h = rw (e, f) h
+pub by_case : (lent : Lent) {a b x y : Op} {r : Order} → a ≡ x → b ≡ y → r ≡ content_rule lent x y → r ≡ content_rule lent a b
+by_case lent e f h = rw (e, f) h
 
 -- an operation that was found to be an insert has its tokens lent
 pub run_of : {text spans keys : List ℕ} {a : Op} {o f n : ℕ} → a ≡ Insert o f n → Readable text spans keys a → Run text spans keys f n
 run_of e h = rw e at h
 
 -- a spelling, and an operation, is equal to itself
-pub same-spelling : (ks : List ℕ) → compareSpelling ks ks ≡ Equal
-unfolding compareSpelling
-same-spelling [] = refl
-same-spelling (x ∷ xs) = alike {ks = x ∷ xs} {bs = x ∷ xs} refl refl (omega arith) (omega arith) ∙ same-spelling xs
+pub same_spelling : (ks : List ℕ) → compare_spelling ks ks ≡ Equal
+unfolding compare_spelling
+same_spelling [] = refl
+same_spelling (x ∷ xs) = alike {ks = x ∷ xs} {bs = x ∷ xs} refl refl (omega arith) (omega arith) ∙ same_spelling xs
 
-same-content : (lent : Lent) (a : Op) → contentRule lent a a ≡ Equal
-unfolding contentRule
-same-content lent (Delete o l) = number-equal l l (omega arith) (omega arith)
-same-content lent (Insert o f n) = same-spelling (spellingOf lent f n)
-same-content lent (Retain o l) = number-equal l l (omega arith) (omega arith)
+same_content : (lent : Lent) (a : Op) → content_rule lent a a ≡ Equal
+unfolding content_rule
+same_content lent (Delete o l) = number_equal l l (omega arith) (omega arith)
+same_content lent (Insert o f n) = same_spelling (spelling_of lent f n)
+same_content lent (Retain o l) = number_equal l l (omega arith) (omega arith)
 
-pub itself : (lent : Lent) (a : Op) → Equal ≡ orderRule lent a a
-itself lent a = by-content lent a a (omega arith) (omega arith) (omega arith) (omega arith) (sym (same-content lent a))
+pub itself : (lent : Lent) (a : Op) → Equal ≡ order_rule lent a a
+itself lent a = by_content lent a a (omega arith) (omega arith) (omega arith) (omega arith) (sym (same_content lent a))

@@ -5,32 +5,32 @@ use mathlib.Core.List.{List, [], ◌∷◌}
 use Rattle.merging.specs.declared.Op.{Op}
 use Rattle.merging.specs.declared.Op.TheVariants.{Delete, Insert, Retain}
 use Rattle.merging.specs.Lent.{Lent}
-use Rattle.merging.specs.OrderRule.{contentRule, orderRule, priorityOf}
-use Rattle.order.specs.Readable.{ofText}
+use Rattle.merging.specs.OrderRule.{content_rule, order_rule, priority_of}
+use Rattle.order.specs.Readable.{of_text}
 
 abbrev pub seen : Lent → Lent
-seen lent = ofText lent.inserted lent.spans lent.keys
+seen lent = of_text lent.inserted lent.spans lent.keys
 
 module _ (lent : Lent) where
-  pub content-of : (a b : Op) → contentRule lent a b ≡ contentRule (seen lent) a b
-  unfolding contentRule
-  content-of (Delete o l) (Delete o' l') = refl
-  content-of (Delete o l) (Insert o' f n) = refl
-  content-of (Delete o l) (Retain o' l') = refl
-  content-of (Insert o f n) (Delete o' l') = refl
-  content-of (Insert o f n) (Insert o' f' n') = refl
-  content-of (Insert o f n) (Retain o' l') = refl
-  content-of (Retain o l) (Delete o' l') = refl
-  content-of (Retain o l) (Insert o' f n) = refl
-  content-of (Retain o l) (Retain o' l') = refl
+  pub content_of : (a b : Op) → content_rule lent a b ≡ content_rule (seen lent) a b
+  unfolding content_rule
+  content_of (Delete o l) (Delete o' l') = refl
+  content_of (Delete o l) (Insert o' f n) = refl
+  content_of (Delete o l) (Retain o' l') = refl
+  content_of (Insert o f n) (Delete o' l') = refl
+  content_of (Insert o f n) (Insert o' f' n') = refl
+  content_of (Insert o f n) (Retain o' l') = refl
+  content_of (Retain o l) (Delete o' l') = refl
+  content_of (Retain o l) (Insert o' f n) = refl
+  content_of (Retain o l) (Retain o' l') = refl
 
-  pub order-of : (a b : Op) → orderRule lent a b ≡ orderRule (seen lent) a b
-  unfolding orderRule
-  order-of a b = rw (content-of a b)
+  pub order_of : (a b : Op) → order_rule lent a b ≡ order_rule (seen lent) a b
+  unfolding order_rule
+  order_of a b = rw (content_of a b)
 
-  pub priority-of : (ls rs : List Op) → priorityOf lent ls rs ≡ priorityOf (seen lent) ls rs
-  unfolding priorityOf
-  priority-of [] [] = refl
-  priority-of [] (b ∷ rs) = refl
-  priority-of (a ∷ ls) [] = refl
-  priority-of (a ∷ ls) (b ∷ rs) = rw (order-of a b, priority-of ls rs)
+  pub priority_of : (ls rs : List Op) → priority_of lent ls rs ≡ priority_of (seen lent) ls rs
+  unfolding priority_of
+  priority_of [] [] = refl
+  priority_of [] (b ∷ rs) = refl
+  priority_of (a ∷ ls) [] = refl
+  priority_of (a ∷ ls) (b ∷ rs) = rw (order_of a b, priority_of ls rs)

@@ -1,12 +1,12 @@
 -- What the functions that read a spelling say to one another. Assumes nothing.
 use Rattle.std.specs.Prelude.{ℕ, ◌+◌, ◌-◌, ◌*◌, ◌≤◌, ◌<◌, ◌≡◌, List, ◌++◌, length, get_or, take, drop}
-use Rattle.records.specs.Tokens.{tokensLent, spelling}
+use Rattle.records.specs.Tokens.{tokens_lent, spelling}
 use Rattle.order.specs.declared.spelling.Reader.{Reader}
 
 -- a place in a spelling lies in the text, and what comes behind it in the tokens
 pub record Good (text spans keys : List ℕ) (r : Reader) : Type 0 where
   pub to : r.to ≤ length text
-  pub lent : r.end ≤ tokensLent spans keys
+  pub lent : r.end ≤ tokens_lent spans keys
   pub inside : (i : ℕ) → r.next ≤ i → i < r.end → get_or spans (i * 2) 0 + get_or spans (i * 2 + 1) 0 ≤ length text
 
 -- what is left of the spelling at a place

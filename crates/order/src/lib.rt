@@ -3,10 +3,10 @@
 mod spelling;
 
 ghost use Rattle.std.specs.Prelude.{◌≡◌, true};
-ghost use Rattle.records.specs.Operations.{operationsOf};
-ghost use Rattle.merging.specs.Operations.{kind_of, opsFrom};
-ghost use Rattle.merging.specs.OrderRule.{compareNumbers, contentRule, orderRule, priorityOf};
-ghost use Rattle.order.specs.Readable.{ofText, Readable, Ready, SamePart};
+ghost use Rattle.records.specs.Operations.{operations_of};
+ghost use Rattle.merging.specs.Operations.{kind_of, ops_from};
+ghost use Rattle.merging.specs.OrderRule.{compare_numbers, content_rule, order_rule, priority_of};
+ghost use Rattle.order.specs.Readable.{of_text, Readable, Ready, SamePart};
 
 use merging::{Op, Order, order_of, span_of};
 use records::Operation;
@@ -26,7 +26,7 @@ fn kind_of(a: Op) -> usize
 }
 
 fn compare(a: usize, b: usize) -> Order
-    ensures { result ≡ compareNumbers a b }
+    ensures { result ≡ compare_numbers a b }
 {
     if a < b {
         return Order::Less;
@@ -41,7 +41,7 @@ fn compare(a: usize, b: usize) -> Order
 pub fn deterministic_content_cmp(text: &[u32], spans: &[u32], keys: &[u32], a: Op, b: Op) -> Order
     requires readable { Readable text.now spans.now keys.now a }
     requires readable_2 { Readable text.now spans.now keys.now b }
-    ensures { result ≡ contentRule (ofText text.now spans.now keys.now) a b }
+    ensures { result ≡ content_rule (of_text text.now spans.now keys.now) a b }
 {
     match a {
         Op::Delete { order, length } => match b {
@@ -103,7 +103,7 @@ pub fn deterministic_content_cmp(text: &[u32], spans: &[u32], keys: &[u32], a: O
 pub fn cmp_priority(text: &[u32], spans: &[u32], keys: &[u32], a: Op, b: Op) -> Order
     requires readable { Readable text.now spans.now keys.now a }
     requires readable_2 { Readable text.now spans.now keys.now b }
-    ensures { result ≡ orderRule (ofText text.now spans.now keys.now) a b }
+    ensures { result ≡ order_rule (of_text text.now spans.now keys.now) a b }
 {
     let order = order_of(a);
     let other_order = order_of(b);
@@ -153,9 +153,9 @@ pub fn stream_priority(
     left: &[usize],
     right: &[usize],
 ) -> Order
-    requires ready { Ready text.now spans.now keys.now 0 (opsFrom 0 (operationsOf left.now)) }
-    requires ready_2 { Ready text.now spans.now keys.now 0 (opsFrom 0 (operationsOf right.now)) }
-    ensures { result ≡ priorityOf (ofText text.now spans.now keys.now) (opsFrom 0 (operationsOf left.now)) (opsFrom 0 (operationsOf right.now)) }
+    requires ready { Ready text.now spans.now keys.now 0 (ops_from 0 (operations_of left.now)) }
+    requires ready_2 { Ready text.now spans.now keys.now 0 (ops_from 0 (operations_of right.now)) }
+    ensures { result ≡ priority_of (of_text text.now spans.now keys.now) (ops_from 0 (operations_of left.now)) (ops_from 0 (operations_of right.now)) }
 {
     let lefts = left.len() / 6;
     let rights = right.len() / 6;

@@ -1,7 +1,7 @@
 // Two runs of tokens compared by what they spell, across the tokens' boundaries.
 ghost use Rattle.std.specs.Prelude.{◌≡◌, ◌<◌};
 ghost use Rattle.records.specs.Tokens.{spelling};
-ghost use Rattle.merging.specs.OrderRule.{compareSpelling};
+ghost use Rattle.merging.specs.OrderRule.{compare_spelling};
 ghost use Rattle.order.specs.Readable.{Run};
 ghost use Rattle.order.specs.Spelling.{Good, Settled, passed};
 
@@ -67,7 +67,7 @@ pub fn compare_spelling(
 ) -> Order
     requires run { Run text.now spans.now keys.now first count }
     requires run_2 { Run text.now spans.now keys.now other others }
-    ensures { result ≡ compareSpelling (spelling text.now spans.now keys.now first count) (spelling text.now spans.now keys.now other others) }
+    ensures { result ≡ compare_spelling (spelling text.now spans.now keys.now first count) (spelling text.now spans.now keys.now other others) }
 {
     let mut p = Reader {
         at: 0,

@@ -15,68 +15,68 @@ use Rattle.records.specs.declared.Operation.{Operation}
 use Rattle.diff.specs.declared.diff.Item.{Item as LentItem}
 use Rattle.diff.specs.declared.diff.Item.TheVariants as I
 use Rattle.diff.specs.Items as D
-use Rattle.diff.specs.Replay.{Edit, retain, delete, insert, editOf, editsOf, replayed}
+use Rattle.diff.specs.Replay.{Edit, retain, delete, insert, edit_of, edits_of, replayed}
 use Rattle.diff.specs.Checks.{fits}
 use Rattle.replay.specs.Answers.{Diff, diff, edits, text_of, covering, roomed, Replayed}
 use Rattle.verdict.specs.declared.Verdict.{Verdict}
 use Rattle.verdict.specs.declared.Verdict.TheVariants.{Accepted, Refused}
 use Rattle.verdict.specs.Verdicts.{and_then}
 use Rattle.sizes.specs.Sizes.{otherwise}
-use Rattle.sizes.specs.Texts.{listText}
+use Rattle.sizes.specs.Texts.{list_text}
 use Rattle.edit_format.specs.Items.{Item, Keep, Drop, Add, texts, Good}
-use Rattle.edit_format.specs.Records.{recordsOf}
-use Rattle.edit_format.proofs.RecordLaws.{length-records}
-use Rattle.writable.specs.Writable.{fileItem, fileItems, fileOf}
-use Rattle.edit_write.proofs.Rewriting.{same-items}
-use Rattle.edit_write.proofs.Replaying.{covers-all}
+use Rattle.edit_format.specs.Records.{records_of}
+use Rattle.edit_format.proofs.RecordLaws.{length_records}
+use Rattle.writable.specs.Writable.{file_item, file_items, file_of}
+use Rattle.edit_write.proofs.Rewriting.{same_items}
+use Rattle.edit_write.proofs.Replaying.{covers_all}
 use Rattle.merging.specs.Lent.{Lent}
-use Rattle.merging.specs.Operations.{opsFrom}
-use Rattle.merging.specs.Outputs.{toDiff}
+use Rattle.merging.specs.Operations.{ops_from}
+use Rattle.merging.specs.Outputs.{to_diff}
 use Rattle.merging_laws.proofs.Outputs.{agrees}
 use Rattle.to_diff.specs.declared.Diffed.TheVariants.{Counts}
-use Rattle.to_diff.specs.Items.{item_of, items_of, diffOf}
-use Rattle.to_diff.specs.Answers.{verdictOn, room_for, verdictIn, answer_of, Diffs}
-use Rattle.outputs.proofs.GoodItems.{Accepts, accepts, diff-good, diff-original}
+use Rattle.to_diff.specs.Items.{item_of, items_of, diff_of}
+use Rattle.to_diff.specs.Answers.{verdict_on, room_for, verdict_in, answer_of, Diffs}
+use Rattle.outputs.proofs.GoodItems.{Accepts, accepts, diff_good, diff_original}
 
 -- an item's edit
-backOf : Item → Edit
-backOf (Keep n) = retain n
-backOf (Drop n) = delete n
-backOf (Add s) = insert s
+back_of : Item → Edit
+back_of (Keep n) = retain n
+back_of (Drop n) = delete n
+back_of (Add s) = insert s
 
-backsOf : List Item → List Edit
-backsOf [] = []
-backsOf (i ∷ is) = backOf i ∷ backsOf is
+backs_of : List Item → List Edit
+backs_of [] = []
+backs_of (i ∷ is) = back_of i ∷ backs_of is
 
-back-item : (e : Edit) → backOf (item_of e) ≡ e
-unfolding backOf item_of
-back-item (retain n) = refl
-back-item (delete n) = refl
-back-item (insert s) = refl
+back_item : (e : Edit) → back_of (item_of e) ≡ e
+unfolding back_of item_of
+back_item (retain n) = refl
+back_item (delete n) = refl
+back_item (insert s) = refl
 
-back_items : (es : List Edit) → backsOf (items_of es) ≡ es
-unfolding backsOf items_of
+back_items : (es : List Edit) → backs_of (items_of es) ≡ es
+unfolding backs_of items_of
 back_items [] = refl
-back_items (e ∷ es) = rw (back-item e, back_items es)
+back_items (e ∷ es) = rw (back_item e, back_items es)
 
-back-lent : (text : List ℕ) (i : LentItem) → editOf text i ≡ backOf (fileItem text i)
-unfolding backOf editOf fileItem
-back-lent text (I.Retain n) = refl
-back-lent text (I.Delete n) = refl
-back-lent text (I.Insert s n) = refl
-back-lent text I.Neither = refl
+back_lent : (text : List ℕ) (i : LentItem) → edit_of text i ≡ back_of (file_item text i)
+unfolding back_of edit_of file_item
+back_lent text (I.Retain n) = refl
+back_lent text (I.Delete n) = refl
+back_lent text (I.Insert s n) = refl
+back_lent text I.Neither = refl
 
-back-edits : (text : List ℕ) (is : List LentItem) → editsOf text is ≡ backsOf (fileItems text is)
-unfolding backsOf editsOf fileItems
-back-edits text [] = refl
-back-edits text (i ∷ is) = rw (back-lent text i, back-edits text is)
+back_edits : (text : List ℕ) (is : List LentItem) → edits_of text is ≡ backs_of (file_items text is)
+unfolding backs_of edits_of file_items
+back_edits text [] = refl
+back_edits text (i ∷ is) = rw (back_lent text i, back_edits text is)
 
 -- the records of good items decode to their edits
-decoded : (o : List ℕ) (es : List Edit) → Good (items_of es) → edits (diff o (recordsOf (items_of es)) (texts (items_of es))) ≡ es
-unfolding edits fileOf
+decoded : (o : List ℕ) (es : List Edit) → Good (items_of es) → edits (diff o (records_of (items_of es)) (texts (items_of es))) ≡ es
+unfolding edits file_of
 decoded o es g =
     let is : List Item = items_of es in
-    back-edits (texts is) (D.items_of (recordsOf is) (length (texts is))) ∙ (ap backsOf (same-items is g) ∙ back_items es)
+    back_edits (texts is) (D.items_of (records_of is) (length (texts is))) ∙ (ap backs_of (same_items is g) ∙ back_items es)
 
 -- what the counts of an accepted call say
 counts_of : (v w : Verdict) (is : List Item) (n m : ℕ) → Counts n m ≡ answer_of (and_then v w) is → (v ≡ Accepted) ×
@@ -89,50 +89,50 @@ counts_of (Refused r) w is n m h = let z : ◌≡◌ {A = ℕ} 0 1 = cc in absur
 -- what an accepted call wrote: so many items and code points at the start of its rooms
 pub record Written (lent : Lent) (os : List Operation) (n m : ℕ) (d' : List ℤ) (e' : List ℕ) : Type 0 where
   pub accepted : Accepts lent os
-  pub many : n ≡ length (diffOf lent os)
-  pub long : m ≡ length (texts (diffOf lent os))
-  pub items : take (n * 3) d' ≡ recordsOf (diffOf lent os)
-  pub text : take m e' ≡ texts (diffOf lent os)
+  pub many : n ≡ length (diff_of lent os)
+  pub long : m ≡ length (texts (diff_of lent os))
+  pub items : take (n * 3) d' ≡ records_of (diff_of lent os)
+  pub text : take m e' ≡ texts (diff_of lent os)
 
 -- the answer at the start of a room
 pub front : {A : Type 0} (s d d' : List A) (k : ℕ) → k ≡ length s → d' ≡ answered s d → take k d' ≡ s
 front s d d' k e f = rw (e, f) (take-append_seam s _)
 
 pub written_of : (lent : Lent) (os : List Operation) {d d' : List ℤ} {e e' : List ℕ} {n m : ℕ} → Diffs lent os d e d' e' (Counts n m) → Written lent os n m d' e'
-unfolding verdictIn
+unfolding verdict_in
 written_of lent os {d} {d'} {e} {e'} {n} {m} h =
-    let c = counts_of (verdictOn lent os) (room_for (diffOf lent os) (length d) (length e)) (diffOf lent os) n m h.answer in
+    let c = counts_of (verdict_on lent os) (room_for (diff_of lent os) (length d) (length e)) (diff_of lent os) n m h.answer in
     record {
       accepted = accepts lent os c.0;
       many = c.1.1.0;
       long = c.1.1.1;
-      items = front (recordsOf (diffOf lent os)) d d' (n * 3) (omega (arith, c.1.1.0, length-records (diffOf lent os))) (rw c.1.0 at h.items);
-      text = front (texts (diffOf lent os)) e e' m c.1.1.1 (rw c.1.0 at h.text);
+      items = front (records_of (diff_of lent os)) d d' (n * 3) (omega (arith, c.1.1.0, length_records (diff_of lent os))) (rw c.1.0 at h.items);
+      text = front (texts (diff_of lent os)) e e' m c.1.1.1 (rw c.1.0 at h.text);
     }
 
 module _ (lent : Lent) (os : List Operation) {n m : ℕ} {d' : List ℤ} {e' : List ℕ} (w : Written lent os n m d' e') where
   -- the covering replay accepts it
-  pub replay-accepted : covering (diff lent.original (take (n * 3) d') (take m e')) ≡ Accepted
-  replay-accepted =
+  pub replay_accepted : covering (diff lent.original (take (n * 3) d') (take m e')) ≡ Accepted
+  replay_accepted =
       rw (w.items, w.text)
-      (covers-all (diffOf lent os) (diff-good lent os w.accepted) lent.original (sym (diff-original lent os w.accepted)) w.accepted.original)
+      (covers_all (diff_of lent os) (diff_good lent os w.accepted) lent.original (sym (diff_original lent os w.accepted)) w.accepted.original)
 
   -- and gives the list's text
-  pub replay-text : text_of (diff lent.original (take (n * 3) d') (take m e')) ≡ listText lent.original lent.inserted lent.spans lent.keys os
-  unfolding text_of diffOf
-  replay-text =
+  pub replay_text : text_of (diff lent.original (take (n * 3) d') (take m e')) ≡ list_text lent.original lent.inserted lent.spans lent.keys os
+  unfolding text_of diff_of
+  replay_text =
       rw (w.items, w.text)
-      (ap (replayed lent.original) (decoded lent.original (toDiff lent (opsFrom 0 os)) (diff-good lent os w.accepted))
+      (ap (replayed lent.original) (decoded lent.original (to_diff lent (ops_from 0 os)) (diff_good lent os w.accepted))
       ∙ (agrees lent otherwise os [] w.accepted.list).replay)
 
   -- from rooms to rooms: a replay over what was written, by any rule that accepts what the covering one accepts, leaves the list's text in its room
-  pub replays-back : (check : Diff → Verdict) → ((x : Diff) → covering x ≡ Accepted → check x ≡ Accepted)
+  pub replays_back : (check : Diff → Verdict) → ((x : Diff) → covering x ≡ Accepted → check x ≡ Accepted)
       → {room room' : List ℕ} {r : Counted} → Replayed check (diff lent.original (take (n * 3) d') (take m e')) room r room'
-      → length (listText lent.original lent.inserted lent.spans lent.keys os) ≤ length room
-      → (r ≡ Count (length (listText lent.original lent.inserted lent.spans lent.keys os)))
-      × (room' ≡ answered (listText lent.original lent.inserted lent.spans lent.keys os) room)
+      → length (list_text lent.original lent.inserted lent.spans lent.keys os) ≤ length room
+      → (r ≡ Count (length (list_text lent.original lent.inserted lent.spans lent.keys os)))
+      × (room' ≡ answered (list_text lent.original lent.inserted lent.spans lent.keys os) room)
   unfolding roomed fits and_then
-  replays-back check accepts-it {room} {room'} {r} h l =
-      let t = le-ltb (length room) (length (listText lent.original lent.inserted lent.spans lent.keys os)) l in
-      let c = accepts-it (diff lent.original (take (n * 3) d') (take m e')) replay-accepted in
-      (rw (c, replay-text, t) at h.answer, rw (c, replay-text, t) at h.leaving)
+  replays_back check accepts-it {room} {room'} {r} h l =
+      let t = le-ltb (length room) (length (list_text lent.original lent.inserted lent.spans lent.keys os)) l in
+      let c = accepts-it (diff lent.original (take (n * 3) d') (take m e')) replay_accepted in
+      (rw (c, replay_text, t) at h.answer, rw (c, replay_text, t) at h.leaving)

@@ -8,7 +8,7 @@ use native.Mathlib.Nat.{eq-or-lt_of_le}
 use native.Mathlib.Omega.{arith}
 use lib.ListN.{get_or, set, length}
 use lib.Seq.{get_or-set_same, get_or-set_other}
-use Rattle.numbers.proofs.Orders.{le-or-lt}
+use Rattle.numbers.proofs.Orders.{le_or_lt}
 use Rattle.overlap.specs.Table.{Ends, Best, Table}
 
 -- a candidate for the next place: k keys end the first i, and no l keys with the next one, l < b, end the first i + 1 with l above k
@@ -86,8 +86,8 @@ module _ {p t : List ℕ} where
   }
 
 -- the table's first entry, and the next
-pub table-one : (p w : List ℕ) → 0 < length w → Table p (set w 0 0) 1
-table-one p w h = record {
+pub table_one : (p w : List ℕ) → 0 < length w → Table p (set w 0 0) 1
+table_one p w h = record {
   at = λ j hj h1.
       let z : j - 1 ≡ 0 = omega arith in
       subst (λ (x : ℕ). Best p p j j x) (sym (ap (λ (n : ℕ). get_or (set w 0 0) n 0) z ∙ get_or-set_same w 0 0 0 h))
@@ -126,8 +126,8 @@ module _ {p t : List ℕ} {m : ℕ} where
     first = λ l j lm ji e h. omega arith;
   }
 
-  pub seen-longer : {i s e k : ℕ} → Seen p t m i s e → Best p t (m + 1) (i + 1) k → e - s < k → Seen p t m (i + 1) (i + 1 - k) (i + 1)
-  seen-longer {i} {s} {e} {k} g f h =
+  pub seen_longer : {i s e k : ℕ} → Seen p t m i s e → Best p t (m + 1) (i + 1) k → e - s < k → Seen p t m (i + 1) (i + 1 - k) (i + 1)
+  seen_longer {i} {s} {e} {k} g f h =
       let q : k ≡ i + 1 - (i + 1 - k) = omega (arith, f.ends.low) in
       record {
         low = omega arith;
@@ -142,8 +142,8 @@ module _ {p t : List ℕ} {m : ℕ} where
             ⊎_elim (λ (y : j ≡ i + 1). omega arith) (λ (y : j < i + 1). absurd (omega (arith, g.most l j lm (omega arith) x))) (eq-or-lt_of_le ji);
       }
 
-  pub seen-kept : {i s e k : ℕ} → Seen p t m i s e → Best p t (m + 1) (i + 1) k → k ≤ e - s → Seen p t m (i + 1) s e
-  seen-kept {i} {s} {e} {k} g f h = record {
+  pub seen_kept : {i s e k : ℕ} → Seen p t m i s e → Best p t (m + 1) (i + 1) k → k ≤ e - s → Seen p t m (i + 1) s e
+  seen_kept {i} {s} {e} {k} g f h = record {
     low = g.low;
     high = omega (arith, g.high);
     ends = g.ends;
@@ -157,13 +157,13 @@ module _ {p t : List ℕ} {m : ℕ} where
   }
 
   -- all of p was found: nothing past this place matters
-  pub seen-whole : {i s e : ℕ} (n : ℕ) → Seen p t m i s e → i ≤ n → m ≤ e - s → Seen p t m n s e
-  seen-whole {i} {s} {e} n g h w = record {
+  pub seen_whole : {i s e : ℕ} (n : ℕ) → Seen p t m i s e → i ≤ n → m ≤ e - s → Seen p t m n s e
+  seen_whole {i} {s} {e} n g h w = record {
     low = g.low;
     high = omega (arith, g.high);
     ends = g.ends;
     fits = g.fits;
     most = λ l j lm jn x. omega arith;
     first = λ l j lm jn x hl.
-        ⊎_elim (λ (y : j ≤ i). g.first l j lm y x hl) (λ (y : i < j). omega (arith, g.high)) (le-or-lt j i);
+        ⊎_elim (λ (y : j ≤ i). g.first l j lm y x hl) (λ (y : i < j). omega (arith, g.high)) (le_or_lt j i);
   }

@@ -11,16 +11,16 @@ use lib.ListN.{length, take, drop, length-take, length-drop}
 use lib.Dec.{eqb, ltb}
 use borrow.Author.Tests.{eqb-true, eq-eqb, ne_eqb, ltb-true, lt-ltb, le-ltb}
 use Rattle.room.proofs.Bools.{and_left, and_right}
-use Rattle.room.proofs.Choices.{pick-elim}
-use Rattle.overlap.specs.Overlap.{range, same, occurs, first, longest, overlapOf, width_of, counted, overlapAt, touched, Answered}
+use Rattle.room.proofs.Choices.{pick_elim}
+use Rattle.overlap.specs.Overlap.{range, same, occurs, first, longest, overlap_of, width_of, counted, overlap_at, touched, Answered}
 use Rattle.overlap.specs.declared.Range.{Range}
 use Rattle.overlap.specs.declared.Found.{Found}
 
-same-eq : (xs ys : List ℕ) → same xs ys ≡ true → xs ≡ ys
-same-eq [] [] h = refl
-same-eq [] (y ∷ ys) h = cc
-same-eq (x ∷ xs) [] h = cc
-same-eq (x ∷ xs) (y ∷ ys) h = ap₂ ◌∷◌ (eqb-true x y (and_left (eqb x y) (same xs ys) h)) (same-eq xs ys (and_right (eqb x y) (same xs ys) h))
+same_eq : (xs ys : List ℕ) → same xs ys ≡ true → xs ≡ ys
+same_eq [] [] h = refl
+same_eq [] (y ∷ ys) h = cc
+same_eq (x ∷ xs) [] h = cc
+same_eq (x ∷ xs) (y ∷ ys) h = ap₂ ◌∷◌ (eqb-true x y (and_left (eqb x y) (same xs ys) h)) (same_eq xs ys (and_right (eqb x y) (same xs ys) h))
 
 same_refl : (xs : List ℕ) → same xs xs ≡ true
 same_refl [] = refl
@@ -28,15 +28,15 @@ same_refl (x ∷ xs) = rw (eq-eqb x x refl, same_refl xs)
 
 -- the test of an occurrence, and what it says
 module _ (old new : List ℕ) (k s : ℕ) where
-  pub occurs-eq : occurs old new k s ≡ true → take k (drop s old) ≡ take k new
-  occurs-eq h = same-eq _ _ h
+  pub occurs_eq : occurs old new k s ≡ true → take k (drop s old) ≡ take k new
+  occurs_eq h = same_eq _ _ h
 
-  pub eq-occurs : take k (drop s old) ≡ take k new → occurs old new k s ≡ true
-  eq-occurs e = ap (λ (l : List ℕ). same l (take k new)) e ∙ same_refl (take k new)
+  pub eq_occurs : take k (drop s old) ≡ take k new → occurs old new k s ≡ true
+  eq_occurs e = ap (λ (l : List ℕ). same l (take k new)) e ∙ same_refl (take k new)
 
   -- what occurs lies in old
-  pub occurs-in : k ≤ length new → 0 < k → occurs old new k s ≡ true → s + k ≤ length old
-  occurs-in kn z h = omega (arith, simp (length-take, length-drop) at (ap length (occurs-eq h)))
+  pub occurs_in : k ≤ length new → 0 < k → occurs old new k s ≡ true → s + k ≤ length old
+  occurs_in kn z h = omega (arith, simp (length-take, length-drop) at (ap length (occurs_eq h)))
 
 -- from place s on, r is the first where the first k keys occur
 record Place (old new : List ℕ) (k s r : ℕ) : Type 0 where
@@ -79,9 +79,9 @@ module _ (old new : List ℕ) where
       let q : k ≡ r + k - r = omega arith in
       record {
         low = omega arith;
-        high = occurs-in old new k r kn z p.here;
+        high = occurs_in old new k r kn z p.here;
         fits = omega arith;
-        keys = subst (λ (n : ℕ). take n (drop r old) ≡ take n new) q (occurs-eq old new k r p.here);
+        keys = subst (λ (n : ℕ). take n (drop r old) ≡ take n new) q (occurs_eq old new k r p.here);
         most = λ l s lk h. omega arith;
         early = λ s h. p.before s (omega arith) (subst (λ (n : ℕ). occurs old new n s ≡ true) (sym q) h);
       }
@@ -98,15 +98,15 @@ module _ (old new : List ℕ) where
         most = λ l s lk h.
             ⊎_elim (λ (q : l ≡ suc k).
             let o : occurs old new (suc k) s ≡ true = subst (λ (n : ℕ). occurs old new n s ≡ true) q h in
-            absurd (none s (omega arith) (omega (arith, occurs-in old new (suc k) s kn (omega arith) o)) o))
+            absurd (none s (omega arith) (omega (arith, occurs_in old new (suc k) s kn (omega arith) o)) o))
             (λ (q : l < suc k). g.most l s (omega arith) h)
             (eq-or-lt_of_le lk);
         early = g.early;
       }
 
-  longest-overlaps : (k : ℕ) → k ≤ length new → Overlap old new k (longest old new k)
+  longest_overlaps : (k : ℕ) → k ≤ length new → Overlap old new k (longest old new k)
   unfolding longest Finds
-  longest-overlaps zero kn =
+  longest_overlaps zero kn =
       record {
         low = omega arith;
         high = omega arith;
@@ -115,35 +115,35 @@ module _ (old new : List ℕ) where
         most = λ l s lk h. omega arith;
         early = λ s h. omega arith;
       }
-  longest-overlaps (suc k) kn =
+  longest_overlaps (suc k) kn =
       ⊎_elim (λ w. rw w.2 (found (suc k) w.0 (omega arith) kn w.1))
-      (λ w. rw w.1 (passed k kn (longest-overlaps k (omega arith)) w.0))
+      (λ w. rw w.1 (passed k kn (longest_overlaps k (omega arith)) w.0))
       (finds old new (suc k) (longest old new k) (length old) 0)
 
-  pub overlaps : Overlap old new (length new) (overlapOf old new)
-  unfolding overlapOf
-  overlaps = longest-overlaps (length new) (omega arith)
+  pub overlaps : Overlap old new (length new) (overlap_of old new)
+  unfolding overlap_of
+  overlaps = longest_overlaps (length new) (omega arith)
 
   -- two ranges that are the longest and the first are one
-  pub the-only : {r : Range} → Overlap old new (length new) r → r ≡ overlapOf old new
-  the-only {r} g =
+  pub the_only : {r : Range} → Overlap old new (length new) r → r ≡ overlap_of old new
+  the_only {r} g =
       let o = overlaps in
-      let f = overlapOf old new in
-      let a = o.most (r.end - r.start) r.start g.fits (eq-occurs old new (r.end - r.start) r.start g.keys) in
-      let b = g.most (f.end - f.start) f.start o.fits (eq-occurs old new (f.end - f.start) f.start o.keys) in
+      let f = overlap_of old new in
+      let a = o.most (r.end - r.start) r.start g.fits (eq_occurs old new (r.end - r.start) r.start g.keys) in
+      let b = g.most (f.end - f.start) f.start o.fits (eq_occurs old new (f.end - f.start) f.start o.keys) in
       let q : r.end - r.start ≡ f.end - f.start = omega arith in
-      let c = o.early r.start (subst (λ (n : ℕ). occurs old new n r.start ≡ true) q (eq-occurs old new (r.end - r.start) r.start g.keys)) in
+      let c = o.early r.start (subst (λ (n : ℕ). occurs old new n r.start ≡ true) q (eq_occurs old new (r.end - r.start) r.start g.keys)) in
       let d = g.early f.start
-      (subst (λ (n : ℕ). occurs old new n f.start ≡ true) (sym q) (eq-occurs old new (f.end - f.start) f.start o.keys)) in
+      (subst (λ (n : ℕ). occurs old new n f.start ≡ true) (sym q) (eq_occurs old new (f.end - f.start) f.start o.keys)) in
       ap₂ range (omega arith) (omega (arith, g.low, o.low))
 
   -- of no key, and in no key, there is none
-  pub of_none : length new ≡ 0 → overlapOf old new ≡ range 0 0
-  of_none z = sym (the-only
+  pub of_none : length new ≡ 0 → overlap_of old new ≡ range 0 0
+  of_none z = sym (the_only
       (record { low = omega arith; high = omega arith; fits = omega arith; keys = refl; most = λ l s lk h. omega arith; early = λ s h. omega arith }))
 
-  pub in-none : length old ≡ 0 → overlapOf old new ≡ range 0 0
-  in-none z = ap₂ range (omega (arith, overlaps.high, overlaps.low)) (omega (arith, overlaps.high))
+  pub in_none : length old ≡ 0 → overlap_of old new ≡ range 0 0
+  in_none z = ap₂ range (omega (arith, overlaps.high, overlaps.low)) (omega (arith, overlaps.high))
 
 -- a range of fewer keys than the least number counts as none, but not one of all n keys
 module _ (least n : ℕ) (r : Range) where
@@ -151,17 +151,17 @@ module _ (least n : ℕ) (r : Range) where
   unfolding counted
   counted_none h k = rw (lt-ltb (width_of r) least h, ne_eqb (width_of r) n k)
 
-  pub counted-all : width_of r < least → width_of r ≡ n → counted least n r ≡ r
+  pub counted_all : width_of r < least → width_of r ≡ n → counted least n r ≡ r
   unfolding counted
-  counted-all h k = rw (lt-ltb (width_of r) least h, eq-eqb (width_of r) n k)
+  counted_all h k = rw (lt-ltb (width_of r) least h, eq-eqb (width_of r) n k)
 
-  pub counted-enough : least ≤ width_of r → counted least n r ≡ r
+  pub counted_enough : least ≤ width_of r → counted least n r ≡ r
   unfolding counted
-  counted-enough h = rw (le-ltb (width_of r) least h)
+  counted_enough h = rw (le-ltb (width_of r) least h)
 
 -- the overlap, counted
-pub counted_is : (least : ℕ) (old new : List ℕ) {n : ℕ} {r : Range} → n ≡ length new → r ≡ overlapOf old new → counted least n r ≡ overlapAt least old new
-unfolding overlapAt
+pub counted_is : (least : ℕ) (old new : List ℕ) {n : ℕ} {r : Range} → n ≡ length new → r ≡ overlap_of old new → counted least n r ≡ overlap_at least old new
+unfolding overlap_at
 counted_is least old new en er = ap₂ (counted least) en er
 
 -- r is a part of old, and no longer than new
@@ -172,33 +172,33 @@ pub record Part (old new : List ℕ) (r : Range) : Type 0 where
 
 module _ (old new : List ℕ) where
   -- the overlap that a merge counts is a part of old, whatever the least number
-  pub part_at : (least : ℕ) → Part old new (overlapAt least old new)
-  unfolding overlapAt counted
+  pub part_at : (least : ℕ) → Part old new (overlap_at least old new)
+  unfolding overlap_at counted
   part_at least =
       let o = overlaps old new in
-      pick-elim (Part old new) (ltb (width_of (overlapOf old new)) least && not (eqb (width_of (overlapOf old new)) (length new)))
+      pick_elim (Part old new) (ltb (width_of (overlap_of old new)) least && not (eqb (width_of (overlap_of old new)) (length new)))
       (λ e. record { low = omega arith; high = omega arith; fits = omega arith })
       (λ e. record { low = o.low; high = o.high; fits = o.fits })
 
   -- an overlap of no key is 0..0
-  width-none : width_of (overlapOf old new) ≡ 0 → overlapOf old new ≡ range 0 0
-  width-none z =
+  width_none : width_of (overlap_of old new) ≡ 0 → overlap_of old new ≡ range 0 0
+  width_none z =
       let o = overlaps old new in
       let s = o.early 0 (subst (λ (n : ℕ). occurs old new n 0 ≡ true) (sym z) refl) in
       ap₂ range (omega arith) (omega (arith, o.low))
 
   -- "0..0 if none": with 1 for the least number the overlap that a merge counts is the paper's
-  pub at_one : overlapAt 1 old new ≡ overlapOf old new
-  unfolding overlapAt counted
+  pub at_one : overlap_at 1 old new ≡ overlap_of old new
+  unfolding overlap_at counted
   at_one =
-      pick-elim (λ (r : Range). r ≡ overlapOf old new) (ltb (width_of (overlapOf old new)) 1 && not (eqb (width_of (overlapOf old new)) (length new)))
+      pick_elim (λ (r : Range). r ≡ overlap_of old new) (ltb (width_of (overlap_of old new)) 1 && not (eqb (width_of (overlap_of old new)) (length new)))
       (λ e.
-      sym (width-none
-      (omega (arith, ltb-true (width_of (overlapOf old new)) 1 (and_left (ltb (width_of (overlapOf old new)) 1) (not (eqb (width_of (overlapOf old new)) (length new))) e)))))
+      sym (width_none
+      (omega (arith, ltb-true (width_of (overlap_of old new)) 1 (and_left (ltb (width_of (overlap_of old new)) 1) (not (eqb (width_of (overlap_of old new)) (length new))) e)))))
       (λ e. refl)
 
 -- equal lists overlap whole
-pub whole : (keys : List ℕ) → overlapOf keys keys ≡ range 0 (length keys)
+pub whole : (keys : List ℕ) → overlap_of keys keys ≡ range 0 (length keys)
 whole keys =
     let o = overlaps keys keys in
     let m = o.most (length keys) 0 (omega arith) (same_refl (take (length keys) keys)) in

@@ -3,9 +3,9 @@
 use mathlib.Core.Path.{◌≡◌, refl}
 use mathlib.Core.List.{map}
 use lib.ListN.{length}
-use Rattle.overlap.specs.Overlap.{first, longest, overlapOf, answer_of}
+use Rattle.overlap.specs.Overlap.{first, longest, overlap_of, answer_of}
 use Rattle.overlap.specs.Sheets.{Sheet, old, sheets}
 
-pub sheets-hold : map (λ (s : Sheet). answer_of old s.new (length s.new)) sheets ≡ map (λ (s : Sheet). s.gives) sheets
-unfolding first longest overlapOf answer_of
-sheets-hold = refl
+pub sheets_hold : map (λ (s : Sheet). answer_of old s.new (length s.new)) sheets ≡ map (λ (s : Sheet). s.gives) sheets
+unfolding first longest overlap_of answer_of
+sheets_hold = refl

@@ -9,9 +9,9 @@ use native.Mathlib.Omega.{arith}
 use lib.ListN.{length, drop, get_or, set, length-set}
 use lib.Seq.{drop-set-lt}
 use Rattle.overlap.specs.Table.{Best, Table, Filled}
-use Rattle.overlap.specs.Overlap.{range, overlapOf}
-use Rattle.overlap.proofs.Endings.{Cand, Seen, none, begin, fall, hit, miss, table-one, table_more, seen_none, seen-longer, seen-kept, seen-whole}
-use Rattle.overlap.proofs.Search.{overlap-seen}
+use Rattle.overlap.specs.Overlap.{range, overlap_of}
+use Rattle.overlap.proofs.Endings.{Cand, Seen, none, begin, fall, hit, miss, table_one, table_more, seen_none, seen_longer, seen_kept, seen_whole}
+use Rattle.overlap.proofs.Search.{overlap_seen}
 
 pub record Filling (new table₀ table : List ℕ) (matched i : ℕ) : Type 0 where
   pub pos : 0 < i
@@ -22,21 +22,21 @@ pub record Filling (new table₀ table : List ℕ) (matched i : ℕ) : Type 0 wh
   pub best : Best new new i i matched
   pub kept : drop (length new) table ≡ drop (length new) table₀
 
-pub filling-none : (new table : List ℕ) → 0 < length new → length new ≤ length table → Filling new (set table 0 0) (set table 0 0) 0 1
-filling-none new table h k =
+pub filling_none : (new table : List ℕ) → 0 < length new → length new ≤ length table → Filling new (set table 0 0) (set table 0 0) 0 1
+filling_none new table h k =
     record {
       pos = omega arith;
       top = omega arith;
       room = simp length-set k;
       long = refl;
-      right = table-one new table (omega arith);
+      right = table_one new table (omega arith);
       best = record { ends = none 1; under = omega arith; most = λ l lb e. omega arith };
       kept = refl;
     }
 
-pub filling-more : {new table₀ table : List ℕ} {m i : ℕ} (k : ℕ) → Filling new table₀ table m i → i < length new → Best new new (i + 1) (i + 1) k
+pub filling_more : {new table₀ table : List ℕ} {m i : ℕ} (k : ℕ) → Filling new table₀ table m i → i < length new → Best new new (i + 1) (i + 1) k
     → Filling new table₀ (set table i k) k (i + 1)
-filling-more {new} {table₀} {table} {m} {i} k g h b =
+filling_more {new} {table₀} {table} {m} {i} k g h b =
     record {
       pos = omega arith;
       top = omega arith;
@@ -55,8 +55,8 @@ filled {new} {after} table h g k =
     }
 
 -- of no key the table is empty
-pub filled-empty : (new table : List ℕ) → length new ≡ 0 → Filled new table table
-filled-empty new table z = record { table = record { at = λ j p m. absurd (omega arith) }; kept = refl }
+pub filled_empty : (new table : List ℕ) → length new ≡ 0 → Filled new table table
+filled_empty new table z = record { table = record { at = λ j p m. absurd (omega arith) }; kept = refl }
 
 pub record Scanned (old new : List ℕ) (start end matched i : ℕ) : Type 0 where
   pub top : i ≤ length old
@@ -71,8 +71,8 @@ pub record Falling (old new : List ℕ) (start end matched i : ℕ) : Type 0 whe
   pub short : end - start < length new
 
 module _ {old new : List ℕ} where
-  pub scanned-none : 0 < length new → Scanned old new 0 0 0 0
-  scanned-none h =
+  pub scanned_none : 0 < length new → Scanned old new 0 0 0 0
+  scanned_none h =
       record {
         top = omega arith;
         part = h;
@@ -93,33 +93,33 @@ module _ {old new : List ℕ} where
     fallen t z ne =
         record { cand = fall g.cand ne (t.at k (omega arith) (omega (arith, g.cand.under))); seen = g.seen; short = g.short }
 
-    pub scanned-longer : i < length old → get_or old i 0 ≡ get_or new k 0 → e - s < k + 1 → (k + 1 ≡ length new → ⊥)
+    pub scanned_longer : i < length old → get_or old i 0 ≡ get_or new k 0 → e - s < k + 1 → (k + 1 ≡ length new → ⊥)
         → Scanned old new (i + 1 - (k + 1)) (i + 1) (k + 1) (i + 1)
-    scanned-longer h q l n =
+    scanned_longer h q l n =
         let b = hit g.cand q in
-        record { top = omega arith; part = omega (arith, g.cand.under); best = b; seen = seen-longer g.seen b l; short = omega (arith, g.cand.under) }
+        record { top = omega arith; part = omega (arith, g.cand.under); best = b; seen = seen_longer g.seen b l; short = omega (arith, g.cand.under) }
 
-    pub scanned-kept : i < length old → get_or old i 0 ≡ get_or new k 0 → k + 1 ≤ e - s → Scanned old new s e (k + 1) (i + 1)
-    scanned-kept h q l =
+    pub scanned_kept : i < length old → get_or old i 0 ≡ get_or new k 0 → k + 1 ≤ e - s → Scanned old new s e (k + 1) (i + 1)
+    scanned_kept h q l =
         let b = hit g.cand q in
-        record { top = omega arith; part = omega (arith, g.short); best = b; seen = seen-kept g.seen b l; short = g.short }
+        record { top = omega arith; part = omega (arith, g.short); best = b; seen = seen_kept g.seen b l; short = g.short }
 
-    pub scanned-miss : i < length old → (get_or old i 0 ≡ get_or new k 0 → ⊥) → k ≡ 0 → Scanned old new s e k (i + 1)
-    scanned-miss h n z =
+    pub scanned_miss : i < length old → (get_or old i 0 ≡ get_or new k 0 → ⊥) → k ≡ 0 → Scanned old new s e k (i + 1)
+    scanned_miss h n z =
         let b = miss g.cand z n in
-        record { top = omega arith; part = g.cand.under; best = b; seen = seen-kept g.seen b (omega arith); short = g.short }
+        record { top = omega arith; part = g.cand.under; best = b; seen = seen_kept g.seen b (omega arith); short = g.short }
 
     -- all of `new` was found
-    pub scanned-whole : i < length old → get_or old i 0 ≡ get_or new k 0 → k + 1 ≡ length new
-        → range (i + 1 - (k + 1)) (i + 1) ≡ overlapOf old new
-    scanned-whole h q w =
-        overlap-seen new old (i + 1 - (k + 1)) (i + 1)
-        (seen-whole (length old) (seen-longer g.seen (hit g.cand q) (omega (arith, g.short))) (omega arith) (omega arith))
+    pub scanned_whole : i < length old → get_or old i 0 ≡ get_or new k 0 → k + 1 ≡ length new
+        → range (i + 1 - (k + 1)) (i + 1) ≡ overlap_of old new
+    scanned_whole h q w =
+        overlap_seen new old (i + 1 - (k + 1)) (i + 1)
+        (seen_whole (length old) (seen_longer g.seen (hit g.cand q) (omega (arith, g.short))) (omega arith) (omega arith))
 
   -- all of `old` was gone through
-  pub scanned-out : {s e k i : ℕ} → Scanned old new s e k i → length old ≤ i → range s e ≡ overlapOf old new
-  scanned-out {s} {e} {k} {i} g h =
-      overlap-seen new old s e (subst (λ (n : ℕ). Seen new old (length new) n s e) (omega (arith, g.top)) g.seen)
+  pub scanned_out : {s e k i : ℕ} → Scanned old new s e k i → length old ≤ i → range s e ≡ overlap_of old new
+  scanned_out {s} {e} {k} {i} g h =
+      overlap_seen new old s e (subst (λ (n : ℕ). Seen new old (length new) n s e) (omega (arith, g.top)) g.seen)
 
 -- the loops' measure: a place more leaves less
 pub nearer : {n i : ℕ} → i < n → n - (i + 1) < n - i

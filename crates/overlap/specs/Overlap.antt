@@ -33,8 +33,8 @@ longest old new zero = range 0 0
 longest old new (suc k) = first old new (suc k) (length old) 0 (longest old new k)
 
 -- "Given old and new tokens: the longest beginning of new"
-unfoldable pub overlapOf : List ℕ → List ℕ → Range
-overlapOf old new = longest old new (length new)
+unfoldable pub overlap_of : List ℕ → List ℕ → Range
+overlap_of old new = longest old new (length new)
 
 -- "Overlap of inserts": how many tokens it has
 abbrev pub width_of : Range → ℕ
@@ -46,8 +46,8 @@ counted least n r = pick (ltb (width_of r) least && not (eqb (width_of r) n)) (r
 
 -- "Given old and new tokens: the longest beginning of new that occurs in old, at its first occurrence; 0..0 if none", in a merge: the paper names no least number, and its rule is this one at 1 (law
 -- `at_one`), since no overlap has fewer than one token and is not 0..0. The number stands here so that whoever merges hands it down in one place
-unfoldable pub overlapAt : ℕ → List ℕ → List ℕ → Range
-overlapAt least old new = counted least (length new) (overlapOf old new)
+unfoldable pub overlap_at : ℕ → List ℕ → List ℕ → Range
+overlap_at least old new = counted least (length new) (overlap_of old new)
 
 -- "Called alone: 8,192 tokens a side, work as long as new; 3 then 7."
 unfoldable pub answer_of : List ℕ → List ℕ → ℕ → Found
@@ -55,7 +55,7 @@ answer_of old new work =
     pick (ltb 8192 (length old)) (found.Refused Size)
     (pick (ltb 8192 (length new)) (found.Refused Size)
     (pick (ltb work (length new)) (found.Refused Room)
-    (found.Range (overlapOf old new).start (overlapOf old new).end)))
+    (found.Range (overlap_of old new).start (overlap_of old new).end)))
 
 -- "A refusal writes nothing. [..] only the work room is unspecified": how many numbers at its start a call may change
 abbrev pub touched : Found → ℕ → ℕ

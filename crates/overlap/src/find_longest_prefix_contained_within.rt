@@ -1,6 +1,6 @@
 // The search of Knuth, Morris and Pratt, linear in old and new. The fallback table stands in lent room.
 ghost use Rattle.std.specs.Prelude.{◌≡◌, ◌≤◌, length};
-ghost use Rattle.overlap.specs.Overlap.{overlapOf, counted, Answered};
+ghost use Rattle.overlap.specs.Overlap.{overlap_of, counted, Answered};
 ghost use Rattle.overlap.specs.Table.{Table, Fits, Filled};
 
 use crate::{Found, Range};
@@ -44,7 +44,7 @@ pub fn fill(new: &[u32], table: &mut [u32])
 pub fn scan(old: &[u32], new: &[u32], table: &[u32]) -> Range
     requires table { Table new.now table.now (length new.now) }
     requires in_bounds { length new.now ≤ length table.now }
-    ensures { result ≡ overlapOf old.now new.now }
+    ensures { result ≡ overlap_of old.now new.now }
 {
     if new.len() == 0 {
         return Range { start: 0, end: 0 };

@@ -5,7 +5,7 @@ use Rattle.refusal.specs.Numbers.{number}
 use Rattle.room.specs.Placed.{answered}
 use Rattle.verdict.specs.declared.Verdict.{Verdict}
 use Rattle.verdict.specs.declared.Verdict.TheVariants as W
-use Rattle.edit_format.specs.Written.{numberLine}
+use Rattle.edit_format.specs.Written.{number_line}
 use Rattle.merge_files.specs.declared.View.TheVariants as Asked
 use Rattle.merge_files.specs.Program.{result_of}
 use Rattle.program.specs.declared.Reply.{Reply}
@@ -17,9 +17,9 @@ pub data File : Type 0 where
   holds : List ℕ → File
 
 -- a file as the code has it: whether it could be read, and the bytes that were
-unfoldable pub fileOf : Bool → List ℕ → File
-fileOf true bytes = holds bytes
-fileOf false bytes = unreadable
+unfoldable pub file_of : Bool → List ℕ → File
+file_of true bytes = holds bytes
+file_of false bytes = unreadable
 
 -- what comes of three files
 pub data Outcome : Type 0 where
@@ -33,40 +33,40 @@ judged W.Accepted file = merged file
 judged (W.Refused r) file = refused r
 
 -- "It checks in this order, original, left, right each time: a file that can't be read writes `unreadable`; an oversize file is 3", and so on
-unfoldable pub outcomeOf : File → File → File → Outcome
-outcomeOf unreadable l r = unread
-outcomeOf (holds o) unreadable r = unread
-outcomeOf (holds o) (holds l) unreadable = unread
-outcomeOf (holds o) (holds l) (holds r) = judged (result_of Asked.File o l r).verdict (result_of Asked.File o l r).product.bytes
+unfoldable pub outcome_of : File → File → File → Outcome
+outcome_of unreadable l r = unread
+outcome_of (holds o) unreadable r = unread
+outcome_of (holds o) (holds l) unreadable = unread
+outcome_of (holds o) (holds l) (holds r) = judged (result_of Asked.File o l r).verdict (result_of Asked.File o l r).product.bytes
 
 -- "`unreadable`", in ASCII, with LF
-abbrev pub unreadableLine : List ℕ
-unreadableLine = 117 ∷ 110 ∷ 114 ∷ 101 ∷ 97 ∷ 100 ∷ 97 ∷ 98 ∷ 108 ∷ 101 ∷ 10 ∷ []
+abbrev pub unreadable_line : List ℕ
+unreadable_line = 117 ∷ 110 ∷ 114 ∷ 101 ∷ 97 ∷ 100 ∷ 97 ∷ 98 ∷ 108 ∷ 101 ∷ 10 ∷ []
 
 -- "`refused=`", in ASCII
-abbrev pub refusedKey : List ℕ
-refusedKey = 114 ∷ 101 ∷ 102 ∷ 117 ∷ 115 ∷ 101 ∷ 100 ∷ 61 ∷ []
+abbrev pub refused_key : List ℕ
+refused_key = 114 ∷ 101 ∷ 102 ∷ 117 ∷ 115 ∷ 101 ∷ 100 ∷ 61 ∷ []
 
 -- "writes the edit file or a line `refused=` with the number", "writes `unreadable`": the bytes
 unfoldable pub bytes_of : Outcome → List ℕ
 bytes_of (merged file) = file
-bytes_of (refused r) = numberLine refusedKey (number r)
-bytes_of unread = unreadableLine
+bytes_of (refused r) = number_line refused_key (number r)
+bytes_of unread = unreadable_line
 
 -- what the program's own code is told: which of the three it is, and how many bytes stand in the room
-unfoldable pub replyOf : Outcome → Reply
-replyOf (merged file) = Y.Merged (length file)
-replyOf (refused r) = Y.Refused r (length (numberLine refusedKey (number r)))
-replyOf unread = Y.Unreadable (length unreadableLine)
+unfoldable pub reply_of : Outcome → Reply
+reply_of (merged file) = Y.Merged (length file)
+reply_of (refused r) = Y.Refused r (length (number_line refused_key (number r)))
+reply_of unread = Y.Unreadable (length unreadable_line)
 
 -- how the program ends: 0 with a merge, 1 with a refusal, 2 where a file can't be read, and where not all of its bytes could be written
-unfoldable pub statusOf : Bool → Reply → ℕ
-statusOf false y = 2
-statusOf true (Y.Merged n) = 0
-statusOf true (Y.Refused r n) = 1
-statusOf true (Y.Unreadable n) = 2
+unfoldable pub status_of : Bool → Reply → ℕ
+status_of false y = 2
+status_of true (Y.Merged n) = 0
+status_of true (Y.Refused r n) = 1
+status_of true (Y.Unreadable n) = 2
 
 -- "On success a room past its answer is unchanged": the reply, and the bytes at the start of the room
 pub record Replies (o : Outcome) (out out' : List ℕ) (r : Reply) : Type 0 where
-  pub answer : r ≡ replyOf o
+  pub answer : r ≡ reply_of o
   pub room : out' ≡ answered (bytes_of o) out

@@ -1,6 +1,6 @@
 // What the program writes for three files as they were read, and how it ends. The program itself only reads files, calls this, and writes.
 ghost use Rattle.std.specs.Prelude.{◌≡◌, ◌≤◌, length};
-ghost use Rattle.program.specs.Writes.{fileOf, outcomeOf, refused, unread, statusOf, Replies};
+ghost use Rattle.program.specs.Writes.{file_of, outcome_of, refused, unread, status_of, Replies};
 
 use refusal::{Counted, Refusal};
 
@@ -31,7 +31,7 @@ fn put_refused(refusal: Refusal, out: &mut [u8]) -> Reply
     Reply::Refused { refusal, length }
 }
 
-// What is written for three files, each with whether it could be read. No three files need a longer room (law `in-room` of merge_files).
+// What is written for three files, each with whether it could be read. No three files need a longer room (law `in_room` of merge_files).
 pub fn answer_to(
     original_read: bool,
     original: &[u8],
@@ -42,7 +42,7 @@ pub fn answer_to(
     out: &mut [u8],
 ) -> Reply
     requires { 14393 ≤ length out.old }
-    ensures { Replies (outcomeOf (fileOf original_read original.now) (fileOf left_read left.now) (fileOf right_read right.now)) out.old out.new result }
+    ensures { Replies (outcome_of (file_of original_read original.now) (file_of left_read left.now) (file_of right_read right.now)) out.old out.new result }
 {
     if !original_read {
         return put_unreadable(out);
@@ -61,7 +61,7 @@ pub fn answer_to(
 
 // The status with which the program ends. A reply that could not be written, or not all of it, is no answer.
 pub fn status_of(written: bool, reply: Reply) -> usize
-    ensures { result ≡ statusOf written reply }
+    ensures { result ≡ status_of written reply }
 {
     if !written {
         return 2;

@@ -1,7 +1,7 @@
 // Raw lists: their records and tokens, and which lists are refused for their sizes or their shape.
 ghost use Rattle.std.specs.Prelude.{◌≡◌, ◌+◌, ◌*◌, ◌≤◌, min, length, leb};
-ghost use Rattle.raw_lists.specs.Raws.{rawAt, rawsOf, piecesLent};
-ghost use Rattle.raw_lists.specs.Checks.{total, claimedBy, textBy, rawFits, isRaw, shapesFrom};
+ghost use Rattle.raw_lists.specs.Raws.{raw_at, raws_of, pieces_lent};
+ghost use Rattle.raw_lists.specs.Checks.{total, claimed_by, text_by, raw_fits, is_raw, shapes_from};
 
 // A raw operation: its kind, and its tokens by the place of the first and their count.
 #[derive(Drop)]
@@ -14,7 +14,7 @@ pub struct Raw {
 // The i-th raw operation.
 pub fn raw_at(raw: &[usize], i: usize) -> Raw
     requires { i * 3 + 3 ≤ length raw.now }
-    ensures { result ≡ rawAt raw.now i }
+    ensures { result ≡ raw_at raw.now i }
 {
     let b = i * 3;
     Raw {
@@ -26,7 +26,7 @@ pub fn raw_at(raw: &[usize], i: usize) -> Raw
 
 // How many tokens are lent.
 fn pieces_lent(spans: &[u32], keys: &[u32], joins: &[u8]) -> usize
-    ensures { result ≡ piecesLent spans.now keys.now joins.now }
+    ensures { result ≡ pieces_lent spans.now keys.now joins.now }
 {
     let lent = records::tokens_lent(spans, keys);
     if lent < joins.len() {
@@ -46,14 +46,14 @@ fn run_lent(lent: usize, r: Raw) -> bool
 }
 
 fn claimed_by(r: Raw) -> usize
-    ensures { result ≡ claimedBy r }
+    ensures { result ≡ claimed_by r }
 {
     if r.kind <= 2 { r.count } else { 0 }
 }
 
 // The tokens that a raw list claims, capped.
 pub fn claimed(raw: &[usize]) -> usize
-    ensures { result ≡ min 1000000 (total claimedBy (rawsOf raw.now)) }
+    ensures { result ≡ min 1000000 (total claimed_by (raws_of raw.now)) }
 {
     let count = raw.len() / 3;
     let mut i = 0;
@@ -69,7 +69,7 @@ pub fn claimed(raw: &[usize]) -> usize
 
 // The text of an operation's tokens, capped.
 fn text_by(spans: &[u32], keys: &[u32], joins: &[u8], n: usize, r: Raw) -> usize
-    ensures { result ≡ min 1000000 (textBy n spans.now keys.now joins.now r) }
+    ensures { result ≡ min 1000000 (text_by n spans.now keys.now joins.now r) }
 {
     if 2 < r.kind {
         return 0;
@@ -83,7 +83,7 @@ fn text_by(spans: &[u32], keys: &[u32], joins: &[u8], n: usize, r: Raw) -> usize
 
 // The text of all tokens that a raw list uses, capped.
 fn used_text(raw: &[usize], spans: &[u32], keys: &[u32], joins: &[u8], n: usize) -> usize
-    ensures { result ≡ min 1000000 (total (textBy n spans.now keys.now joins.now) (rawsOf raw.now)) }
+    ensures { result ≡ min 1000000 (total (text_by n spans.now keys.now joins.now) (raws_of raw.now)) }
 {
     let count = raw.len() / 3;
     let mut i = 0;
@@ -99,7 +99,7 @@ fn used_text(raw: &[usize], spans: &[u32], keys: &[u32], joins: &[u8], n: usize)
 
 // Whether a raw list keeps its sizes. The tests before the last keep its work within the limits.
 pub fn raw_fits(raw: &[usize], spans: &[u32], keys: &[u32], joins: &[u8], n: usize) -> bool
-    ensures { result ≡ rawFits n spans.now keys.now joins.now (rawsOf raw.now) }
+    ensures { result ≡ raw_fits n spans.now keys.now joins.now (raws_of raw.now) }
 {
     if 131070 < n {
         return false;
@@ -115,7 +115,7 @@ pub fn raw_fits(raw: &[usize], spans: &[u32], keys: &[u32], joins: &[u8], n: usi
 
 // Whether an operation is a raw operation.
 fn is_raw(spans: &[u32], keys: &[u32], joins: &[u8], n: usize, r: Raw) -> bool
-    ensures { result ≡ isRaw n spans.now keys.now joins.now r }
+    ensures { result ≡ is_raw n spans.now keys.now joins.now r }
 {
     if 2 < r.kind {
         return false;
@@ -138,7 +138,7 @@ pub fn check_raws(
     joins: &[u8],
     n: usize,
 ) -> verdict::Verdict
-    ensures { result ≡ shapesFrom n spans.now keys.now joins.now (rawsOf raw.now) 0 }
+    ensures { result ≡ shapes_from n spans.now keys.now joins.now (raws_of raw.now) 0 }
 {
     let count = raw.len() / 3;
     let mut i = 0;

@@ -11,30 +11,30 @@ use Rattle.elongate.specs.Verdicts.{Elongates}
 use Rattle.edit_format.specs.Items.{Item}
 use Rattle.edit_format.specs.Reading.{Found}
 use Rattle.edit_read.specs.declared.FileRead.{FileRead}
-use Rattle.edit_read.specs.Answer.{itemsLeft, textLeft, ReadInto}
+use Rattle.edit_read.specs.Answer.{items_left, text_left, ReadInto}
 use Rattle.edit_write.specs.Writing.{Wrote}
 
 -- a call that lends no room: what it answers is a definition's value
-pub only-value : {A : Type 0} {r s x : A} → r ≡ x → s ≡ x → r ≡ s
-only-value e f = e ∙ sym f
+pub only_value : {A : Type 0} {r s x : A} → r ≡ x → s ≡ x → r ≡ s
+only_value e f = e ∙ sym f
 
-pub only-elongated : {xs spans keys joins text o s k j o₁ s₁ k₁ j₁ o₂ s₂ k₂ j₂ : List ℕ} {v : Verdict} {r₁ r₂ : Answer}
+pub only_elongated : {xs spans keys joins text o s k j o₁ s₁ k₁ j₁ o₂ s₂ k₂ j₂ : List ℕ} {v : Verdict} {r₁ r₂ : Answer}
     → Elongates xs spans keys joins text o s k j o₁ s₁ k₁ j₁ v r₁ → Elongates xs spans keys joins text o s k j o₂ s₂ k₂ j₂ v r₂
     → (r₁ ≡ r₂) × ((o₁ ≡ o₂) × ((s₁ ≡ s₂) × ((k₁ ≡ k₂) × (j₁ ≡ j₂))))
-only-elongated a b =
-    (a.answer ∙ sym b.answer, (a.operations ∙ sym b.operations, (a.in-spans ∙ sym b.in-spans, (a.in-keys ∙ sym b.in-keys, a.in-joins ∙ sym b.in-joins))))
+only_elongated a b =
+    (a.answer ∙ sym b.answer, (a.operations ∙ sym b.operations, (a.in_spans ∙ sym b.in_spans, (a.in_keys ∙ sym b.in_keys, a.in_joins ∙ sym b.in_joins))))
 
-pub only-read : {f : Found} {d d₁ d₂ : List ℤ} {e e₁ e₂ : List ℕ} {r₁ r₂ : FileRead} → ReadInto f d e d₁ e₁ r₁ → ReadInto f d e d₂ e₂ r₂
+pub only_read : {f : Found} {d d₁ d₂ : List ℤ} {e e₁ e₂ : List ℕ} {r₁ r₂ : FileRead} → ReadInto f d e d₁ e₁ r₁ → ReadInto f d e d₂ e₂ r₂
     → (r₁ ≡ r₂) × ((d₁ ≡ d₂) × (e₁ ≡ e₂))
-only-read {f} {d} {d₁} {d₂} {e} a b =
+only_read {f} {d} {d₁} {d₂} {e} a b =
     let q = a.answer ∙ sym b.answer in (
       q,
       (
-        a.items ∙ (ap (λ (r : FileRead). itemsLeft r f d) q ∙ sym b.items),
-        a.text ∙ (ap (λ (r : FileRead). textLeft r f e) q ∙ sym b.text),
+        a.items ∙ (ap (λ (r : FileRead). items_left r f d) q ∙ sym b.items),
+        a.text ∙ (ap (λ (r : FileRead). text_left r f e) q ∙ sym b.text),
       ),
     )
 
-pub only-written : {is : List Item} {text out out₁ out₂ : List ℕ} {r₁ r₂ : Counted} → Wrote is text out out₁ r₁ → Wrote is text out out₂ r₂
+pub only_written : {is : List Item} {text out out₁ out₂ : List ℕ} {r₁ r₂ : Counted} → Wrote is text out out₁ r₁ → Wrote is text out out₂ r₂
     → (r₁ ≡ r₂) × (out₁ ≡ out₂)
-only-written a b = (a.answer ∙ sym b.answer, a.room ∙ sym b.room)
+only_written a b = (a.answer ∙ sym b.answer, a.room ∙ sym b.room)

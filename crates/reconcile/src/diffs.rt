@@ -1,7 +1,7 @@
 // The diff of a list, and diffs replayed over an original.
 ghost use Rattle.replay.specs.Answers.{Replayed, covering, diff, length_of, plain};
-ghost use Rattle.records.specs.Operations.{operationsOf};
-ghost use Rattle.to_diff.specs.Answers.{Diffs, lengthsOf};
+ghost use Rattle.records.specs.Operations.{operations_of};
+ghost use Rattle.to_diff.specs.Answers.{Diffs, lengths_of};
 ghost use Rattle.merging.specs.Lent.{lent_of};
 ghost use Rattle.std.specs.Prelude.{◌≡◌};
 
@@ -13,7 +13,7 @@ pub fn to_diff_lengths(
     keys: &[u32],
     operations: &[usize],
 ) -> to_diff::Diffed
-    ensures { result ≡ lengthsOf (lent_of original.now text.now spans.now keys.now) (operationsOf operations.now) }
+    ensures { result ≡ lengths_of (lent_of original.now text.now spans.now keys.now) (operations_of operations.now) }
 {
     to_diff::to_diff_lengths(original, text, spans, keys, operations)
 }
@@ -28,7 +28,7 @@ pub fn to_diff(
     room: &mut [i64],
     out: &mut [u32],
 ) -> to_diff::Diffed
-    ensures { Diffs (lent_of original.now text.now spans.now keys.now) (operationsOf operations.now) room.old out.old room.new out.new result }
+    ensures { Diffs (lent_of original.now text.now spans.now keys.now) (operations_of operations.now) room.old out.old room.new out.new result }
 {
     to_diff::to_diff(original, text, spans, keys, operations, room, out)
 }

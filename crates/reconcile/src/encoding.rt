@@ -1,12 +1,12 @@
 // UTF-8, read and written (RFC 3629).
-ghost use Rattle.utf8.specs.Answers.{Answered, read-length-of, read_of, write-length-of, write-of};
+ghost use Rattle.utf8.specs.Answers.{Answered, read_length_of, read_of, write_length_of, write_of};
 ghost use Rattle.utf8_read.specs.Reading.{points};
-ghost use Rattle.utf8_write.specs.Writing.{encode-all};
+ghost use Rattle.utf8_write.specs.Writing.{encode_all};
 ghost use Rattle.std.specs.Prelude.{length, ◌≡◌};
 
 // How many code points bytes hold: the room to lend to `read`.
 pub fn read_length(bytes: &[u8]) -> refusal::Counted
-    ensures { result ≡ read-length-of bytes.now }
+    ensures { result ≡ read_length_of bytes.now }
 {
     utf8::read_length(bytes)
 }
@@ -20,14 +20,14 @@ pub fn read(bytes: &[u8], out: &mut [u32]) -> refusal::Counted
 
 // How many bytes code points take: the room to lend to `write`.
 pub fn write_length(text: &[u32]) -> refusal::Counted
-    ensures { result ≡ write-length-of text.now }
+    ensures { result ≡ write_length_of text.now }
 {
     utf8::write_length(text)
 }
 
 // The bytes of code points, at the start of a room.
 pub fn write(text: &[u32], out: &mut [u8]) -> refusal::Counted
-    ensures { Answered (write-of text.now (length out.old)) result (encode-all text.now) out.old out.new }
+    ensures { Answered (write_of text.now (length out.old)) result (encode_all text.now) out.old out.new }
 {
     utf8::write(text, out)
 }

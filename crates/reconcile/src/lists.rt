@@ -1,6 +1,6 @@
 // Raw lists elongated, and two lists merged.
 ghost use Rattle.edited_text.specs.Merging.{MergedBy};
-ghost use Rattle.elongate.specs.Verdicts.{Elongates, verdictOn};
+ghost use Rattle.elongate.specs.Verdicts.{Elongates, verdict_on};
 
 // Raw operations, elongated and cooked, into a room, and their tokens into three.
 pub fn elongate(
@@ -14,7 +14,7 @@ pub fn elongate(
     keyed: &mut [u32],
     joined: &mut [u8],
 ) -> elongate::Answer
-    ensures { Elongates raw.now spans.now keys.now joins.now text.now operations.old spanned.old keyed.old joined.old operations.new spanned.new keyed.new joined.new (verdictOn raw.now spans.now keys.now joins.now text.now operations.old spanned.old keyed.old joined.old) result }
+    ensures { Elongates raw.now spans.now keys.now joins.now text.now operations.old spanned.old keyed.old joined.old operations.new spanned.new keyed.new joined.new (verdict_on raw.now spans.now keys.now joins.now text.now operations.old spanned.old keyed.old joined.old) result }
 {
     elongate::elongate(
         raw, spans, keys, joins, text, operations, spanned, keyed, joined,

@@ -1,5 +1,5 @@
 // A list lent as a slice of operation structs: the tiling check, and the length of its text.
-ghost use Rattle.apply.specs.Answers.{textOn, verdictOn};
+ghost use Rattle.apply.specs.Answers.{text_on, verdict_on};
 ghost use Rattle.merging.specs.Lent.{lent_of};
 ghost use Rattle.replay.specs.Answers.{counted};
 ghost use Rattle.std.specs.Prelude.{length, [], ◌≡◌};
@@ -13,7 +13,7 @@ pub fn check_tiling(
     keys: &[u32],
     operations: &[records::Operation],
 ) -> verdict::Verdict
-    ensures { result ≡ verdictOn (lent_of original.now text.now spans.now keys.now) operations.now [] }
+    ensures { result ≡ verdict_on (lent_of original.now text.now spans.now keys.now) operations.now [] }
 {
     let n = original.len();
     let m = text.len();
@@ -29,7 +29,7 @@ pub fn text_length(
     keys: &[u32],
     operations: &[records::Operation],
 ) -> refusal::Counted
-    ensures { result ≡ counted (verdictOn (lent_of original.now text.now spans.now keys.now) operations.now []) (length (textOn (lent_of original.now text.now spans.now keys.now) operations.now)) }
+    ensures { result ≡ counted (verdict_on (lent_of original.now text.now spans.now keys.now) operations.now []) (length (text_on (lent_of original.now text.now spans.now keys.now) operations.now)) }
 {
     let n = original.len();
     let m = text.len();

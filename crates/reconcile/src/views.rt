@@ -1,10 +1,10 @@
 // Text and history of a list.
-ghost use Rattle.apply.specs.Answers.{Applies, AppliesAll, Tells, applied, historyOn, textOn, told, toldAll, verdictOn};
+ghost use Rattle.apply.specs.Answers.{Applies, AppliesAll, Tells, applied, history_on, text_on, told, told_all, verdict_on};
 ghost use Rattle.merging.specs.Lent.{lent_of};
 ghost use Rattle.cursors.specs.Sorted.{sorted};
-ghost use Rattle.merging.specs.Outputs.{historyText};
-ghost use Rattle.records.specs.Cursors.{cursorsOf};
-ghost use Rattle.records.specs.Operations.{operationsOf};
+ghost use Rattle.merging.specs.Outputs.{history_text};
+ghost use Rattle.records.specs.Cursors.{cursors_of};
+ghost use Rattle.records.specs.Operations.{operations_of};
 ghost use Rattle.std.specs.Prelude.{length, [], ◌≡◌};
 
 // The code points and cursors that `apply` writes.
@@ -16,7 +16,7 @@ pub fn apply_lengths(
     operations: &[usize],
     cursors: &[usize],
 ) -> apply::Applied
-    ensures { result ≡ applied (verdictOn (lent_of original.now text.now spans.now keys.now) (operationsOf operations.now) (cursorsOf cursors.now)) (length (textOn (lent_of original.now text.now spans.now keys.now) (operationsOf operations.now))) (length (sorted (cursorsOf cursors.now))) }
+    ensures { result ≡ applied (verdict_on (lent_of original.now text.now spans.now keys.now) (operations_of operations.now) (cursors_of cursors.now)) (length (text_on (lent_of original.now text.now spans.now keys.now) (operations_of operations.now))) (length (sorted (cursors_of cursors.now))) }
 {
     apply::apply_lengths(original, text, spans, keys, operations, cursors)
 }
@@ -32,7 +32,7 @@ pub fn apply(
     out: &mut [u32],
     moved: &mut [usize],
 ) -> apply::Applied
-    ensures { Applies (lent_of original.now text.now spans.now keys.now) (operationsOf operations.now) (cursorsOf cursors.now) out.old moved.old out.new moved.new result }
+    ensures { Applies (lent_of original.now text.now spans.now keys.now) (operations_of operations.now) (cursors_of cursors.now) out.old moved.old out.new moved.new result }
 {
     apply::apply(original, text, spans, keys, operations, cursors, out, moved)
 }
@@ -45,7 +45,7 @@ pub fn apply_with_history_lengths(
     keys: &[u32],
     operations: &[usize],
 ) -> apply::WithHistory
-    ensures { result ≡ told (verdictOn (lent_of original.now text.now spans.now keys.now) (operationsOf operations.now) []) (length (historyOn (lent_of original.now text.now spans.now keys.now) (operationsOf operations.now))) (length (historyText (historyOn (lent_of original.now text.now spans.now keys.now) (operationsOf operations.now)))) }
+    ensures { result ≡ told (verdict_on (lent_of original.now text.now spans.now keys.now) (operations_of operations.now) []) (length (history_on (lent_of original.now text.now spans.now keys.now) (operations_of operations.now))) (length (history_text (history_on (lent_of original.now text.now spans.now keys.now) (operations_of operations.now)))) }
 {
     apply::apply_with_history_lengths(original, text, spans, keys, operations)
 }
@@ -60,7 +60,7 @@ pub fn apply_with_history(
     history: &mut [usize],
     out: &mut [u32],
 ) -> apply::WithHistory
-    ensures { Tells (lent_of original.now text.now spans.now keys.now) (operationsOf operations.now) history.old out.old history.new out.new result }
+    ensures { Tells (lent_of original.now text.now spans.now keys.now) (operations_of operations.now) history.old out.old history.new out.new result }
 {
     apply::apply_with_history(original, text, spans, keys, operations, history, out)
 }
@@ -74,7 +74,7 @@ pub fn apply_with_all_lengths(
     operations: &[usize],
     cursors: &[usize],
 ) -> apply::WithAll
-    ensures { result ≡ toldAll (verdictOn (lent_of original.now text.now spans.now keys.now) (operationsOf operations.now) (cursorsOf cursors.now)) (length (textOn (lent_of original.now text.now spans.now keys.now) (operationsOf operations.now))) (length (sorted (cursorsOf cursors.now))) (length (historyOn (lent_of original.now text.now spans.now keys.now) (operationsOf operations.now))) (length (historyText (historyOn (lent_of original.now text.now spans.now keys.now) (operationsOf operations.now)))) }
+    ensures { result ≡ told_all (verdict_on (lent_of original.now text.now spans.now keys.now) (operations_of operations.now) (cursors_of cursors.now)) (length (text_on (lent_of original.now text.now spans.now keys.now) (operations_of operations.now))) (length (sorted (cursors_of cursors.now))) (length (history_on (lent_of original.now text.now spans.now keys.now) (operations_of operations.now))) (length (history_text (history_on (lent_of original.now text.now spans.now keys.now) (operations_of operations.now)))) }
 {
     apply::apply_with_all_lengths(original, text, spans, keys, operations, cursors)
 }
@@ -92,7 +92,7 @@ pub fn apply_with_all(
     history: &mut [usize],
     history_text: &mut [u32],
 ) -> apply::WithAll
-    ensures { AppliesAll (lent_of original.now text.now spans.now keys.now) (operationsOf operations.now) (cursorsOf cursors.now) out.old moved.old history.old history_text.old out.new moved.new history.new history_text.new result }
+    ensures { AppliesAll (lent_of original.now text.now spans.now keys.now) (operations_of operations.now) (cursors_of cursors.now) out.old moved.old history.old history_text.old out.new moved.new history.new history_text.new result }
 {
     apply::apply_with_all(
         original,

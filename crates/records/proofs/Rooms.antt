@@ -10,9 +10,9 @@ use Rattle.room.specs.Placed.{answered}
 use Rattle.records.specs.Rooms.{filled}
 
 -- filled with what stands there
-pub filled-same : (d : List ℕ) (a k b : ℕ) → a + k ≡ b → filled d a (take k (drop a d)) b ≡ d
+pub filled_same : (d : List ℕ) (a k b : ℕ) → a + k ≡ b → filled d a (take k (drop a d)) b ≡ d
 unfolding filled
-filled-same d a k b e = rw (← e, ← take-add a k d) (take-append-drop (a + k) d)
+filled_same d a k b e = rw (← e, ← take-add a k d) (take-append-drop (a + k) d)
 
 module _ (d : List ℕ) (a : ℕ) (s : List ℕ) (b : ℕ) (w : a + length s ≡ b) (l : b ≤ length d) where
   front : length (take a d) ≡ a
@@ -21,25 +21,25 @@ module _ (d : List ℕ) (a : ℕ) (s : List ℕ) (b : ℕ) (w : a + length s ≡
   head : length (take a d ++ s) ≡ b
   head = rw (length-append, front) (omega arith)
 
-  pub length-filled : length (filled d a s b) ≡ length d
+  pub length_filled : length (filled d a s b) ≡ length d
   unfolding filled
-  length-filled = rw (length-append, head, length-drop) (omega arith)
+  length_filled = rw (length-append, head, length-drop) (omega arith)
 
-  pub getD-filled : (i : ℕ) → i < a → get_or (filled d a s b) i 0 ≡ get_or d i 0
+  pub get_d_filled : (i : ℕ) → i < a → get_or (filled d a s b) i 0 ≡ get_or d i 0
   unfolding filled
-  getD-filled i h =
+  get_d_filled i h =
       get_or-append (take a d ++ s) (drop b d) 0 i (omega (arith, head))
       ∙ (get_or-append (take a d) s 0 i (omega (arith, front)) ∙ get_or-take a d i 0 h)
 
   -- the rest of the room, from a on
-  pub filled-parts : filled d a s b ≡ take a d ++ (s ++ drop b d)
+  pub filled_parts : filled d a s b ≡ take a d ++ (s ++ drop b d)
   unfolding filled
-  filled-parts = append_assoc (take a d) s (drop b d)
+  filled_parts = append_assoc (take a d) s (drop b d)
 
   -- filled anew from an earlier place on
-  pub filled-again : (i : ℕ) (t : List ℕ) → i ≤ a → filled (filled d a s b) i t b ≡ filled d i t b
+  pub filled_again : (i : ℕ) (t : List ℕ) → i ≤ a → filled (filled d a s b) i t b ≡ filled d i t b
   unfolding filled
-  filled-again i t h =
+  filled_again i t h =
       let e : take i (take a d ++ s ++ drop b d) ≡ take i d =
       take-append-le i (take a d ++ s) (drop b d) (omega (arith, head))
       ∙ (take-append-le i (take a d) s (omega (arith, front)) ∙ take-take i a d (omega arith))
@@ -47,9 +47,9 @@ module _ (d : List ℕ) (a : ℕ) (s : List ℕ) (b : ℕ) (w : a + length s ≡
       rw (e, drop_at (take a d ++ s) (drop b d) b head)
 
 -- filled from the start: an answer
-pub filled-start : (d s : List ℕ) (b : ℕ) → length s ≡ b → filled d 0 s b ≡ answered s d
+pub filled_start : (d s : List ℕ) (b : ℕ) → length s ≡ b → filled d 0 s b ≡ answered s d
 unfolding filled
-filled-start d s b e = rw (← e)
+filled_start d s b e = rw (← e)
 
 -- filled with nothing
 pub filled_none : (d : List ℕ) (a : ℕ) → filled d a [] a ≡ d
@@ -57,11 +57,11 @@ unfolding filled
 filled_none d a = rw (append-nil) (take-append-drop a d)
 
 -- an answer grows where it ends
-pub answered-more : (s t d : List ℕ) (a b : ℕ) → a ≡ length s → b ≡ length s + length t → filled (answered s d) a t b ≡ answered (s ++ t) d
+pub answered_more : (s t d : List ℕ) (a b : ℕ) → a ≡ length s → b ≡ length s + length t → filled (answered s d) a t b ≡ answered (s ++ t) d
 unfolding filled
-answered-more s t d a b ea eb =
+answered_more s t d a b ea eb =
     rw (ea, eb, take_at s (drop (length s) d) (length s) refl, drop-append-add s (drop (length s) d) (length t), drop-drop, length-append)
 
 -- one answer over another of its length
-pub answered-again : (s t d : List ℕ) → length s ≡ length t → answered s (answered t d) ≡ answered s d
-answered-again s t d e = rw (e, drop_at t (drop (length t) d) (length t) refl)
+pub answered_again : (s t d : List ℕ) → length s ≡ length t → answered s (answered t d) ≡ answered s d
+answered_again s t d e = rw (e, drop_at t (drop (length t) d) (length t) refl)

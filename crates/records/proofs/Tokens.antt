@@ -6,23 +6,23 @@ use mathlib.Core.List.{List, [], ◌∷◌}
 use native.Mathlib.Omega.{arith}
 use lib.ListN.{length, length-take, length-drop}
 use Rattle.records.specs.declared.Token.{Token}
-use Rattle.records.specs.Tokens.{tokenAt, tokensFrom, spell}
+use Rattle.records.specs.Tokens.{token_at, tokens_from, spell}
 
-pub length_from : (spans keys : List ℕ) (i k : ℕ) → length (tokensFrom spans keys i k) ≡ k
-unfolding tokensFrom
+pub length_from : (spans keys : List ℕ) (i k : ℕ) → length (tokens_from spans keys i k) ≡ k
+unfolding tokens_from
 length_from spans keys i zero = refl
 length_from spans keys i (suc k) = ap suc (length_from spans keys (i + 1) k)
 
 -- the tokens from i to n: one, and those from i + 1; or none
 pub from_more : (spans keys : List ℕ) (i n : ℕ) → i < n
-    → tokensFrom spans keys i (n - i) ≡ tokenAt spans keys i ∷ tokensFrom spans keys (i + 1) (n - (i + 1))
-unfolding tokensFrom
+    → tokens_from spans keys i (n - i) ≡ token_at spans keys i ∷ tokens_from spans keys (i + 1) (n - (i + 1))
+unfolding tokens_from
 from_more spans keys i n h = let e : n - i ≡ suc (n - (i + 1)) = omega arith in rw e
 
-pub from-none : (spans keys : List ℕ) (i n : ℕ) → n ≤ i → tokensFrom spans keys i (n - i) ≡ []
-unfolding tokensFrom
-from-none spans keys i n h = let e : n - i ≡ 0 = omega arith in rw e
+pub from_none : (spans keys : List ℕ) (i n : ℕ) → n ≤ i → tokens_from spans keys i (n - i) ≡ []
+unfolding tokens_from
+from_none spans keys i n h = let e : n - i ≡ 0 = omega arith in rw e
 
 -- a token in the text spells as many code points as it is long
-pub length-spell : (text : List ℕ) (t : Token) → t.start + t.length ≤ length text → length (spell text t) ≡ t.length
-length-spell text t h = rw (length-take, length-drop) (omega arith)
+pub length_spell : (text : List ℕ) (t : Token) → t.start + t.length ≤ length text → length (spell text t) ≡ t.length
+length_spell text t h = rw (length-take, length-drop) (omega arith)

@@ -4,21 +4,21 @@ use Rattle.records.specs.declared.Cursor.{Cursor}
 use Rattle.records.specs.Rooms.{filled}
 
 -- "A cursor moved to a new index keeps its identity number."
-abbrev pub atIndex : Cursor → ℕ → Cursor
-atIndex c i = record { identity = c.identity; index = i }
+abbrev pub at_index : Cursor → ℕ → Cursor
+at_index c i = record { identity = c.identity; index = i }
 
 -- "its place among the cursors lent": the one at place i
-abbrev pub cursorAt : List ℕ → ℕ → Cursor
-cursorAt xs i = record { identity = get_or xs (i * 2) 0; index = get_or xs (i * 2 + 1) 0 }
+abbrev pub cursor_at : List ℕ → ℕ → Cursor
+cursor_at xs i = record { identity = get_or xs (i * 2) 0; index = get_or xs (i * 2 + 1) 0 }
 
 -- "the cursors lent": the k from place i on
-unfoldable pub cursorsFrom : List ℕ → ℕ → ℕ → List Cursor
-cursorsFrom xs i zero = []
-cursorsFrom xs i (suc k) = cursorAt xs i ∷ cursorsFrom xs (i + 1) k
+unfoldable pub cursors_from : List ℕ → ℕ → ℕ → List Cursor
+cursors_from xs i zero = []
+cursors_from xs i (suc k) = cursor_at xs i ∷ cursors_from xs (i + 1) k
 
 -- "the cursors lent": all whole ones
-unfoldable pub cursorsOf : List ℕ → List Cursor
-cursorsOf xs = cursorsFrom xs 0 (length xs / 2)
+unfoldable pub cursors_of : List ℕ → List Cursor
+cursors_of xs = cursors_from xs 0 (length xs / 2)
 
 -- "a cursor lies past the end": none does, no index is above e
 unfoldable pub Within : ℕ → List Cursor → Type 0
@@ -26,14 +26,14 @@ Within e [] = Unit
 Within e (c ∷ cs) = (c.index ≤ e) × Within e cs
 
 -- "keeps its identity number", "a new index": the numbers of cursors
-unfoldable pub flatCursors : List Cursor → List ℕ
-flatCursors [] = []
-flatCursors (c ∷ cs) = c.identity ∷ c.index ∷ flatCursors cs
+unfoldable pub flat_cursors : List Cursor → List ℕ
+flat_cursors [] = []
+flat_cursors (c ∷ cs) = c.identity ∷ c.index ∷ flat_cursors cs
 
 -- "the cursors": one put at place i of the room d
-abbrev pub putCursor : List ℕ → ℕ → Cursor → List ℕ
-putCursor d i c = set (set d (i * 2) c.identity) (i * 2 + 1) c.index
+abbrev pub put_cursor : List ℕ → ℕ → Cursor → List ℕ
+put_cursor d i c = set (set d (i * 2) c.identity) (i * 2 + 1) c.index
 
 -- "the cursors": those at the places i to n of the room d
-abbrev pub cursorRoom : List ℕ → ℕ → List Cursor → ℕ → List ℕ
-cursorRoom d i cs n = filled d (i * 2) (flatCursors cs) (n * 2)
+abbrev pub cursor_room : List ℕ → ℕ → List Cursor → ℕ → List ℕ
+cursor_room d i cs n = filled d (i * 2) (flat_cursors cs) (n * 2)

@@ -3,8 +3,8 @@ use Rattle.std.specs.Prelude.{ℕ, zero, suc, ◌+◌, ◌*◌, ◌/◌, List, [
 use Rattle.records.specs.declared.Operation.{Operation}
 
 -- "The checked list is lent as a slice of operation records: kind, order, length, side, and for an insert its tokens": the one at place i
-abbrev pub operationAt : List ℕ → ℕ → Operation
-operationAt xs i =
+abbrev pub operation_at : List ℕ → ℕ → Operation
+operation_at xs i =
     record {
       kind = get_or xs (i * 6) 0;
       order = get_or xs (i * 6 + 1) 0;
@@ -15,22 +15,22 @@ operationAt xs i =
     }
 
 -- "The checked list is lent as a slice of operation records": the k from place i on
-unfoldable pub operationsFrom : List ℕ → ℕ → ℕ → List Operation
-operationsFrom xs i zero = []
-operationsFrom xs i (suc k) = operationAt xs i ∷ operationsFrom xs (i + 1) k
+unfoldable pub operations_from : List ℕ → ℕ → ℕ → List Operation
+operations_from xs i zero = []
+operations_from xs i (suc k) = operation_at xs i ∷ operations_from xs (i + 1) k
 
 -- "The checked list is lent as a slice of operation records": all whole ones
-unfoldable pub operationsOf : List ℕ → List Operation
-operationsOf xs = operationsFrom xs 0 (length xs / 6)
+unfoldable pub operations_of : List ℕ → List Operation
+operations_of xs = operations_from xs 0 (length xs / 6)
 
 -- "operation records: kind, order, length, side, and for an insert its tokens": their numbers
-unfoldable pub flatOperations : List Operation → List ℕ
-flatOperations [] = []
-flatOperations (o ∷ os) = o.kind ∷ o.order ∷ o.length ∷ o.side ∷ o.first ∷ o.count ∷ flatOperations os
+unfoldable pub flat_operations : List Operation → List ℕ
+flat_operations [] = []
+flat_operations (o ∷ os) = o.kind ∷ o.order ∷ o.length ∷ o.side ∷ o.first ∷ o.count ∷ flat_operations os
 
 -- "operation records": one put at place i of the room d
-abbrev pub putOperation : List ℕ → ℕ → Operation → List ℕ
-putOperation d i o =
+abbrev pub put_operation : List ℕ → ℕ → Operation → List ℕ
+put_operation d i o =
     set
     (set (set (set (set (set d (i * 6) o.kind) (i * 6 + 1) o.order) (i * 6 + 2) o.length) (i * 6 + 3) o.side) (i * 6 + 4) o.first)
     (i * 6 + 5)

@@ -3,9 +3,9 @@
 // A slice that ends inside a record does not lend it. Kinds: 0 delete, 1 insert, 2 retain. Sides: 0
 // left, 1 right.
 ghost use Rattle.std.specs.Prelude.{◌≡◌, ◌+◌, ◌*◌, ◌<◌, ◌≤◌, length};
-ghost use Rattle.records.specs.Operations.{operationAt, putOperation};
-ghost use Rattle.records.specs.Tokens.{tokenAt, tokensLent};
-ghost use Rattle.records.specs.Cursors.{cursorAt, putCursor, atIndex};
+ghost use Rattle.records.specs.Operations.{operation_at, put_operation};
+ghost use Rattle.records.specs.Tokens.{token_at, tokens_lent};
+ghost use Rattle.records.specs.Cursors.{cursor_at, put_cursor, at_index};
 
 #[derive(Drop)]
 pub struct Operation {
@@ -33,7 +33,7 @@ pub struct Cursor {
 impl Cursor {
     // The cursor at a new index, with its identity number.
     pub fn with_index(self, index: usize) -> Cursor
-        ensures { result ≡ atIndex self index }
+        ensures { result ≡ at_index self index }
     {
         Cursor {
             identity: self.identity,
@@ -45,7 +45,7 @@ impl Cursor {
 // The i-th operation.
 pub fn operation_at(operations: &[usize], i: usize) -> Operation
     requires { i * 6 + 6 ≤ length operations.now }
-    ensures { result ≡ operationAt operations.now i }
+    ensures { result ≡ operation_at operations.now i }
 {
     let b = i * 6;
     Operation {
@@ -61,7 +61,7 @@ pub fn operation_at(operations: &[usize], i: usize) -> Operation
 // An operation at the i-th place of a room.
 pub fn put_operation(out: &mut [usize], i: usize, operation: Operation)
     requires { i * 6 + 6 ≤ length out.old }
-    ensures { out.new ≡ putOperation out.old i operation }
+    ensures { out.new ≡ put_operation out.old i operation }
 {
     let b = i * 6;
     out[b] = operation.kind;
@@ -74,7 +74,7 @@ pub fn put_operation(out: &mut [usize], i: usize, operation: Operation)
 
 // How many tokens are lent: those that both slices reach.
 pub fn tokens_lent(spans: &[u32], keys: &[u32]) -> usize
-    ensures { result ≡ tokensLent spans.now keys.now }
+    ensures { result ≡ tokens_lent spans.now keys.now }
 {
     let pairs = spans.len() / 2;
     if pairs < keys.len() {
@@ -85,8 +85,8 @@ pub fn tokens_lent(spans: &[u32], keys: &[u32]) -> usize
 
 // The i-th token.
 pub fn token_at(spans: &[u32], keys: &[u32], i: usize) -> Token
-    requires { i < tokensLent spans.now keys.now }
-    ensures { result ≡ tokenAt spans.now keys.now i }
+    requires { i < tokens_lent spans.now keys.now }
+    ensures { result ≡ token_at spans.now keys.now i }
 {
     let b = i * 2;
     Token {
@@ -99,7 +99,7 @@ pub fn token_at(spans: &[u32], keys: &[u32], i: usize) -> Token
 // The i-th cursor.
 pub fn cursor_at(cursors: &[usize], i: usize) -> Cursor
     requires { i * 2 + 2 ≤ length cursors.now }
-    ensures { result ≡ cursorAt cursors.now i }
+    ensures { result ≡ cursor_at cursors.now i }
 {
     let b = i * 2;
     Cursor {
@@ -111,7 +111,7 @@ pub fn cursor_at(cursors: &[usize], i: usize) -> Cursor
 // A cursor at the i-th place of a room.
 pub fn put_cursor(out: &mut [usize], i: usize, cursor: Cursor)
     requires { i * 2 + 2 ≤ length out.old }
-    ensures { out.new ≡ putCursor out.old i cursor }
+    ensures { out.new ≡ put_cursor out.old i cursor }
 {
     let b = i * 2;
     out[b] = cursor.identity;

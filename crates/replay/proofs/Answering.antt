@@ -7,7 +7,7 @@ use native.Mathlib.Nat.{zero-add}
 use lib.ListN.{length}
 use borrow.Author.Tests.{lt-ltb, le-ltb}
 use Rattle.room.specs.Placed.{Put}
-use Rattle.room.proofs.Answers.{at-start}
+use Rattle.room.proofs.Answers.{at_start}
 use Rattle.refusal.specs.declared.Refusal.{Refusal}
 use Rattle.refusal.specs.declared.Refusal.TheVariants.{Room, Unmentioned}
 use Rattle.refusal.specs.declared.Counted.{Counted}
@@ -30,51 +30,51 @@ went (Refused q) l n l' n' e = (cc, cc, cc)
 
 module _ (d : Diff) where
   module _ {r : Refusal} (e : judged d ≡ Stopped r) where
-    pub plain-stops : plain d ≡ Refused r
+    pub plain_stops : plain d ≡ Refused r
     unfolding judged
-    plain-stops = stopped (plain d) (left (length d.original) (edits d)) (length (text_of d)) r e
+    plain_stops = stopped (plain d) (left (length d.original) (edits d)) (length (text_of d)) r e
 
-    pub covering-stops : covering d ≡ Refused r
+    pub covering_stops : covering d ≡ Refused r
     unfolding covering and_then
-    covering-stops = rw (plain-stops)
+    covering_stops = rw (plain_stops)
 
   module _ {l n : ℕ} (e : judged d ≡ Fine l n) where
     goes : (plain d ≡ Accepted) × (left (length d.original) (edits d) ≡ l) × (length (text_of d) ≡ n)
     unfolding judged
     goes = went (plain d) (left (length d.original) (edits d)) (length (text_of d)) l n e
 
-    pub plain-goes : plain d ≡ Accepted
-    plain-goes = goes.0
+    pub plain_goes : plain d ≡ Accepted
+    plain_goes = goes.0
 
     pub as_long : n ≡ length (text_of d)
     as_long = sym goes.2
 
-    pub covering-leaves : 0 < l → covering d ≡ Refused (Unmentioned l)
+    pub covering_leaves : 0 < l → covering d ≡ Refused (Unmentioned l)
     unfolding covering covers and_then
-    covering-leaves h = rw (goes.0, goes.1, lt-ltb 0 l h)
+    covering_leaves h = rw (goes.0, goes.1, lt-ltb 0 l h)
 
-    pub covering-goes : l ≤ 0 → covering d ≡ Accepted
+    pub covering_goes : l ≤ 0 → covering d ≡ Accepted
     unfolding covering covers and_then
-    covering-goes h = rw (goes.0, goes.1, le-ltb 0 l h)
+    covering_goes h = rw (goes.0, goes.1, le-ltb 0 l h)
 
 module _ (check : Diff → Verdict) (d : Diff) where
-  pub length-stops : {r : Refusal} → check d ≡ Refused r → NoCount r ≡ length_of check d
+  pub length_stops : {r : Refusal} → check d ≡ Refused r → NoCount r ≡ length_of check d
   unfolding length_of
-  length-stops e = rw (e)
+  length_stops e = rw (e)
 
-  pub length-goes : {n : ℕ} → check d ≡ Accepted → n ≡ length (text_of d) → Count n ≡ length_of check d
+  pub length_goes : {n : ℕ} → check d ≡ Accepted → n ≡ length (text_of d) → Count n ≡ length_of check d
   unfolding length_of
-  length-goes e m = rw (e, m)
+  length_goes e m = rw (e, m)
 
   -- a refusal before the room is looked at
-  pub replay-stops : (room : List ℕ) {r : Refusal} → check d ≡ Refused r → Replayed check d room (NoCount r) room
+  pub replay_stops : (room : List ℕ) {r : Refusal} → check d ≡ Refused r → Replayed check d room (NoCount r) room
   unfolding roomed and_then
-  replay-stops room e = record { answer = rw (e); leaving = rw (e) }
+  replay_stops room e = record { answer = rw (e); leaving = rw (e) }
 
   -- with nothing refused, the room decides
-  pub replay-goes : {room room' : List ℕ} {r : Counted} → check d ≡ Accepted → Replayed always d room r room' → Replayed check d room r room'
+  pub replay_goes : {room room' : List ℕ} {r : Counted} → check d ≡ Accepted → Replayed always d room r room' → Replayed check d room r room'
   unfolding roomed always and_then
-  replay-goes e h = record { answer = rw (e) h.answer; leaving = rw (e) h.leaving }
+  replay_goes e h = record { answer = rw (e) h.answer; leaving = rw (e) h.leaving }
 
 pub no_room : (d : Diff) (room : List ℕ) → length room < length (text_of d) → Replayed always d room (NoCount Room) room
 unfolding roomed always fits and_then
@@ -85,5 +85,5 @@ pub has_room : (d : Diff) (room : List ℕ) {room' : List ℕ} {r : ℕ} → len
 unfolding roomed always fits and_then
 has_room d room h p = record {
   answer = rw (le-ltb _ _ h, p.next, zero-add (length (text_of d)));
-  leaving = rw (le-ltb _ _ h) (p.stands ∙ at-start (text_of d) room);
+  leaving = rw (le-ltb _ _ h) (p.stands ∙ at_start (text_of d) room);
 }

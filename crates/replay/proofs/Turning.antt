@@ -6,7 +6,7 @@ use native.Mathlib.Omega.{arith}
 use lib.ListN.{length}
 use lib.IntN.{ℤ}
 use Rattle.diff.specs.Items.{items_of}
-use Rattle.diff.specs.Replay.{editsOf, replayed}
+use Rattle.diff.specs.Replay.{edits_of, replayed}
 use Rattle.replay.proofs.Building.{Building, build_begins}
 
 -- before item i: the builder's position, and the text so far in the room
@@ -22,8 +22,8 @@ abbrev pub begun : (o : List ℕ) (xs : List ℤ) (text out : List ℕ) → Turn
 begun o xs text out = record { i = 0; position = 0; at = 0; out = out; most = zero-le; inv = build_begins o xs text out }
 
 pub at_most : {o : List ℕ} {xs : List ℤ} {text out₀ out : List ℕ} {i position at : ℕ}
-    → Building o xs text out₀ i position out at → length (replayed o (editsOf text (items_of xs (length text)))) ≤ length out₀ → at ≤ length out₀
+    → Building o xs text out₀ i position out at → length (replayed o (edits_of text (items_of xs (length text)))) ≤ length out₀ → at ≤ length out₀
 at_most h f = omega (arith, h.count)
 
-pub whole-record : (xs : List ℤ) (i : ℕ) → i < length xs / 3 → i * 3 + 3 ≤ length xs
-whole-record xs i l = omega arith
+pub whole_record : (xs : List ℤ) (i : ℕ) → i < length xs / 3 → i * 3 + 3 ≤ length xs
+whole_record xs i l = omega arith

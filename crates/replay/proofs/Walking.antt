@@ -49,8 +49,8 @@ module _ {M : Type 1} {𝓤 : Ura M} (𝓛 : Logic 𝓤) where
   asked P x = qed 𝓛 (raw P ∷ []) ∵ says ! x $ done !
 
   -- or nothing
-  pub asked-nothing : (P : SProp 𝓤) → ent 𝓤 P (sep 𝓤 P (emp 𝓤))
-  asked-nothing P = qed 𝓛 (raw P ∷ []) ∵ frame ! $ done !
+  pub asked_nothing : (P : SProp 𝓤) → ent 𝓤 P (sep 𝓤 P (emp 𝓤))
+  asked_nothing P = qed 𝓛 (raw P ∷ []) ∵ frame ! $ done !
 
 -- the entries of n locals and of what is owed for each, from entry k on: the last local's first
 abbrev pub pairs : ℕ → ℕ → List ℕ
@@ -82,5 +82,5 @@ nth_arm n (default b) = b
 nth_arm zero (arm ks b arms) = b
 nth_arm (suc n) (arm ks b arms) = nth_arm n arms
 
-abbrev pub arm-of : Body → ℕ → Body
-arm-of b n = nth_arm n (pieces b).1.1
+abbrev pub arm_of : Body → ℕ → Body
+arm_of b n = nth_arm n (pieces b).1.1

@@ -6,11 +6,11 @@ use Rattle.refusal.specs.declared.Counted.TheVariants.{Count, Refused as NoCount
 use Rattle.verdict.specs.declared.Verdict.{Verdict}
 use Rattle.verdict.specs.declared.Verdict.TheVariants.{Accepted, Refused}
 use Rattle.verdict.specs.Verdicts.{and_then, leaves}
-use Rattle.verdict.specs.Points.{pointsVerdict}
+use Rattle.verdict.specs.Points.{points_verdict}
 use Rattle.diff.specs.Items.{items_of}
 use Rattle.replay.specs.declared.Judged.{Judged}
 use Rattle.replay.specs.declared.Judged.TheVariants.{Fine, Stopped}
-use Rattle.diff.specs.Replay.{Edit, editsOf, replayed, left}
+use Rattle.diff.specs.Replay.{Edit, edits_of, replayed, left}
 use Rattle.diff.specs.Checks.{sizes, records, numbers, covers, fits}
 
 -- "diff items .. with .. code points of text": a diff as lent: the original, the numbers of the items, their text
@@ -25,7 +25,7 @@ diff o is t = record { original = o; items = is; text = t }
 
 -- "from_diff up to the replayed text": the edits that a lent diff stands for
 unfoldable pub edits : Diff → List Edit
-edits d = editsOf d.text (items_of d.items (length d.text))
+edits d = edits_of d.text (items_of d.items (length d.text))
 
 -- "from_diff up to the replayed text"
 unfoldable pub text_of : Diff → List ℕ
@@ -35,7 +35,7 @@ text_of d = replayed d.original (edits d)
 unfoldable pub plain : Diff → Verdict
 plain d =
     and_then (sizes d.original (items_of d.items (length d.text)) d.text)
-    (and_then (pointsVerdict d.original d.text)
+    (and_then (points_verdict d.original d.text)
     (and_then (records 0 (items_of d.items (length d.text))) (numbers 0 (length d.original) (edits d))))
 
 -- "9 (covering replay only)"

@@ -10,9 +10,9 @@ use native.Mathlib.Omega.{arith}
 use Rattle.room.specs.Placed.{placed, answered}
 
 -- what is put at place 0 is an answer
-pub at-start : {A : Type 0} (s d : List A) → placed d 0 s ≡ answered s d
+pub at_start : {A : Type 0} (s d : List A) → placed d 0 s ≡ answered s d
 unfolding placed
-at-start s d = rw (zero-add (length s))
+at_start s d = rw (zero-add (length s))
 
 -- what is put where an answer ends makes it longer
 pub one_more : {A : Type 0} (s t d : List A) → placed (answered s d) (length s) t ≡ answered (s ++ t) d
@@ -24,5 +24,5 @@ pub past : {A : Type 0} (s d : List A) → drop (length s) (answered s d) ≡ dr
 past s d = drop-append_seam s (drop (length s) d)
 
 -- an answer that fits leaves the room its length
-pub same-room : {A : Type 0} (s d : List A) → length s ≤ length d → length (answered s d) ≡ length d
-same-room s d h = rw (length-append, length-drop) (omega arith)
+pub same_room : {A : Type 0} (s d : List A) → length s ≤ length d → length (answered s d) ≡ length d
+same_room s d h = rw (length-append, length-drop) (omega arith)

@@ -11,11 +11,11 @@ pub and_right : (s t : Bool) → s && t ≡ true → t ≡ true
 and_right true t h = h
 and_right false t h = cc
 
-pub first-no : (a b : Bool) → a ≡ false → a && b ≡ false
-first-no a b e = rw e
+pub first_no : (a b : Bool) → a ≡ false → a && b ≡ false
+first_no a b e = rw e
 
-pub second-no : (a b : Bool) → a ≡ true → b ≡ false → a && b ≡ false
-second-no a b e f = rw (e, f)
+pub second_no : (a b : Bool) → a ≡ true → b ≡ false → a && b ≡ false
+second_no a b e f = rw (e, f)
 
 pub both_yes : (a b : Bool) → a ≡ true → b ≡ true → a && b ≡ true
 both_yes a b e f = rw (e, f)
@@ -23,10 +23,10 @@ both_yes a b e f = rw (e, f)
 pub second_is : (a b r : Bool) → a ≡ true → r ≡ b → r ≡ a && b
 second_is a b r e f = rw e f
 
-pub and-true : (t : Bool) → t && true ≡ t
-and-true true = refl
-and-true false = refl
+pub and_true : (t : Bool) → t && true ≡ t
+and_true true = refl
+and_true false = refl
 
-pub and-false : (t : Bool) → t && false ≡ false
-and-false true = refl
-and-false false = refl
+pub and_false : (t : Bool) → t && false ≡ false
+and_false true = refl
+and_false false = refl

@@ -12,6 +12,6 @@ pub no_way : {A : Type 0} → false ≡ true → A
 no_way e = never (sym e)
 
 -- a statement of a choice, by the two ways it can come out
-pub pick-elim : {A : Type 0} (P : A → Type 0) (t : Bool) {a b : A} → (t ≡ true → P a) → (t ≡ false → P b) → P (pick t a b)
-pick-elim P true f g = f refl
-pick-elim P false f g = g refl
+pub pick_elim : {A : Type 0} (P : A → Type 0) (t : Bool) {a b : A} → (t ≡ true → P a) → (t ≡ false → P b) → P (pick t a b)
+pick_elim P true f g = f refl
+pick_elim P false f g = g refl

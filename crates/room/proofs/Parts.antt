@@ -5,5 +5,5 @@ use Prim.Native.Nat.{ℕ, ◌+◌, ◌-◌, ◌≤◌}
 use native.Mathlib.Omega.{arith}
 use lib.ListN.{length, take, drop, length-take}
 
-pub part-most : {A : Type 0} (s : List A) (at e n : ℕ) → e ≤ at + n → length (take (e - at) (drop at s)) ≤ n
-part-most s at e n h = omega (arith, length-take (e - at) (drop at s))
+pub part_most : {A : Type 0} (s : List A) (at e n : ℕ) → e ≤ at + n → length (take (e - at) (drop at s)) ≤ n
+part_most s at e n h = omega (arith, length-take (e - at) (drop at s))

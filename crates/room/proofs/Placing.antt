@@ -10,21 +10,21 @@ use lib.Seq.{take_at, drop-append-add, drop-drop, length-take-le}
 use Rattle.room.specs.Placed.{placed, Put}
 
 -- a run of nothing changes no room
-pub placed-none : {A : Type 0} (d : List A) (at : ℕ) → placed d at [] ≡ d
+pub placed_none : {A : Type 0} (d : List A) (at : ℕ) → placed d at [] ≡ d
 unfolding placed
-placed-none d at = rw (append-nil (take at d), add-zero at) (take-append-drop at d)
+placed_none d at = rw (append-nil (take at d), add-zero at) (take-append-drop at d)
 
-pub put-none : {A : Type 0} (d : List A) (at : ℕ) → Put [] d at d at
-put-none d at = record { next = sym (add-zero at); stands = sym (placed-none d at) }
+pub put_none : {A : Type 0} (d : List A) (at : ℕ) → Put [] d at d at
+put_none d at = record { next = sym (add-zero at); stands = sym (placed_none d at) }
 
-pub placed-length : {A : Type 0} (d : List A) (at : ℕ) (s : List A) → at + length s ≤ length d → length (placed d at s) ≡ length d
+pub placed_length : {A : Type 0} (d : List A) (at : ℕ) (s : List A) → at + length s ≤ length d → length (placed d at s) ≡ length d
 unfolding placed
-placed-length d at s h = simp (length-append, length-take, length-drop) (omega arith)
+placed_length d at s h = simp (length-append, length-take, length-drop) (omega arith)
 
 -- a run put where another ends makes it longer
-pub placed-more : {A : Type 0} (d : List A) (at : ℕ) (s t : List A) → at ≤ length d → placed (placed d at s) (at + length s) t ≡ placed d at (s ++ t)
+pub placed_more : {A : Type 0} (d : List A) (at : ℕ) (s t : List A) → at ≤ length d → placed (placed d at s) (at + length s) t ≡ placed d at (s ++ t)
 unfolding placed
-placed-more {A} d at s t h =
+placed_more {A} d at s t h =
     let e : length (take at d ++ s) ≡ at + length s = rw (length-append, length-take-le at d h) in
     let g : at + length s + length t ≡ at + length (s ++ t) = rw (length-append) (omega arith) in
     let f : drop (at + length s + length t) ((take at d ++ s) ++ drop (at + length s) d) ≡ drop (at + length (s ++ t)) d

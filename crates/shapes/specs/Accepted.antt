@@ -3,10 +3,10 @@ use Rattle.std.specs.Prelude.{ℕ, ◌+◌, ◌≤◌, ◌<◌, true, false, Lis
 use Rattle.records.specs.declared.Operation.{Operation}
 use Rattle.records.specs.declared.Token.{Token}
 use Rattle.records.specs.declared.Cursor.{Cursor}
-use Rattle.records.specs.Tokens.{tokensLent, tokensFrom}
+use Rattle.records.specs.Tokens.{tokens_lent, tokens_from}
 use Rattle.records.specs.Cursors.{Within}
 use Rattle.sizes.specs.declared.Limits.{Limits}
-use Rattle.sizes.specs.Texts.{total, claimedBy, insertedBy, textLength}
+use Rattle.sizes.specs.Texts.{total, claimed_by, inserted_by, text_length}
 
 -- "retains and deletes .. tile the original in order", from `at` to n
 unfoldable pub Tiles : ℕ → List Operation → ℕ → Type 0
@@ -23,8 +23,8 @@ AllIn n (t ∷ ts) = (0 < t.length) × ((t.start + t.length ≤ n) × AllIn n ts
 pub record Insert (n : ℕ) (spans keys : List ℕ) (o : Operation) : Type 0 where
   pub kind : o.kind ≡ 1
   pub some : 0 < o.count
-  pub lent : o.first + o.count ≤ tokensLent spans keys
-  pub tokens : AllIn n (tokensFrom spans keys o.first o.count)
+  pub lent : o.first + o.count ≤ tokens_lent spans keys
+  pub tokens : AllIn n (tokens_from spans keys o.first o.count)
 
 -- "a retain, delete .. of length 0": a retain or delete is not so
 pub record Part (o : Operation) : Type 0 where
@@ -38,12 +38,12 @@ Shapes n spans keys (o ∷ os) = (o.side < 2) × ((Insert n spans keys o ⊎ Par
 
 -- "Order for lists: 3, 4, 1, 2, 5": none was given for this list
 pub record AcceptedList (l : Limits) (original text spans keys : List ℕ) (os : List Operation) (cs : List Cursor) : Type 0 where
-  pub original-most : length original ≤ 65535
-  pub text-most : length text ≤ 131070
-  pub operations-most : length os ≤ l.operations
-  pub cursors-most : length cs ≤ l.cursors
-  pub tokens-most : total claimedBy os ≤ l.tokens
-  pub inserted-most : total (insertedBy (length text) spans keys) os ≤ l.text
+  pub original_most : length original ≤ 65535
+  pub text_most : length text ≤ 131070
+  pub operations_most : length os ≤ l.operations
+  pub cursors_most : length cs ≤ l.cursors
+  pub tokens_most : total claimed_by os ≤ l.tokens
+  pub inserted_most : total (inserted_by (length text) spans keys) os ≤ l.text
   pub shapes : Shapes (length text) spans keys os
   pub tiles : Tiles (length original) os 0
-  pub within : Within (textLength (length text) spans keys os) cs
+  pub within : Within (text_length (length text) spans keys os) cs

@@ -3,28 +3,28 @@ use Rattle.std.specs.Prelude.{ℕ, ◌+◌, Bool, true, false, ◌&&◌, ◌||�
 use Rattle.refusal.specs.declared.Refusal.TheVariants.{Record}
 use Rattle.records.specs.declared.Operation.{Operation}
 use Rattle.records.specs.declared.Token.{Token}
-use Rattle.records.specs.Tokens.{tokensFrom}
+use Rattle.records.specs.Tokens.{tokens_from}
 use Rattle.verdict.specs.declared.Verdict.{Verdict}
 use Rattle.verdict.specs.declared.Verdict.TheVariants.{Accepted, Refused}
-use Rattle.sizes.specs.Texts.{inText, runLent}
+use Rattle.sizes.specs.Texts.{in_text, run_lent}
 
 -- "token of length 0", "token .. outside what was lent": no token is so
-unfoldable pub runGood : ℕ → List Token → Bool
-runGood n [] = true
-runGood n (t ∷ ts) = (ltb 0 t.length && inText n t) && runGood n ts
+unfoldable pub run_good : ℕ → List Token → Bool
+run_good n [] = true
+run_good n (t ∷ ts) = (ltb 0 t.length && in_text n t) && run_good n ts
 
 -- "insert .. with no tokens; token or range outside what was lent": not so
-abbrev pub isRun : ℕ → List ℕ → List ℕ → Operation → Bool
-isRun n spans keys o = ltb 0 o.count && (runLent spans keys o && runGood n (tokensFrom spans keys o.first o.count))
+abbrev pub is_run : ℕ → List ℕ → List ℕ → Operation → Bool
+is_run n spans keys o = ltb 0 o.count && (run_lent spans keys o && run_good n (tokens_from spans keys o.first o.count))
 
 -- "unknown kind or side; in a list, a retain, delete .. of length 0; insert .. with no tokens; token or range outside what was lent": not so
-abbrev pub isRecord : ℕ → List ℕ → List ℕ → Operation → Bool
-isRecord n spans keys o =
+abbrev pub is_record : ℕ → List ℕ → List ℕ → Operation → Bool
+is_record n spans keys o =
     ltb o.side 2
-    && elim (eqb o.kind 1) [ true ↦ isRun n spans keys o | false ↦ (eqb o.kind 0 || eqb o.kind 2) && ltb 0 o.length ]
+    && elim (eqb o.kind 1) [ true ↦ is_run n spans keys o | false ↦ (eqb o.kind 0 || eqb o.kind 2) && ltb 0 o.length ]
 
 -- "1: .. Carries: index of first such operation": from operation i on
-unfoldable pub recordsFrom : ℕ → List ℕ → List ℕ → List Operation → ℕ → Verdict
-recordsFrom n spans keys [] i = Accepted
-recordsFrom n spans keys (o ∷ os) i =
-    elim (isRecord n spans keys o) [ true ↦ recordsFrom n spans keys os (i + 1) | false ↦ Refused (Record i) ]
+unfoldable pub records_from : ℕ → List ℕ → List ℕ → List Operation → ℕ → Verdict
+records_from n spans keys [] i = Accepted
+records_from n spans keys (o ∷ os) i =
+    elim (is_record n spans keys o) [ true ↦ records_from n spans keys os (i + 1) | false ↦ Refused (Record i) ]

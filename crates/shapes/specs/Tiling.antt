@@ -7,23 +7,23 @@ use Rattle.verdict.specs.declared.Verdict.{Verdict}
 use Rattle.verdict.specs.declared.Verdict.TheVariants.{Accepted, Refused}
 
 -- "index of first whose order isn't the length consumed before it or that passes the end; else the list's length": from operation i on, with `at` consumed
-unfoldable pub tilingFrom : ℕ → List Operation → ℕ → ℕ → Verdict
-tilingFrom n [] i at = elim (eqb at n) [ true ↦ Accepted | false ↦ Refused (R.Tiling i) ]
-tilingFrom n (o ∷ os) i at =
+unfoldable pub tiling_from : ℕ → List Operation → ℕ → ℕ → Verdict
+tiling_from n [] i at = elim (eqb at n) [ true ↦ Accepted | false ↦ Refused (R.Tiling i) ]
+tiling_from n (o ∷ os) i at =
     elim (eqb o.kind 1) [
-      | true ↦ tilingFrom n os (i + 1) at
+      | true ↦ tiling_from n os (i + 1) at
       | false ↦
           elim (eqb o.order at && leb (at + o.length) n) [
-            | true ↦ tilingFrom n os (i + 1) (at + o.length)
+            | true ↦ tiling_from n os (i + 1) (at + o.length)
             | false ↦ Refused (R.Tiling i)
           ]
     ]
 
 -- "2: retains and deletes do not tile the original in order", of n code points
-abbrev pub tilingOf : ℕ → List Operation → Verdict
-tilingOf n os = tilingFrom n os 0 0
+abbrev pub tiling_of : ℕ → List Operation → Verdict
+tiling_of n os = tiling_from n os 0 0
 
 -- "5: a cursor lies past the end of its own list's text. Carries: its place among the cursors lent": from place i on, of a text of e code points
-unfoldable pub withinFrom : ℕ → List Cursor → ℕ → Verdict
-withinFrom e [] i = Accepted
-withinFrom e (c ∷ cs) i = elim (leb c.index e) [ true ↦ withinFrom e cs (i + 1) | false ↦ Refused (R.Cursor i) ]
+unfoldable pub within_from : ℕ → List Cursor → ℕ → Verdict
+within_from e [] i = Accepted
+within_from e (c ∷ cs) i = elim (leb c.index e) [ true ↦ within_from e cs (i + 1) | false ↦ Refused (R.Cursor i) ]

@@ -1,19 +1,19 @@
 // Refusals 1, 2 and 5 of a list: its records, its tiling of the original, its cursors.
 ghost use Rattle.std.specs.Prelude.{◌≡◌, ◌+◌, ◌<◌, ◌≤◌};
-ghost use Rattle.records.specs.Operations.{operationsOf};
-ghost use Rattle.records.specs.Tokens.{tokensLent, tokensFrom};
-ghost use Rattle.records.specs.Cursors.{cursorsOf};
+ghost use Rattle.records.specs.Operations.{operations_of};
+ghost use Rattle.records.specs.Tokens.{tokens_lent, tokens_from};
+ghost use Rattle.records.specs.Cursors.{cursors_of};
 ghost use Rattle.verdict.specs.Verdicts.{and_then};
-ghost use Rattle.sizes.specs.Texts.{textLength};
-ghost use Rattle.shapes.specs.Shapes.{runGood, isRun, isRecord, recordsFrom};
-ghost use Rattle.shapes.specs.Tiling.{tilingOf, withinFrom};
+ghost use Rattle.sizes.specs.Texts.{text_length};
+ghost use Rattle.shapes.specs.Shapes.{run_good, is_run, is_record, records_from};
+ghost use Rattle.shapes.specs.Tiling.{tiling_of, within_from};
 
 use verdict::Verdict;
 
 // Whether every token of a run has text, and all of it is lent.
 pub fn run_good(spans: &[u32], keys: &[u32], n: usize, first: usize, count: usize) -> bool
-    requires { first + count ≤ tokensLent spans.now keys.now }
-    ensures { result ≡ runGood n (tokensFrom spans.now keys.now first count) }
+    requires { first + count ≤ tokens_lent spans.now keys.now }
+    ensures { result ≡ run_good n (tokens_from spans.now keys.now first count) }
 {
     let end = first + count;
     let mut i = first;
@@ -33,7 +33,7 @@ pub fn run_good(spans: &[u32], keys: &[u32], n: usize, first: usize, count: usiz
 
 // Whether an insert's tokens are good.
 fn is_run(spans: &[u32], keys: &[u32], n: usize, o: records::Operation) -> bool
-    ensures { result ≡ isRun n spans.now keys.now o }
+    ensures { result ≡ is_run n spans.now keys.now o }
 {
     if o.count == 0 {
         return false;
@@ -46,7 +46,7 @@ fn is_run(spans: &[u32], keys: &[u32], n: usize, o: records::Operation) -> bool
 
 // Whether an operation is a record of its kind.
 pub fn is_record(spans: &[u32], keys: &[u32], n: usize, o: records::Operation) -> bool
-    ensures { result ≡ isRecord n spans.now keys.now o }
+    ensures { result ≡ is_record n spans.now keys.now o }
 {
     if 1 < o.side {
         return false;
@@ -62,7 +62,7 @@ pub fn is_record(spans: &[u32], keys: &[u32], n: usize, o: records::Operation) -
 
 // Refusal 1 of a list.
 pub fn check_records(spans: &[u32], keys: &[u32], n: usize, operations: &[usize]) -> Verdict
-    ensures { result ≡ recordsFrom n spans.now keys.now (operationsOf operations.now) 0 }
+    ensures { result ≡ records_from n spans.now keys.now (operations_of operations.now) 0 }
 {
     let count = operations.len() / 6;
     let mut i = 0;
@@ -85,7 +85,7 @@ pub fn check_both_records(
     left: &[usize],
     right: &[usize],
 ) -> Verdict
-    ensures { result ≡ and_then (recordsFrom m spans.now keys.now (operationsOf left.now) 0) (recordsFrom m spans.now keys.now (operationsOf right.now) 0) }
+    ensures { result ≡ and_then (records_from m spans.now keys.now (operations_of left.now) 0) (records_from m spans.now keys.now (operations_of right.now) 0) }
 {
     match check_records(spans, keys, m, left) {
         Verdict::Refused(refusal) => Verdict::Refused(refusal),
@@ -95,7 +95,7 @@ pub fn check_both_records(
 
 // Refusal 2 of a list over an original of n code points.
 pub fn check_tiling(n: usize, operations: &[usize]) -> Verdict
-    ensures { result ≡ tilingOf n (operationsOf operations.now) }
+    ensures { result ≡ tiling_of n (operations_of operations.now) }
 {
     let count = operations.len() / 6;
     let mut i = 0;
@@ -122,7 +122,7 @@ pub fn check_tiling(n: usize, operations: &[usize]) -> Verdict
 
 // Refusal 2 of both lists.
 pub fn check_both_tilings(n: usize, left: &[usize], right: &[usize]) -> Verdict
-    ensures { result ≡ and_then (tilingOf n (operationsOf left.now)) (tilingOf n (operationsOf right.now)) }
+    ensures { result ≡ and_then (tiling_of n (operations_of left.now)) (tiling_of n (operations_of right.now)) }
 {
     match check_tiling(n, left) {
         Verdict::Refused(refusal) => Verdict::Refused(refusal),
@@ -132,7 +132,7 @@ pub fn check_both_tilings(n: usize, left: &[usize], right: &[usize]) -> Verdict
 
 // Refusal 5 of the cursors of a text of `end` code points.
 pub fn check_cursors(cursors: &[usize], end: usize) -> Verdict
-    ensures { result ≡ withinFrom end (cursorsOf cursors.now) 0 }
+    ensures { result ≡ within_from end (cursors_of cursors.now) 0 }
 {
     let count = cursors.len() / 2;
     let mut i = 0;
@@ -154,8 +154,8 @@ pub fn check_within(
     operations: &[usize],
     cursors: &[usize],
 ) -> Verdict
-    requires { textLength m spans.now keys.now (operationsOf operations.now) < 1000000 }
-    ensures { result ≡ withinFrom (textLength m spans.now keys.now (operationsOf operations.now)) (cursorsOf cursors.now) 0 }
+    requires { text_length m spans.now keys.now (operations_of operations.now) < 1000000 }
+    ensures { result ≡ within_from (text_length m spans.now keys.now (operations_of operations.now)) (cursors_of cursors.now) 0 }
 {
     let end = sizes::text_length(spans, keys, m, operations);
     check_cursors(cursors, end)

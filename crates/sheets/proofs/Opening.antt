@@ -3,18 +3,18 @@
 use Prim.Native.Nat.{ℕ}
 use mathlib.Core.Path.{◌≡◌, refl}
 use mathlib.Core.List.{List, [], ◌∷◌}
-use Rattle.utf8_read.specs.Grammar.{utf8-1, utf8-char}
+use Rattle.utf8_read.specs.Grammar.{utf8_1, utf8_char}
 use Rattle.utf8_read.specs.Table.{decode}
-use Rattle.utf8_read.specs.Reading.{good-from, points, points-from}
-use Rattle.edit_format.specs.Digits.{digit, digitOf, isDigit}
-use Rattle.numbers.specs.Points.{isPoint}
-use Rattle.edit_format.specs.Items.{Item, Keep, Drop, Add, kept, dropped, added, isKeep, endsKeep}
-use Rattle.edit_format.specs.Reading.{Accepted, lineNo, kindKey, key_of, hexes, several, base, fitsItem, fits, kind_of, item_of, opened, next, begun, keyed, numbered, step, run, finish, readFile, firstItem, resultLine}
+use Rattle.utf8_read.specs.Reading.{good_from, points, points_from}
+use Rattle.edit_format.specs.Digits.{digit, digit_of, is_digit}
+use Rattle.numbers.specs.Points.{is_point}
+use Rattle.edit_format.specs.Items.{Item, Keep, Drop, Add, kept, dropped, added, is_keep, ends_keep}
+use Rattle.edit_format.specs.Reading.{Accepted, line_no, kind_key, key_of, hexes, several, base, fits_item, fits, kind_of, item_of, opened, next, begun, keyed, numbered, step, run, finish, read_file, first_item, result_line}
 use Rattle.verdict.specs.declared.Verdict.TheVariants as W
 use Rattle.verdict.specs.Verdicts.{and_then, sized}
 use Rattle.edit_list.specs.Raws.{items_in}
 use Rattle.merge_files.specs.declared.View.TheVariants as Asked
-use Rattle.merge_files.specs.Program.{utf8Verdict, fileVerdict, filesVerdict, outcomeBy}
+use Rattle.merge_files.specs.Program.{utf8_verdict, file_verdict, files_verdict, outcome_by}
 use Rattle.sheets.specs.Ascii.{ascii, lines}
 use Rattle.sheets.specs.Lines.{abcdef, none}
 
@@ -27,28 +27,28 @@ lefts = Keep 2 ∷ Drop 2 ∷ Add (88 ∷ []) ∷ Keep 2 ∷ []
 abbrev pub rights : List Item
 rights = Keep 3 ∷ Drop 2 ∷ Add (89 ∷ []) ∷ Keep 1 ∷ []
 
-reads : (readFile abcdef.left ≡ Accepted lefts) × ((readFile abcdef.right ≡ Accepted rights) × (readFile none ≡ Accepted []))
-unfolding ascii lines readFile run step numbered keyed begun next opened item_of kind_of finish fits fitsItem base several hexes key_of kindKey lineNo firstItem resultLine isDigit digitOf digit kept dropped added endsKeep isKeep isPoint
+reads : (read_file abcdef.left ≡ Accepted lefts) × ((read_file abcdef.right ≡ Accepted rights) × (read_file none ≡ Accepted []))
+unfolding ascii lines read_file run step numbered keyed begun next opened item_of kind_of finish fits fits_item base several hexes key_of kind_key line_no first_item result_line is_digit digit_of digit kept dropped added ends_keep is_keep is_point
 reads = (refl, (refl, refl))
 
 -- sizes and UTF-8 of each file
-checked : (utf8Verdict abcdef.original ≡ W.Accepted)
-    × ((utf8Verdict abcdef.left ≡ W.Accepted) × ((utf8Verdict abcdef.right ≡ W.Accepted) × ((utf8Verdict [] ≡ W.Accepted) × (utf8Verdict none ≡ W.Accepted))))
-unfolding utf8Verdict good-from utf8-char utf8-1 ascii lines
+checked : (utf8_verdict abcdef.original ≡ W.Accepted)
+    × ((utf8_verdict abcdef.left ≡ W.Accepted) × ((utf8_verdict abcdef.right ≡ W.Accepted) × ((utf8_verdict [] ≡ W.Accepted) × (utf8_verdict none ≡ W.Accepted))))
+unfolding utf8_verdict good_from utf8_char utf8_1 ascii lines
 checked = (refl, (refl, (refl, (refl, refl))))
 
 spelled : points abcdef.original ≡ letters
-unfolding points-from utf8-char utf8-1 decode ascii
+unfolding points_from utf8_char utf8_1 decode ascii
 spelled = refl
 
-pub opens-abcdef : (filesVerdict abcdef.original abcdef.left abcdef.right ≡ W.Accepted)
-    × (outcomeBy Asked.File (points abcdef.original) (items_in (readFile abcdef.left)) (items_in (readFile abcdef.right)) ≡ outcomeBy Asked.File letters lefts rights)
-unfolding filesVerdict fileVerdict items_in and_then sized ascii lines
-opens-abcdef =
-    (rw (checked.0, checked.1.0, checked.1.1.0, reads.0, reads.1.0), λ i. outcomeBy Asked.File (spelled i) (items_in (reads.0 i)) (items_in (reads.1.0 i)))
+pub opens_abcdef : (files_verdict abcdef.original abcdef.left abcdef.right ≡ W.Accepted)
+    × (outcome_by Asked.File (points abcdef.original) (items_in (read_file abcdef.left)) (items_in (read_file abcdef.right)) ≡ outcome_by Asked.File letters lefts rights)
+unfolding files_verdict file_verdict items_in and_then sized ascii lines
+opens_abcdef =
+    (rw (checked.0, checked.1.0, checked.1.1.0, reads.0, reads.1.0), λ i. outcome_by Asked.File (spelled i) (items_in (reads.0 i)) (items_in (reads.1.0 i)))
 
-pub opens-nothing : (filesVerdict [] none none ≡ W.Accepted)
-    × (outcomeBy Asked.File (points []) (items_in (readFile none)) (items_in (readFile none)) ≡ outcomeBy Asked.File [] [] [])
-unfolding filesVerdict fileVerdict items_in and_then sized points-from lines ascii
-opens-nothing =
-    (rw (checked.1.1.1.0, checked.1.1.1.1, reads.1.1), λ i. outcomeBy Asked.File [] (items_in (reads.1.1 i)) (items_in (reads.1.1 i)))
+pub opens_nothing : (files_verdict [] none none ≡ W.Accepted)
+    × (outcome_by Asked.File (points []) (items_in (read_file none)) (items_in (read_file none)) ≡ outcome_by Asked.File [] [] [])
+unfolding files_verdict file_verdict items_in and_then sized points_from lines ascii
+opens_nothing =
+    (rw (checked.1.1.1.0, checked.1.1.1.1, reads.1.1), λ i. outcome_by Asked.File [] (items_in (reads.1.1 i)) (items_in (reads.1.1 i)))

@@ -1,33 +1,33 @@
 -- Shown: every starred sheet of the paper.
 -- How: the laws of each part, brought together; that no merge is refused, by computation.
 use mathlib.Core.Path.{refl}
-use Rattle.numbers.specs.Points.{isPoint}
-use Rattle.records.specs.Tokens.{tokensFrom}
-use Rattle.overlap.proofs.Sheets.{sheets-hold as overlaps-hold}
+use Rattle.numbers.specs.Points.{is_point}
+use Rattle.records.specs.Tokens.{tokens_from}
+use Rattle.overlap.proofs.Sheets.{sheets_hold as overlaps-hold}
 use Rattle.replay.proofs.Sheets.{sheets as replays-hold}
 use Rattle.verdict.specs.Verdicts.{and_then, sized}
-use Rattle.verdict.specs.Points.{pointsFrom}
-use Rattle.sizes.specs.Texts.{total, runText}
-use Rattle.shapes.specs.Shapes.{runGood, recordsFrom}
-use Rattle.shapes.specs.Tiling.{tilingFrom, withinFrom}
-use Rattle.checks.specs.Lists.{listsVerdict}
+use Rattle.verdict.specs.Points.{points_from}
+use Rattle.sizes.specs.Texts.{total, run_text}
+use Rattle.shapes.specs.Shapes.{run_good, records_from}
+use Rattle.shapes.specs.Tiling.{tiling_from, within_from}
+use Rattle.checks.specs.Lists.{lists_verdict}
 use Rattle.merging.specs.Sheets.{sheets}
-use Rattle.merging.proofs.Sheets.{sheets-hold as merges-hold}
-use Rattle.apply.proofs.Sheets.{sheets-made}
+use Rattle.merging.proofs.Sheets.{sheets_hold as merges-hold}
+use Rattle.apply.proofs.Sheets.{sheets_made}
 use Rattle.sheets.specs.Sheets.{Accepts, Sheets}
-use Rattle.sheets.proofs.Lines.{lines-hold}
+use Rattle.sheets.proofs.Lines.{lines_hold}
 
-merges-accepted : Accepts sheets
-unfolding listsVerdict and_then sized pointsFrom isPoint recordsFrom runGood tilingFrom withinFrom total runText tokensFrom
-merges-accepted = (refl, (refl, (refl, tt)))
+merges_accepted : Accepts sheets
+unfolding lists_verdict and_then sized points_from is_point records_from run_good tiling_from within_from total run_text tokens_from
+merges_accepted = (refl, (refl, (refl, tt)))
 
 pub all : Sheets
 all =
     record {
       overlap = overlaps-hold;
       replay = replays-hold;
-      accepts = merges-accepted;
+      accepts = merges_accepted;
       merge = merges-hold;
-      view = sheets-made;
-      writes = lines-hold;
+      view = sheets_made;
+      writes = lines_hold;
     }

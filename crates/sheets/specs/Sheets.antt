@@ -5,7 +5,7 @@ use Rattle.overlap.specs.Sheets as overlaps
 use Rattle.replay.specs.Sheets as replays
 use Rattle.verdict.specs.declared.Verdict.TheVariants.{Accepted}
 use Rattle.sizes.specs.Sizes.{merging}
-use Rattle.checks.specs.Lists.{listsVerdict}
+use Rattle.checks.specs.Lists.{lists_verdict}
 use Rattle.merging.specs.Sheets as merges
 use Rattle.apply.specs.Sheets as views
 use Rattle.sheets.specs.Lines as program
@@ -14,7 +14,7 @@ use Rattle.sheets.specs.Lines as program
 abbrev pub Accepts : List merges.Sheet → Type 0
 Accepts [] = Unit
 Accepts (s ∷ ss) =
-    (listsVerdict merging s.lent.original s.lent.inserted s.lent.spans s.lent.keys s.left s.right s.leftCursors s.rightCursors ≡ Accepted)
+    (lists_verdict merging s.lent.original s.lent.inserted s.lent.spans s.lent.keys s.left s.right s.left_cursors s.right_cursors ≡ Accepted)
     × Accepts ss
 
 -- "★ proved, one statement over the table"

@@ -3,7 +3,7 @@ use Rattle.std.specs.Prelude.{ℕ, ◌<◌, Bool, ◌&&◌, List, leb, length}
 use Rattle.records.specs.declared.Operation.{Operation}
 use Rattle.records.specs.declared.Cursor.{Cursor}
 use Rattle.sizes.specs.declared.Limits.{Limits}
-use Rattle.sizes.specs.Texts.{total, claimedBy, insertedBy}
+use Rattle.sizes.specs.Texts.{total, claimed_by, inserted_by}
 
 -- "operations 4,096 a list for merging", "insert tokens 8,192 a list for merging", "inserted text 65,535 for merging", "cursors 256 a list for merging"
 abbrev pub merging : Limits
@@ -19,11 +19,11 @@ pub record Small (l : Limits) : Type 0 where
   pub text : l.text < 900000
 
 -- "original 65,535 code points"; "one lent inserted text of at most 131,070 code points"
-abbrev pub lentFits : List ℕ → List ℕ → Bool
-lentFits original text = leb (length original) 65535 && leb (length text) 131070
+abbrev pub lent_fits : List ℕ → List ℕ → Bool
+lent_fits original text = leb (length original) 65535 && leb (length text) 131070
 
 -- "The limit itself passes": of a list, with n code points of inserted text lent
-abbrev pub listFits : Limits → ℕ → List ℕ → List ℕ → List Operation → List Cursor → Bool
-listFits l n spans keys os cs =
+abbrev pub list_fits : Limits → ℕ → List ℕ → List ℕ → List Operation → List Cursor → Bool
+list_fits l n spans keys os cs =
     leb (length os) l.operations
-    && (leb (length cs) l.cursors && (leb (total claimedBy os) l.tokens && leb (total (insertedBy n spans keys) os) l.text))
+    && (leb (length cs) l.cursors && (leb (total claimed_by os) l.tokens && leb (total (inserted_by n spans keys) os) l.text))

@@ -1,11 +1,11 @@
 // Refusal 3 of lists: their sizes, and the length of a list's text. Of the caller only its limits are
 // asked, that they are below the cap: every sum stops where it cannot grow to a wrong answer any more.
 ghost use Rattle.std.specs.Prelude.{◌≡◌, ◌+◌, ◌≤◌, min, ◌&&◌};
-ghost use Rattle.records.specs.Operations.{operationsOf};
-ghost use Rattle.records.specs.Tokens.{tokensLent, tokensFrom};
-ghost use Rattle.records.specs.Cursors.{cursorsOf};
-ghost use Rattle.sizes.specs.Texts.{total, inText, runText, runLent, claimedBy, insertedBy, retainedBy, textLength};
-ghost use Rattle.sizes.specs.Sizes.{Small, merging, otherwise, lentFits, listFits};
+ghost use Rattle.records.specs.Operations.{operations_of};
+ghost use Rattle.records.specs.Tokens.{tokens_lent, tokens_from};
+ghost use Rattle.records.specs.Cursors.{cursors_of};
+ghost use Rattle.sizes.specs.Texts.{total, in_text, run_text, run_lent, claimed_by, inserted_by, retained_by, text_length};
+ghost use Rattle.sizes.specs.Sizes.{Small, merging, otherwise, lent_fits, list_fits};
 
 use numbers::wide;
 
@@ -51,7 +51,7 @@ pub fn capped(a: usize, b: usize) -> usize
 
 // Whether a token lies in a text of n code points.
 pub fn in_text(t: records::Token, n: usize) -> bool
-    ensures { result ≡ inText n t }
+    ensures { result ≡ in_text n t }
 {
     let start = wide(t.start);
     let length = wide(t.length);
@@ -60,7 +60,7 @@ pub fn in_text(t: records::Token, n: usize) -> bool
 
 // Whether an operation's range of tokens is lent.
 pub fn run_lent(spans: &[u32], keys: &[u32], o: records::Operation) -> bool
-    ensures { result ≡ runLent spans.now keys.now o }
+    ensures { result ≡ run_lent spans.now keys.now o }
 {
     let lent = records::tokens_lent(spans, keys);
     if lent < o.count {
@@ -71,8 +71,8 @@ pub fn run_lent(spans: &[u32], keys: &[u32], o: records::Operation) -> bool
 
 // The text of a run of tokens, capped.
 pub fn run_text(spans: &[u32], keys: &[u32], n: usize, first: usize, count: usize) -> usize
-    requires { first + count ≤ tokensLent spans.now keys.now }
-    ensures { result ≡ min 1000000 (runText n (tokensFrom spans.now keys.now first count)) }
+    requires { first + count ≤ tokens_lent spans.now keys.now }
+    ensures { result ≡ min 1000000 (run_text n (tokens_from spans.now keys.now first count)) }
 {
     let end = first + count;
     let mut i = first;
@@ -90,19 +90,19 @@ pub fn run_text(spans: &[u32], keys: &[u32], n: usize, first: usize, count: usiz
 }
 
 pub fn claimed_by(o: records::Operation) -> usize
-    ensures { result ≡ claimedBy o }
+    ensures { result ≡ claimed_by o }
 {
     if o.kind == 1 { o.count } else { 0 }
 }
 
 pub fn retained_by(o: records::Operation) -> usize
-    ensures { result ≡ retainedBy o }
+    ensures { result ≡ retained_by o }
 {
     if o.kind == 2 { o.length } else { 0 }
 }
 
 pub fn inserted_by(spans: &[u32], keys: &[u32], n: usize, o: records::Operation) -> usize
-    ensures { result ≡ min 1000000 (insertedBy n spans.now keys.now o) }
+    ensures { result ≡ min 1000000 (inserted_by n spans.now keys.now o) }
 {
     if o.kind != 1 {
         return 0;
@@ -115,7 +115,7 @@ pub fn inserted_by(spans: &[u32], keys: &[u32], n: usize, o: records::Operation)
 
 // The tokens that a list's inserts claim, capped.
 pub fn claimed(operations: &[usize]) -> usize
-    ensures { result ≡ min 1000000 (total claimedBy (operationsOf operations.now)) }
+    ensures { result ≡ min 1000000 (total claimed_by (operations_of operations.now)) }
 {
     let count = operations.len() / 6;
     let mut i = 0;
@@ -131,7 +131,7 @@ pub fn claimed(operations: &[usize]) -> usize
 
 // The text that a list inserts, capped.
 pub fn inserted(spans: &[u32], keys: &[u32], n: usize, operations: &[usize]) -> usize
-    ensures { result ≡ min 1000000 (total (insertedBy n spans.now keys.now) (operationsOf operations.now)) }
+    ensures { result ≡ min 1000000 (total (inserted_by n spans.now keys.now) (operations_of operations.now)) }
 {
     let count = operations.len() / 6;
     let mut i = 0;
@@ -147,7 +147,7 @@ pub fn inserted(spans: &[u32], keys: &[u32], n: usize, operations: &[usize]) -> 
 
 // What an operation adds to its list's text, capped.
 fn text_by(spans: &[u32], keys: &[u32], n: usize, o: records::Operation) -> usize
-    ensures { min 1000000 result ≡ min 1000000 (retainedBy o + insertedBy n spans.now keys.now o) }
+    ensures { min 1000000 result ≡ min 1000000 (retained_by o + inserted_by n spans.now keys.now o) }
 {
     if o.kind == 1 {
         return inserted_by(spans, keys, n, o);
@@ -158,7 +158,7 @@ fn text_by(spans: &[u32], keys: &[u32], n: usize, o: records::Operation) -> usiz
 // The length of a list's text, capped: that of an accepted list is below the cap. n is the length of
 // the lent inserted text.
 pub fn text_length(spans: &[u32], keys: &[u32], n: usize, operations: &[usize]) -> usize
-    ensures { result ≡ min 1000000 (textLength n spans.now keys.now (operationsOf operations.now)) }
+    ensures { result ≡ min 1000000 (text_length n spans.now keys.now (operations_of operations.now)) }
 {
     let count = operations.len() / 6;
     let mut i = 0;
@@ -174,7 +174,7 @@ pub fn text_length(spans: &[u32], keys: &[u32], n: usize, operations: &[usize]) 
 
 // Whether the original and the lent inserted text keep their sizes.
 pub fn lent_fits(original: &[u32], text: &[u32]) -> bool
-    ensures { result ≡ lentFits original.now text.now }
+    ensures { result ≡ lent_fits original.now text.now }
 {
     if 65535 < original.len() {
         return false;
@@ -192,7 +192,7 @@ pub fn list_fits(
     cursors: &[usize],
 ) -> bool
     requires { Small limits }
-    ensures { result ≡ listFits limits n spans.now keys.now (operationsOf operations.now) (cursorsOf cursors.now) }
+    ensures { result ≡ list_fits limits n spans.now keys.now (operations_of operations.now) (cursors_of cursors.now) }
 {
     if limits.operations < operations.len() / 6 {
         return false;
@@ -218,7 +218,7 @@ pub fn lists_fit(
     right_cursors: &[usize],
 ) -> bool
     requires { Small limits }
-    ensures { result ≡ listFits limits m spans.now keys.now (operationsOf left.now) (cursorsOf left_cursors.now) && listFits limits m spans.now keys.now (operationsOf right.now) (cursorsOf right_cursors.now) }
+    ensures { result ≡ list_fits limits m spans.now keys.now (operations_of left.now) (cursors_of left_cursors.now) && list_fits limits m spans.now keys.now (operations_of right.now) (cursors_of right_cursors.now) }
 {
     if !list_fits(limits, m, spans, keys, left, left_cursors) {
         return false;

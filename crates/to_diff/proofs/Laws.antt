@@ -9,6 +9,6 @@ use Rattle.merging.specs.Lent.{Lent}
 use Rattle.to_diff.specs.declared.Diffed.{Diffed}
 use Rattle.to_diff.specs.Answers.{Diffs}
 
-pub only-answer : {lent : Lent} {os : List Operation} {d d' d'' : List ℤ} {e e' e'' : List ℕ} {r s : Diffed} → Diffs lent os d e d' e' r → Diffs lent os d e d'' e'' s
+pub only_answer : {lent : Lent} {os : List Operation} {d d' d'' : List ℤ} {e e' e'' : List ℕ} {r s : Diffed} → Diffs lent os d e d' e' r → Diffs lent os d e d'' e'' s
     → (r ≡ s) × ((d' ≡ d'') × (e' ≡ e''))
-only-answer h k = (h.answer ∙ sym k.answer, (h.items ∙ sym k.items, h.text ∙ sym k.text))
+only_answer h k = (h.answer ∙ sym k.answer, (h.items ∙ sym k.items, h.text ∙ sym k.text))

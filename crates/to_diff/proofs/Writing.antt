@@ -9,62 +9,62 @@ use lib.IntN.{ℤ}
 use Rattle.merging.specs.Lent.{lent_of}
 use Rattle.diff.specs.Replay.{Edit}
 use Rattle.room.specs.Placed.{placed, answered}
-use Rattle.room.proofs.Answers.{one_more, same-room}
+use Rattle.room.proofs.Answers.{one_more, same_room}
 use Rattle.records.specs.declared.Operation.{Operation}
-use Rattle.records.specs.Operations.{operationAt, operationsFrom, operationsOf}
+use Rattle.records.specs.Operations.{operation_at, operations_from, operations_of}
 use Rattle.records.specs.Tokens.{spelling}
-use Rattle.records.proofs.Operations.{from-none}
+use Rattle.records.proofs.Operations.{from_none}
 use Rattle.words.specs.Words.{Lends}
 use Rattle.edit_format.specs.Items.{Item, Keep, Drop, Add, added, texts}
-use Rattle.edit_format.specs.Records.{recordOf, recordsFrom, recordsOf}
-use Rattle.edit_format.proofs.RecordLaws.{length-records, records-snoc}
-use Rattle.edit_format.proofs.TextLaws.{texts-append, texts-length}
-use Rattle.merging.specs.Operations.{opsFrom}
-use Rattle.merging.specs.Outputs.{toDiff}
+use Rattle.edit_format.specs.Records.{record_of, records_from, records_of}
+use Rattle.edit_format.proofs.RecordLaws.{length_records, records_snoc}
+use Rattle.edit_format.proofs.TextLaws.{texts_append, texts_length}
+use Rattle.merging.specs.Operations.{ops_from}
+use Rattle.merging.specs.Outputs.{to_diff}
 use Rattle.merging.specs.Tiling.{Tiled, Inserts}
-use Rattle.merging.proofs.OneTurn.{tiled-le}
-use Rattle.merging.proofs.Decoded.{first-insert, first-delete, first-retain}
-use Rattle.to_diff.specs.Items.{item_of, items_of, diffOf}
+use Rattle.merging.proofs.OneTurn.{tiled_le}
+use Rattle.merging.proofs.Decoded.{first_insert, first_delete, first_retain}
+use Rattle.to_diff.specs.Items.{item_of, items_of, diff_of}
 use Rattle.to_diff.specs.Writes.{keeps, Spells, items, Ready, Fits, Kept, Inserted, Wrote}
-use Rattle.to_diff.proofs.Joining.{pended, pend-more, pend-none, pend-delete, pend-insert}
+use Rattle.to_diff.proofs.Joining.{pended, pend_more, pend_none, pend_delete, pend_insert}
 use Rattle.to_diff.proofs.Measuring.{at_place}
 
 -- a retain that was held back adds no text
-texts-keeps : (done : List Item) (n : ℕ) → texts (done ++ keeps n) ≡ texts done
+texts_keeps : (done : List Item) (n : ℕ) → texts (done ++ keeps n) ≡ texts done
 unfolding keeps texts
-texts-keeps done zero = ap texts (append-nil done)
-texts-keeps done (suc n) = texts-append done (Keep (suc n) ∷ []) ∙ append-nil (texts done)
+texts_keeps done zero = ap texts (append-nil done)
+texts_keeps done (suc n) = texts_append done (Keep (suc n) ∷ []) ∙ append-nil (texts done)
 
-records-keeps : (done : List Item) (n : ℕ) → recordsOf done ++ recordsOf (keeps n) ≡ recordsOf (done ++ keeps n)
-unfolding keeps recordsOf recordsFrom recordOf
-records-keeps done zero = append-nil (recordsOf done) ∙ ap recordsOf (sym (append-nil done))
-records-keeps done (suc n) = sym (records-snoc done (Keep (suc n)))
+records_keeps : (done : List Item) (n : ℕ) → records_of done ++ records_of (keeps n) ≡ records_of (done ++ keeps n)
+unfolding keeps records_of records_from record_of
+records_keeps done zero = append-nil (records_of done) ∙ ap records_of (sym (append-nil done))
+records_keeps done (suc n) = sym (records_snoc done (Keep (suc n)))
 
 -- a room grows by what is put where its answer ends
-room-more : {A : Type 0} (s t d₀ d d' : List A) (at : ℕ) → at ≡ length s → d ≡ answered s d₀ → d' ≡ placed d at t → d' ≡ answered (s ++ t) d₀
-room-more s t d₀ d d' at e f g = g ∙ (rw (e, f) (one_more s t d₀))
+room_more : {A : Type 0} (s t d₀ d d' : List A) (at : ℕ) → at ≡ length s → d ≡ answered s d₀ → d' ≡ placed d at t → d' ≡ answered (s ++ t) d₀
+room_more s t d₀ d d' at e f g = g ∙ (rw (e, f) (one_more s t d₀))
 
 -- rs is still to be written of os, a list over an original of n code points; what is held back is kept long
 pub record Writing (text spans keys : List ℕ) (os : List Operation) (n : ℕ) (d₀ : List ℤ) (e₀ : List ℕ) (rs : List Operation) (kept place at : ℕ)
     (d : List ℤ) (e : List ℕ) : Type 0 where
   pub done : List Item
   pub used : ℕ
-  pub splits : done ++ items_of (pended kept (toDiff (lent_of [] text spans keys) (opsFrom used rs))) ≡ items text spans keys os
+  pub splits : done ++ items_of (pended kept (to_diff (lent_of [] text spans keys) (ops_from used rs))) ≡ items text spans keys os
   pub places : place ≡ length done
   pub ends : at ≡ length (texts done)
-  pub stands : d ≡ answered (recordsOf done) d₀
+  pub stands : d ≡ answered (records_of done) d₀
   pub spelt : e ≡ answered (texts done) e₀
-  pub tiled : Tiled (opsFrom used rs) used n
-  pub spells : Inserts (Spells text spans keys) (opsFrom used rs)
+  pub tiled : Tiled (ops_from used rs) used n
+  pub spells : Inserts (Spells text spans keys) (ops_from used rs)
   pub held : kept ≤ used
 
 module _ (text spans keys : List ℕ) (os : List Operation) (n : ℕ) (d₀ : List ℤ) (e₀ : List ℕ) where
   abbrev edits : ℕ → List Operation → List Edit
-  edits at rs = toDiff (lent_of [] text spans keys) (opsFrom at rs)
+  edits at rs = to_diff (lent_of [] text spans keys) (ops_from at rs)
 
-  pub write-begins : Tiled (opsFrom 0 os) 0 n → Inserts (Spells text spans keys) (opsFrom 0 os) → Writing text spans keys os n d₀ e₀ os 0 0 0 d₀ e₀
-  unfolding pended diffOf recordsOf recordsFrom texts
-  write-begins t s =
+  pub write_begins : Tiled (ops_from 0 os) 0 n → Inserts (Spells text spans keys) (ops_from 0 os) → Writing text spans keys os n d₀ e₀ os 0 0 0 d₀ e₀
+  unfolding pended diff_of records_of records_from texts
+  write_begins t s =
       record { done = []; used = 0; splits = refl; places = refl; ends = refl; stands = refl; spelt = refl; tiled = t; spells = s; held = omega arith }
 
   -- the retain that was held back is written
@@ -78,95 +78,95 @@ module _ (text spans keys : List ℕ) (os : List Operation) (n : ℕ) (d₀ : Li
         used = h.used;
         splits = append_assoc h.done (keeps kept) (items_of (edits h.used rs)) ∙ (ap (λ (is : List Item). h.done ++ is) (sym q) ∙ h.splits);
         places = rw (length-append h.done (keeps kept)) (omega (arith, k.next, h.places));
-        ends = rw (texts-keeps h.done kept) h.ends;
+        ends = rw (texts_keeps h.done kept) h.ends;
         stands =
-            room-more (recordsOf h.done) (recordsOf (keeps kept)) d₀ d d' (place * 3) (omega (arith, h.places, length-records h.done)) h.stands k.stands
-            ∙ ap (λ (s : List ℤ). answered s d₀) (records-keeps h.done kept);
-        spelt = rw (texts-keeps h.done kept) h.spelt;
+            room_more (records_of h.done) (records_of (keeps kept)) d₀ d d' (place * 3) (omega (arith, h.places, length_records h.done)) h.stands k.stands
+            ∙ ap (λ (s : List ℤ). answered s d₀) (records_keeps h.done kept);
+        spelt = rw (texts_keeps h.done kept) h.spelt;
         tiled = h.tiled;
         spells = h.spells;
         held = omega arith;
       }
 
   -- one item is written
-  one-record : (done : List Item) (x : Item) (place at : ℕ) (d d' : List ℤ) → place ≡ length done → at ≡ length (texts done) → d ≡ answered (recordsOf done) d₀
-      → d' ≡ placed d (place * 3) (recordOf at x) → d' ≡ answered (recordsOf (done ++ x ∷ [])) d₀
-  one-record done x place at d d' p q s f =
-      let a : at ≡ added done = omega (arith, texts-length done) in
-      room-more (recordsOf done) (recordOf at x) d₀ d d' (place * 3) (omega (arith, length-records done)) s f
-      ∙ ap (λ (t : List ℤ). answered t d₀) (ap (λ (m : ℕ). recordsOf done ++ recordOf m x) a ∙ sym (records-snoc done x))
+  one_record : (done : List Item) (x : Item) (place at : ℕ) (d d' : List ℤ) → place ≡ length done → at ≡ length (texts done) → d ≡ answered (records_of done) d₀
+      → d' ≡ placed d (place * 3) (record_of at x) → d' ≡ answered (records_of (done ++ x ∷ [])) d₀
+  one_record done x place at d d' p q s f =
+      let a : at ≡ added done = omega (arith, texts_length done) in
+      room_more (records_of done) (record_of at x) d₀ d d' (place * 3) (omega (arith, length_records done)) s f
+      ∙ ap (λ (t : List ℤ). answered t d₀) (ap (λ (m : ℕ). records_of done ++ record_of m x) a ∙ sym (records_snoc done x))
 
-  snoc-splits : (done : List Item) (x : Item) (is : List Item) → (done ++ x ∷ []) ++ is ≡ done ++ x ∷ is
-  snoc-splits done x is = append_assoc done (x ∷ []) is
+  snoc_splits : (done : List Item) (x : Item) (is : List Item) → (done ++ x ∷ []) ++ is ≡ done ++ x ∷ is
+  snoc_splits done x is = append_assoc done (x ∷ []) is
 
-  snoc-length : (done : List Item) (x : Item) (place : ℕ) → place ≡ length done → place + 1 ≡ length (done ++ x ∷ [])
-  snoc-length done x place p = rw (length-append done (x ∷ [])) (omega arith)
+  snoc_length : (done : List Item) (x : Item) (place : ℕ) → place ≡ length done → place + 1 ≡ length (done ++ x ∷ [])
+  snoc_length done x place p = rw (length-append done (x ∷ [])) (omega arith)
 
-  texts-drop : (done : List Item) (l : ℕ) → texts (done ++ Drop l ∷ []) ≡ texts done
+  texts_drop : (done : List Item) (l : ℕ) → texts (done ++ Drop l ∷ []) ≡ texts done
   unfolding texts
-  texts-drop done l = texts-append done (Drop l ∷ []) ∙ append-nil (texts done)
+  texts_drop done l = texts_append done (Drop l ∷ []) ∙ append-nil (texts done)
 
-  texts-add : (done : List Item) (s : List ℕ) → texts (done ++ Add s ∷ []) ≡ texts done ++ s
+  texts_add : (done : List Item) (s : List ℕ) → texts (done ++ Add s ∷ []) ≡ texts done ++ s
   unfolding texts
-  texts-add done s = texts-append done (Add s ∷ []) ∙ ap (λ (t : List ℕ). texts done ++ t) (append-nil s)
+  texts_add done s = texts_append done (Add s ∷ []) ∙ ap (λ (t : List ℕ). texts done ++ t) (append-nil s)
 
   -- a delete, an insert and the end let go of what is held back
   abbrev Closing : ℕ → List Edit → Type 0
   Closing kept es = items_of (pended kept es) ≡ keeps kept ++ items_of es
 
-  closing-delete : (kept used : ℕ) (o : Operation) (rs : List Operation) → o.kind ≡ 0 → Closing kept (edits used (o ∷ rs))
-  unfolding items_of item_of toDiff
-  closing-delete kept used o rs k = rw (first-delete used o rs k) (pend-delete kept o.length (edits (used + o.length) rs))
+  closing_delete : (kept used : ℕ) (o : Operation) (rs : List Operation) → o.kind ≡ 0 → Closing kept (edits used (o ∷ rs))
+  unfolding items_of item_of to_diff
+  closing_delete kept used o rs k = rw (first_delete used o rs k) (pend_delete kept o.length (edits (used + o.length) rs))
 
-  closing-insert : (kept used : ℕ) (o : Operation) (rs : List Operation) → o.kind ≡ 1 → Closing kept (edits used (o ∷ rs))
-  unfolding items_of item_of toDiff
-  closing-insert kept used o rs k =
-      rw (first-insert used o rs k) (pend-insert kept (spelling text spans keys o.first o.count) (edits (used + 0) rs))
+  closing_insert : (kept used : ℕ) (o : Operation) (rs : List Operation) → o.kind ≡ 1 → Closing kept (edits used (o ∷ rs))
+  unfolding items_of item_of to_diff
+  closing_insert kept used o rs k =
+      rw (first_insert used o rs k) (pend_insert kept (spelling text spans keys o.first o.count) (edits (used + 0) rs))
 
-  closing-none : (kept used : ℕ) → Closing kept (edits used [])
-  unfolding items_of toDiff opsFrom
-  closing-none kept used = pend-none kept ∙ sym (append-nil (keeps kept))
+  closing_none : (kept used : ℕ) → Closing kept (edits used [])
+  unfolding items_of to_diff ops_from
+  closing_none kept used = pend_none kept ∙ sym (append-nil (keeps kept))
 
 -- what a state of the writing says of the rooms
 module _
     {text spans keys : List ℕ} {os : List Operation} {n : ℕ} {d₀ : List ℤ} {e₀ : List ℕ} {rs : List Operation} {kept place at : ℕ} {d : List ℤ} {e : List ℕ}
     (fits : Fits (items text spans keys os) d₀ e₀) (h : Writing text spans keys os n d₀ e₀ rs kept place at d e)
   where
-    left-items : List Item
-    left-items = items_of (pended kept (edits text spans keys os n d₀ e₀ h.used rs))
+    left_items : List Item
+    left_items = items_of (pended kept (edits text spans keys os n d₀ e₀ h.used rs))
 
-    parts : length h.done + length left-items ≡ length (items text spans keys os)
-    unfolding left-items
-    parts = sym (length-append h.done left-items) ∙ ap length h.splits
+    parts : length h.done + length left_items ≡ length (items text spans keys os)
+    unfolding left_items
+    parts = sym (length-append h.done left_items) ∙ ap length h.splits
 
-    text-parts : length (texts h.done) + length (texts left-items) ≡ added (items text spans keys os)
-    unfolding left-items
-    text-parts =
-        sym (length-append (texts h.done) (texts left-items))
-        ∙ (ap length (sym (texts-append h.done left-items)) ∙ (ap (λ (l : List Item). length (texts l)) h.splits ∙ texts-length (items text spans keys os)))
+    text_parts : length (texts h.done) + length (texts left_items) ≡ added (items text spans keys os)
+    unfolding left_items
+    text_parts =
+        sym (length-append (texts h.done) (texts left_items))
+        ∙ (ap length (sym (texts_append h.done left_items)) ∙ (ap (λ (l : List Item). length (texts l)) h.splits ∙ texts_length (items text spans keys os)))
 
-    pub same-items : length d ≡ length d₀
-    same-items = ap length h.stands ∙ same-room (recordsOf h.done) d₀ (omega (arith, length-records h.done, parts, fits.items))
+    pub same_items : length d ≡ length d₀
+    same_items = ap length h.stands ∙ same_room (records_of h.done) d₀ (omega (arith, length_records h.done, parts, fits.items))
 
     pub same_text : length e ≡ length e₀
-    same_text = ap length h.spelt ∙ same-room (texts h.done) e₀ (omega (arith, text-parts, fits.text))
+    same_text = ap length h.spelt ∙ same_room (texts h.done) e₀ (omega (arith, text_parts, fits.text))
 
-    pub place-most : place ≤ length (items text spans keys os)
-    place-most = omega (arith, parts, h.places)
+    pub place_most : place ≤ length (items text spans keys os)
+    place_most = omega (arith, parts, h.places)
 
     -- as much as a closing retain takes
-    close-fits : n ≤ 65535 → Closing text spans keys os n d₀ e₀ kept (edits text spans keys os n d₀ e₀ h.used rs)
+    close_fits : n ≤ 65535 → Closing text spans keys os n d₀ e₀ kept (edits text spans keys os n d₀ e₀ h.used rs)
         → (kept < 9223372036854775808) × ((place + length (keeps kept)) * 3 ≤ length d)
-    unfolding left-items
-    close-fits few q =
+    unfolding left_items
+    close_fits few q =
         let l = ap length q ∙ length-append (keeps kept) (items_of (edits text spans keys os n d₀ e₀ h.used rs)) in (
-          omega (arith, few, h.held, tiled-le (opsFrom h.used rs) h.used n h.tiled),
-          omega (arith, l, parts, h.places, same-items, fits.items),
+          omega (arith, few, h.held, tiled_le (ops_from h.used rs) h.used n h.tiled),
+          omega (arith, l, parts, h.places, same_items, fits.items),
         )
 
     -- and as one item more takes
-    one-fits : 0 < length left-items → place * 3 + 3 ≤ length d
-    one-fits l = omega (arith, l, parts, h.places, same-items, fits.items)
+    one_fits : 0 < length left_items → place * 3 + 3 ≤ length d
+    one_fits l = omega (arith, l, parts, h.places, same_items, fits.items)
 
 -- the ways through a turn, by the kind of its operation
 module _
@@ -174,33 +174,33 @@ module _
     (few : n ≤ 65535) (fits : Fits (items text spans keys os) d₀ e₀)
   where
     module _ {kept place : ℕ} (h : Writing text spans keys os n d₀ e₀ (o ∷ rs) kept place at d e) where
-      pub delete-fits : o.kind ≡ 0 → (kept < 9223372036854775808) × ((place + length (keeps kept)) * 3 ≤ length d)
-      delete-fits k = close-fits fits h few (closing-delete text spans keys os n d₀ e₀ kept h.used o rs k)
+      pub delete_fits : o.kind ≡ 0 → (kept < 9223372036854775808) × ((place + length (keeps kept)) * 3 ≤ length d)
+      delete_fits k = close_fits fits h few (closing_delete text spans keys os n d₀ e₀ kept h.used o rs k)
 
-      pub delete-closes : {d' : List ℤ} {r : ℕ} → o.kind ≡ 0 → Kept kept place d d' r → Writing text spans keys os n d₀ e₀ (o ∷ rs) 0 r at d' e
-      delete-closes {d'} {r} k = closes text spans keys os n d₀ e₀ (o ∷ rs) kept place at d d' e r h (closing-delete text spans keys os n d₀ e₀ kept h.used o rs k)
+      pub delete_closes : {d' : List ℤ} {r : ℕ} → o.kind ≡ 0 → Kept kept place d d' r → Writing text spans keys os n d₀ e₀ (o ∷ rs) 0 r at d' e
+      delete_closes {d'} {r} k = closes text spans keys os n d₀ e₀ (o ∷ rs) kept place at d d' e r h (closing_delete text spans keys os n d₀ e₀ kept h.used o rs k)
 
-      pub insert-fits : o.kind ≡ 1 → (kept < 9223372036854775808) × ((place + length (keeps kept)) * 3 ≤ length d)
-      insert-fits k = close-fits fits h few (closing-insert text spans keys os n d₀ e₀ kept h.used o rs k)
+      pub insert_fits : o.kind ≡ 1 → (kept < 9223372036854775808) × ((place + length (keeps kept)) * 3 ≤ length d)
+      insert_fits k = close_fits fits h few (closing_insert text spans keys os n d₀ e₀ kept h.used o rs k)
 
-      pub insert-closes : {d' : List ℤ} {r : ℕ} → o.kind ≡ 1 → Kept kept place d d' r → Writing text spans keys os n d₀ e₀ (o ∷ rs) 0 r at d' e
-      insert-closes {d'} {r} k = closes text spans keys os n d₀ e₀ (o ∷ rs) kept place at d d' e r h (closing-insert text spans keys os n d₀ e₀ kept h.used o rs k)
+      pub insert_closes : {d' : List ℤ} {r : ℕ} → o.kind ≡ 1 → Kept kept place d d' r → Writing text spans keys os n d₀ e₀ (o ∷ rs) 0 r at d' e
+      insert_closes {d'} {r} k = closes text spans keys os n d₀ e₀ (o ∷ rs) kept place at d d' e r h (closing_insert text spans keys os n d₀ e₀ kept h.used o rs k)
 
       module _ (k : o.kind ≡ 1 → ⊥) (l : o.kind ≡ 0 → ⊥) where
-        tiles : (o.order ≡ h.used) × (0 < o.length) × Tiled (opsFrom (h.used + o.length) rs) (o.order + o.length) n
-        tiles = rw (first-retain h.used o rs k l) at h.tiled
+        tiles : (o.order ≡ h.used) × (0 < o.length) × Tiled (ops_from (h.used + o.length) rs) (o.order + o.length) n
+        tiles = rw (first_retain h.used o rs k l) at h.tiled
 
-        tiles-on : Tiled (opsFrom (h.used + o.length) rs) (h.used + o.length) n
-        tiles-on = rw tiles.0 at tiles.2
+        tiles_on : Tiled (ops_from (h.used + o.length) rs) (h.used + o.length) n
+        tiles_on = rw tiles.0 at tiles.2
 
-        pub retain-small : kept + o.length ≤ 65535
-        retain-small = omega (arith, few, h.held, tiled-le (opsFrom (h.used + o.length) rs) (h.used + o.length) n tiles-on)
+        pub retain_small : kept + o.length ≤ 65535
+        retain_small = omega (arith, few, h.held, tiled_le (ops_from (h.used + o.length) rs) (h.used + o.length) n tiles_on)
 
-        pub retain-held : Writing text spans keys os n d₀ e₀ rs (kept + o.length) place at d e
-        unfolding toDiff Inserts
-        retain-held =
-            let f = first-retain h.used o rs k l in
-            let s = rw (f, pend-more kept o.length (edits text spans keys os n d₀ e₀ (h.used + o.length) rs) tiles.1) at h.splits in
+        pub retain_held : Writing text spans keys os n d₀ e₀ rs (kept + o.length) place at d e
+        unfolding to_diff Inserts
+        retain_held =
+            let f = first_retain h.used o rs k l in
+            let s = rw (f, pend_more kept o.length (edits text spans keys os n d₀ e₀ (h.used + o.length) rs) tiles.1) at h.splits in
             record {
               done = h.done;
               used = h.used + o.length;
@@ -209,44 +209,44 @@ module _
               ends = h.ends;
               stands = h.stands;
               spelt = h.spelt;
-              tiled = tiles-on;
+              tiled = tiles_on;
               spells = rw f at h.spells;
               held = omega (arith, h.held);
             }
 
     module _ {place : ℕ} (h : Writing text spans keys os n d₀ e₀ (o ∷ rs) 0 place at d e) where
       module _ (k : o.kind ≡ 0) where
-        gone : (o.order ≡ h.used) × (0 < o.length) × Tiled (opsFrom (h.used + o.length) rs) (o.order + o.length) n
-        gone = rw (first-delete h.used o rs k) at h.tiled
+        gone : (o.order ≡ h.used) × (0 < o.length) × Tiled (ops_from (h.used + o.length) rs) (o.order + o.length) n
+        gone = rw (first_delete h.used o rs k) at h.tiled
 
-        gone-on : Tiled (opsFrom (h.used + o.length) rs) (h.used + o.length) n
-        gone-on = rw gone.0 at gone.2
+        gone_on : Tiled (ops_from (h.used + o.length) rs) (h.used + o.length) n
+        gone_on = rw gone.0 at gone.2
 
-        delete-left : left-items fits h ≡ Drop o.length ∷ items_of (edits text spans keys os n d₀ e₀ (h.used + o.length) rs)
-        unfolding left-items pended items_of item_of toDiff
-        delete-left = rw (first-delete h.used o rs k)
+        delete_left : left_items fits h ≡ Drop o.length ∷ items_of (edits text spans keys os n d₀ e₀ (h.used + o.length) rs)
+        unfolding left_items pended items_of item_of to_diff
+        delete_left = rw (first_delete h.used o rs k)
 
-        pub delete-puts : (o.length < 9223372036854775808) × (place * 3 + 3 ≤ length d)
-        delete-puts = (
-          omega (arith, few, tiled-le (opsFrom (h.used + o.length) rs) (h.used + o.length) n gone-on),
-          one-fits fits h (let l = ap length delete-left in omega arith),
+        pub delete_puts : (o.length < 9223372036854775808) × (place * 3 + 3 ≤ length d)
+        delete_puts = (
+          omega (arith, few, tiled_le (ops_from (h.used + o.length) rs) (h.used + o.length) n gone_on),
+          one_fits fits h (let l = ap length delete_left in omega arith),
         )
 
-        pub delete-written : {d' : List ℤ} → d' ≡ placed d (place * 3) (recordOf 0 (Drop o.length)) → Writing text spans keys os n d₀ e₀ rs 0 (place + 1) at d' e
-        unfolding left-items pended recordOf Inserts
-        delete-written {d'} g =
+        pub delete_written : {d' : List ℤ} → d' ≡ placed d (place * 3) (record_of 0 (Drop o.length)) → Writing text spans keys os n d₀ e₀ rs 0 (place + 1) at d' e
+        unfolding left_items pended record_of Inserts
+        delete_written {d'} g =
             record {
               done = h.done ++ Drop o.length ∷ [];
               used = h.used + o.length;
               splits =
-                  snoc-splits text spans keys os n d₀ e₀ h.done (Drop o.length) (items_of (edits text spans keys os n d₀ e₀ (h.used + o.length) rs))
-                  ∙ (ap (λ (is : List Item). h.done ++ is) (sym delete-left) ∙ h.splits);
-              places = snoc-length text spans keys os n d₀ e₀ h.done (Drop o.length) place h.places;
-              ends = h.ends ∙ ap length (sym (texts-drop text spans keys os n d₀ e₀ h.done o.length));
-              stands = one-record text spans keys os n d₀ e₀ h.done (Drop o.length) place at d d' h.places h.ends h.stands g;
-              spelt = h.spelt ∙ ap (λ (s : List ℕ). answered s e₀) (sym (texts-drop text spans keys os n d₀ e₀ h.done o.length));
-              tiled = gone-on;
-              spells = rw (first-delete h.used o rs k) at h.spells;
+                  snoc_splits text spans keys os n d₀ e₀ h.done (Drop o.length) (items_of (edits text spans keys os n d₀ e₀ (h.used + o.length) rs))
+                  ∙ (ap (λ (is : List Item). h.done ++ is) (sym delete_left) ∙ h.splits);
+              places = snoc_length text spans keys os n d₀ e₀ h.done (Drop o.length) place h.places;
+              ends = h.ends ∙ ap length (sym (texts_drop text spans keys os n d₀ e₀ h.done o.length));
+              stands = one_record text spans keys os n d₀ e₀ h.done (Drop o.length) place at d d' h.places h.ends h.stands g;
+              spelt = h.spelt ∙ ap (λ (s : List ℕ). answered s e₀) (sym (texts_drop text spans keys os n d₀ e₀ h.done o.length));
+              tiled = gone_on;
+              spells = rw (first_delete h.used o rs k) at h.spells;
               held = omega arith;
             }
 
@@ -254,57 +254,57 @@ module _
         abbrev s : List ℕ
         s = spelling text spans keys o.first o.count
 
-        insert-left : left-items fits h ≡ Add s ∷ items_of (edits text spans keys os n d₀ e₀ (h.used + 0) rs)
-        unfolding left-items pended items_of item_of toDiff
-        insert-left = rw (first-insert h.used o rs k)
+        insert_left : left_items fits h ≡ Add s ∷ items_of (edits text spans keys os n d₀ e₀ (h.used + 0) rs)
+        unfolding left_items pended items_of item_of to_diff
+        insert_left = rw (first_insert h.used o rs k)
 
-        stays : Tiled (opsFrom (h.used + 0) rs) (h.used + 0) n
+        stays : Tiled (ops_from (h.used + 0) rs) (h.used + 0) n
         stays =
             let z : h.used ≡ h.used + 0 = omega arith in
-            let t : (h.used ≡ h.used) × (0 < o.count) × Tiled (opsFrom (h.used + 0) rs) h.used n = rw (first-insert h.used o rs k) at h.tiled in
-            subst (λ (x : ℕ). Tiled (opsFrom (h.used + 0) rs) x n) z t.2
+            let t : (h.used ≡ h.used) × (0 < o.count) × Tiled (ops_from (h.used + 0) rs) h.used n = rw (first_insert h.used o rs k) at h.tiled in
+            subst (λ (x : ℕ). Tiled (ops_from (h.used + 0) rs) x n) z t.2
 
-        spells-all : Spells text spans keys o.first o.count × Inserts (Spells text spans keys) (opsFrom (h.used + 0) rs)
+        spells_all : Spells text spans keys o.first o.count × Inserts (Spells text spans keys) (ops_from (h.used + 0) rs)
         unfolding Inserts
-        spells-all = rw (first-insert h.used o rs k) at h.spells
+        spells_all = rw (first_insert h.used o rs k) at h.spells
 
-        pub insert-puts : Lends text spans keys o.first o.count e at × (place * 3 + 3 ≤ length d)
+        pub insert_puts : Lends text spans keys o.first o.count e at × (place * 3 + 3 ≤ length d)
         unfolding texts
-        insert-puts =
-            let l = ap length insert-left in
-            let t = ap (λ (is : List Item). length (texts is)) insert-left in (
+        insert_puts =
+            let l = ap length insert_left in
+            let t = ap (λ (is : List Item). length (texts is)) insert_left in (
               record {
-                lent = spells-all.0.lent;
-                tokens = spells-all.0.tokens;
+                lent = spells_all.0.lent;
+                tokens = spells_all.0.tokens;
                 place =
                     omega (
                       arith,
                       t,
-                      text-parts fits h,
+                      text_parts fits h,
                       h.ends,
                       same_text fits h,
                       fits.text,
                       length-append s (texts (items_of (edits text spans keys os n d₀ e₀ (h.used + 0) rs))),
                     );
               },
-              one-fits fits h (omega arith),
+              one_fits fits h (omega arith),
             )
 
-        pub insert-written : {d' : List ℤ} {e' : List ℕ} {r : ℕ} → Inserted s place at d d' e e' r → Writing text spans keys os n d₀ e₀ rs 0 (place + 1) r d' e'
-        unfolding left-items pended
-        insert-written {d'} {e'} {r} g =
+        pub insert_written : {d' : List ℤ} {e' : List ℕ} {r : ℕ} → Inserted s place at d d' e e' r → Writing text spans keys os n d₀ e₀ rs 0 (place + 1) r d' e'
+        unfolding left_items pended
+        insert_written {d'} {e'} {r} g =
             record {
               done = h.done ++ Add s ∷ [];
               used = h.used + 0;
               splits =
-                  snoc-splits text spans keys os n d₀ e₀ h.done (Add s) (items_of (edits text spans keys os n d₀ e₀ (h.used + 0) rs))
-                  ∙ (ap (λ (is : List Item). h.done ++ is) (sym insert-left) ∙ h.splits);
-              places = snoc-length text spans keys os n d₀ e₀ h.done (Add s) place h.places;
-              ends = rw (texts-add text spans keys os n d₀ e₀ h.done s, length-append (texts h.done) s) (omega (arith, g.next, h.ends));
-              stands = one-record text spans keys os n d₀ e₀ h.done (Add s) place at d d' h.places h.ends h.stands g.stands;
-              spelt = rw (texts-add text spans keys os n d₀ e₀ h.done s) (room-more (texts h.done) s e₀ e e' at h.ends h.spelt g.spelt);
+                  snoc_splits text spans keys os n d₀ e₀ h.done (Add s) (items_of (edits text spans keys os n d₀ e₀ (h.used + 0) rs))
+                  ∙ (ap (λ (is : List Item). h.done ++ is) (sym insert_left) ∙ h.splits);
+              places = snoc_length text spans keys os n d₀ e₀ h.done (Add s) place h.places;
+              ends = rw (texts_add text spans keys os n d₀ e₀ h.done s, length-append (texts h.done) s) (omega (arith, g.next, h.ends));
+              stands = one_record text spans keys os n d₀ e₀ h.done (Add s) place at d d' h.places h.ends h.stands g.stands;
+              spelt = rw (texts_add text spans keys os n d₀ e₀ h.done s) (room_more (texts h.done) s e₀ e e' at h.ends h.spelt g.spelt);
               tiled = stays;
-              spells = spells-all.1;
+              spells = spells_all.1;
               held = omega arith;
             }
 
@@ -314,23 +314,23 @@ module _
     (fits : Fits (items text spans keys os) d₀ e₀) (h : Writing text spans keys os n d₀ e₀ [] kept place at d e)
   where
     pub end_fits : (kept < 9223372036854775808) × ((place + length (keeps kept)) * 3 ≤ length d)
-    end_fits = close-fits fits h few (closing-none text spans keys os n d₀ e₀ kept h.used)
+    end_fits = close_fits fits h few (closing_none text spans keys os n d₀ e₀ kept h.used)
 
-    pub end-written : {d' : List ℤ} {r : ℕ} → Kept kept place d d' r
+    pub end_written : {d' : List ℤ} {r : ℕ} → Kept kept place d d' r
         → Wrote (items text spans keys os) d₀ e₀ d' e (record { items = r; text = at })
-    unfolding pended items_of toDiff opsFrom
-    end-written {d'} {r} k =
+    unfolding pended items_of to_diff ops_from
+    end_written {d'} {r} k =
         let w : Writing text spans keys os n d₀ e₀ [] 0 r at d' e =
-        closes text spans keys os n d₀ e₀ [] kept place at d d' e r h (closing-none text spans keys os n d₀ e₀ kept h.used) k
+        closes text spans keys os n d₀ e₀ [] kept place at d d' e r h (closing_none text spans keys os n d₀ e₀ kept h.used) k
         in
         let all : w.done ≡ items text spans keys os = sym (append-nil w.done) ∙ w.splits in
         record {
           sizes =
               record {
                 items = w.places ∙ ap length all;
-                text = w.ends ∙ (ap (λ (is : List Item). length (texts is)) all ∙ texts-length (items text spans keys os));
+                text = w.ends ∙ (ap (λ (is : List Item). length (texts is)) all ∙ texts_length (items text spans keys os));
               };
-          items = w.stands ∙ ap (λ (is : List Item). answered (recordsOf is) d₀) all;
+          items = w.stands ∙ ap (λ (is : List Item). answered (records_of is) d₀) all;
           text = w.spelt ∙ ap (λ (is : List Item). answered (texts is) e₀) all;
         }
 
@@ -338,16 +338,16 @@ module _
 pub record Taking (text spans keys ops : List ℕ) (d₀ : List ℤ) (e₀ : List ℕ) (count i kept place at : ℕ) (d : List ℤ) (e : List ℕ) : Type 0 where
   pub n : ℕ
   pub few : n ≤ 65535
-  pub many : length (items text spans keys (operationsOf ops)) ≤ 8192
-  pub fits : Fits (items text spans keys (operationsOf ops)) d₀ e₀
+  pub many : length (items text spans keys (operations_of ops)) ≤ 8192
+  pub fits : Fits (items text spans keys (operations_of ops)) d₀ e₀
   pub whole : count ≡ length ops / 6
   pub most : i ≤ count
-  pub left : Writing text spans keys (operationsOf ops) n d₀ e₀ (operationsFrom ops i (count - i)) kept place at d e
+  pub left : Writing text spans keys (operations_of ops) n d₀ e₀ (operations_from ops i (count - i)) kept place at d e
 
 module _ {text spans keys ops : List ℕ} {d₀ : List ℤ} {e₀ : List ℕ} {count : ℕ} where
-  pub take_begins : count ≡ length ops / 6 → Ready text spans keys (operationsOf ops) → Fits (items text spans keys (operationsOf ops)) d₀ e₀
+  pub take_begins : count ≡ length ops / 6 → Ready text spans keys (operations_of ops) → Fits (items text spans keys (operations_of ops)) d₀ e₀
       → Taking text spans keys ops d₀ e₀ count 0 0 0 0 d₀ e₀
-  unfolding operationsOf
+  unfolding operations_of
   take_begins e y f =
       let z : count - 0 ≡ length ops / 6 = omega arith in
       record {
@@ -357,18 +357,18 @@ module _ {text spans keys ops : List ℕ} {d₀ : List ℤ} {e₀ : List ℕ} {c
         fits = f;
         whole = e;
         most = omega arith;
-        left = rw z (write-begins text spans keys (operationsOf ops) y.n d₀ e₀ y.tiled y.spells);
+        left = rw z (write_begins text spans keys (operations_of ops) y.n d₀ e₀ y.tiled y.spells);
       }
 
   module _ {i kept place at : ℕ} {d : List ℤ} {e : List ℕ} (h : Taking text spans keys ops d₀ e₀ count i kept place at d e) where
-    pub take-first : (o : Operation) → i < count → o ≡ operationAt ops i
-        → Writing text spans keys (operationsOf ops) h.n d₀ e₀ (o ∷ operationsFrom ops (i + 1) (count - (i + 1))) kept place at d e
-    take-first o l q = rw (at_place ops i count o l q) at h.left
+    pub take_first : (o : Operation) → i < count → o ≡ operation_at ops i
+        → Writing text spans keys (operations_of ops) h.n d₀ e₀ (o ∷ operations_from ops (i + 1) (count - (i + 1))) kept place at d e
+    take_first o l q = rw (at_place ops i count o l q) at h.left
 
-    pub take_none : count ≤ i → Writing text spans keys (operationsOf ops) h.n d₀ e₀ [] kept place at d e
-    take_none l = rw (from-none ops i count l) at h.left
+    pub take_none : count ≤ i → Writing text spans keys (operations_of ops) h.n d₀ e₀ [] kept place at d e
+    take_none l = rw (from_none ops i count l) at h.left
 
     pub take_again : {kept' place' at' : ℕ} {d' : List ℤ} {e' : List ℕ} → i < count
-        → Writing text spans keys (operationsOf ops) h.n d₀ e₀ (operationsFrom ops (i + 1) (count - (i + 1))) kept' place' at' d' e'
+        → Writing text spans keys (operations_of ops) h.n d₀ e₀ (operations_from ops (i + 1) (count - (i + 1))) kept' place' at' d' e'
         → Taking text spans keys ops d₀ e₀ count (i + 1) kept' place' at' d' e'
     take_again l w = record { n = h.n; few = h.few; many = h.many; fits = h.fits; whole = h.whole; most = omega arith; left = w }

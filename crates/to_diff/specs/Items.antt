@@ -4,8 +4,8 @@ use Rattle.records.specs.declared.Operation.{Operation}
 use Rattle.diff.specs.Replay.{Edit, retain, delete, insert}
 use Rattle.edit_format.specs.Items.{Item, Keep, Drop, Add}
 use Rattle.merging.specs.Lent.{Lent}
-use Rattle.merging.specs.Operations.{opsFrom}
-use Rattle.merging.specs.Outputs.{toDiff}
+use Rattle.merging.specs.Operations.{ops_from}
+use Rattle.merging.specs.Outputs.{to_diff}
 
 -- "`keep=`, `drop=` or `add=`": an edit as the item that records and edit files write
 unfoldable pub item_of : Edit → Item
@@ -19,5 +19,5 @@ items_of [] = []
 items_of (e ∷ es) = item_of e ∷ items_of es
 
 -- "to_diff: retains positive with neighbours joined, deletes negative and never joined, inserts as text.": of a list's records
-unfoldable pub diffOf : Lent → List Operation → List Item
-diffOf lent os = items_of (toDiff lent (opsFrom 0 os))
+unfoldable pub diff_of : Lent → List Operation → List Item
+diff_of lent os = items_of (to_diff lent (ops_from 0 os))

@@ -2,13 +2,13 @@
 // and their text. A retain is held back until what follows it is known.
 ghost use Rattle.std.specs.Prelude.{◌≡◌, ◌+◌, ◌*◌, ◌/◌, ◌<◌, ◌≤◌, ◌&&◌, leb, length};
 ghost use Rattle.room.specs.Placed.{placed};
-ghost use Rattle.records.specs.Operations.{operationsOf};
+ghost use Rattle.records.specs.Operations.{operations_of};
 ghost use Rattle.records.specs.Tokens.{spelling};
 ghost use Rattle.words.specs.Words.{Lends};
 ghost use Rattle.edit_format.specs.Items.{Drop};
-ghost use Rattle.edit_format.specs.Records.{recordOf};
+ghost use Rattle.edit_format.specs.Records.{record_of};
 ghost use Rattle.merging.specs.Lent.{lent_of};
-ghost use Rattle.to_diff.specs.Answers.{checkedOn, lengthsOf, Diffs};
+ghost use Rattle.to_diff.specs.Answers.{checked_on, lengths_of, Diffs};
 ghost use Rattle.to_diff.specs.Writes.{keeps, items, Ready, Kept, Inserted, Measures, Fits, Wrote};
 
 use item_records::{dropped_number, plain_number, put_record};
@@ -37,7 +37,7 @@ fn put_kept(room: &mut [i64], place: usize, kept: usize) -> usize
 // A delete's item.
 fn put_dropped(room: &mut [i64], place: usize, dropped: usize)
     requires { (dropped < 9223372036854775808) × (place * 3 + 3 ≤ length room.old) }
-    ensures { room.new ≡ placed room.old (place * 3) (recordOf 0 (Drop dropped)) }
+    ensures { room.new ≡ placed room.old (place * 3) (record_of 0 (Drop dropped)) }
 {
     let b = place * 3;
     put_record(room, b, 0, dropped_number(dropped), 0);
@@ -72,8 +72,8 @@ pub struct Sizes {
 }
 
 fn measure(text: &[u32], spans: &[u32], keys: &[u32], operations: &[usize]) -> Sizes
-    requires { Ready text.now spans.now keys.now (operationsOf operations.now) }
-    ensures { Measures (items text.now spans.now keys.now (operationsOf operations.now)) result }
+    requires { Ready text.now spans.now keys.now (operations_of operations.now) }
+    ensures { Measures (items text.now spans.now keys.now (operations_of operations.now)) result }
 {
     let lent = text.len();
     let count = operations.len() / 6;
@@ -117,8 +117,8 @@ fn write(
     room: &mut [i64],
     out: &mut [u32],
 ) -> Sizes
-    requires { Ready text.now spans.now keys.now (operationsOf operations.now) × Fits (items text.now spans.now keys.now (operationsOf operations.now)) room.old out.old }
-    ensures { Wrote (items text.now spans.now keys.now (operationsOf operations.now)) room.old out.old room.new out.new result }
+    requires { Ready text.now spans.now keys.now (operations_of operations.now) × Fits (items text.now spans.now keys.now (operations_of operations.now)) room.old out.old }
+    ensures { Wrote (items text.now spans.now keys.now (operations_of operations.now)) room.old out.old room.new out.new result }
 {
     let count = operations.len() / 6;
     let mut i = 0;
@@ -158,7 +158,7 @@ fn check(
     keys: &[u32],
     operations: &[usize],
 ) -> checks::Checked
-    ensures { result ≡ checkedOn (lent_of original.now text.now spans.now keys.now) (operationsOf operations.now) }
+    ensures { result ≡ checked_on (lent_of original.now text.now spans.now keys.now) (operations_of operations.now) }
 {
     let limits = sizes::other_limits();
     checks::sum_list(
@@ -190,7 +190,7 @@ pub fn to_diff_lengths(
     keys: &[u32],
     operations: &[usize],
 ) -> Diffed
-    ensures { result ≡ lengthsOf (lent_of original.now text.now spans.now keys.now) (operationsOf operations.now) }
+    ensures { result ≡ lengths_of (lent_of original.now text.now spans.now keys.now) (operations_of operations.now) }
 {
     match check(original, text, spans, keys, operations) {
         checks::Checked::Refused(refusal) => Diffed::Refused(refusal),
@@ -218,7 +218,7 @@ pub fn to_diff(
     room: &mut [i64],
     out: &mut [u32],
 ) -> Diffed
-    ensures { Diffs (lent_of original.now text.now spans.now keys.now) (operationsOf operations.now) room.old out.old room.new out.new result }
+    ensures { Diffs (lent_of original.now text.now spans.now keys.now) (operations_of operations.now) room.old out.old room.new out.new result }
 {
     match check(original, text, spans, keys, operations) {
         checks::Checked::Refused(refusal) => Diffed::Refused(refusal),

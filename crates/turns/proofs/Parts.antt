@@ -10,11 +10,11 @@ use lib.Seq.{slice, take-append-le, drop-append-le, take_at, drop_at, length-tak
 use Rattle.room.specs.Placed.{placed}
 
 -- a part, as the code takes it
-pub drop-take : {A : Type 0} (f t : ℕ) (l : List A) → drop f (take t l) ≡ take (t - f) (drop f l)
-drop-take zero t l = rw sub-zero
-drop-take (suc f) zero l = let e : 0 - suc f ≡ 0 = omega arith in rw e
-drop-take (suc f) (suc t) [] = sym (take-nil (suc t - suc f))
-drop-take (suc f) (suc t) (x ∷ l) = let e : suc t - suc f ≡ t - f = omega arith in rw e (drop-take f t l)
+pub drop_take : {A : Type 0} (f t : ℕ) (l : List A) → drop f (take t l) ≡ take (t - f) (drop f l)
+drop_take zero t l = rw sub-zero
+drop_take (suc f) zero l = let e : 0 - suc f ≡ 0 = omega arith in rw e
+drop_take (suc f) (suc t) [] = sym (take-nil (suc t - suc f))
+drop_take (suc f) (suc t) (x ∷ l) = let e : suc t - suc f ≡ t - f = omega arith in rw e (drop_take f t l)
 
 module _ {A : Type 0} (d : List A) (at : ℕ) (s : List A) (h : at + length s ≤ length d) where
   front : length (take at d) ≡ at
@@ -23,28 +23,28 @@ module _ {A : Type 0} (d : List A) (at : ℕ) (s : List A) (h : at + length s �
   head : length (take at d ++ s) ≡ at + length s
   head = rw (length-append, front)
 
-  pub placed-before : (a b : ℕ) → b ≤ at → slice a b (placed d at s) ≡ slice a b d
+  pub placed_before : (a b : ℕ) → b ≤ at → slice a b (placed d at s) ≡ slice a b d
   unfolding placed
-  placed-before a b l =
+  placed_before a b l =
       ap (drop a)
       (take-append-le b (take at d ++ s) (drop (at + length s) d) (omega (arith, head))
       ∙ (take-append-le b (take at d) s (omega (arith, front)) ∙ take-take b at d l))
 
-  drop-same : (a : ℕ) → at + length s ≤ a → drop a (placed d at s) ≡ drop a d
+  drop_same : (a : ℕ) → at + length s ≤ a → drop a (placed d at s) ≡ drop a d
   unfolding placed
-  drop-same a l =
+  drop_same a l =
       let k : ℕ = a - (at + length s) in
       let e : a ≡ (at + length s) + k = omega arith in
       rw e
       (sym (drop-drop k (at + length s) (take at d ++ s ++ drop (at + length s) d))
       ∙ (ap (drop k) (drop_at (take at d ++ s) (drop (at + length s) d) (at + length s) head) ∙ drop-drop k (at + length s) d))
 
-  pub placed-behind : (a b : ℕ) → at + length s ≤ a → slice a b (placed d at s) ≡ slice a b d
-  placed-behind a b l = rw (drop-take a b (placed d at s), drop-take a b d) (ap (take (b - a)) (drop-same a l))
+  pub placed_behind : (a b : ℕ) → at + length s ≤ a → slice a b (placed d at s) ≡ slice a b d
+  placed_behind a b l = rw (drop_take a b (placed d at s), drop_take a b d) (ap (take (b - a)) (drop_same a l))
 
-  pub placed-holds : (a b : ℕ) → a ≤ at → b ≡ at + length s → slice a b (placed d at s) ≡ slice a at d ++ s
+  pub placed_holds : (a b : ℕ) → a ≤ at → b ≡ at + length s → slice a b (placed d at s) ≡ slice a at d ++ s
   unfolding placed
-  placed-holds a b l e =
+  placed_holds a b l e =
       rw e
       (ap (drop a) (take_at (take at d ++ s) (drop (at + length s) d) (at + length s) head)
       ∙ drop-append-le a (take at d) s (omega (arith, front)))

@@ -1,8 +1,8 @@
 -- What is next on a side, as the code holds it: an operation, and the place of the records behind it. Assumes nothing.
 use Rattle.std.specs.Prelude.{ℕ, ◌+◌, ◌-◌, ◌/◌, ◌≤◌, ◌≡◌, List, [], ◌∷◌, length}
-use Rattle.records.specs.Operations.{operationsFrom}
+use Rattle.records.specs.Operations.{operations_from}
 use Rattle.merging.specs.declared.Op.{Op}
-use Rattle.merging.specs.Operations.{span_of, opsFrom}
+use Rattle.merging.specs.Operations.{span_of, ops_from}
 use Rattle.operation.specs.declared.Next.{Next}
 use Rattle.operation.specs.declared.Next.TheVariants.{Here, Done}
 use Rattle.numbers.specs.Sizes.{most}
@@ -11,16 +11,16 @@ use Rattle.turns.specs.declared.Ahead.{Ahead}
 
 -- "An insert's order is the original text consumed before it": the operations of a list from a place on, where `at` is consumed
 abbrev pub list_from : List ℕ → ℕ → ℕ → List Op
-list_from ops behind at = opsFrom at (operationsFrom ops behind (length ops / 6 - behind))
+list_from ops behind at = ops_from at (operations_from ops behind (length ops / 6 - behind))
 
 -- "The tail stays next.": what is next, and the records behind it
 abbrev pub ahead_of : List ℕ → Ahead → List Op
 ahead_of ops h = heads h.next (list_from ops h.behind h.at)
 
 -- how much of the original what is next consumes
-abbrev pub spanNext : Next → ℕ
-spanNext (Here a) = span_of a
-spanNext Done = 0
+abbrev pub span_next : Next → ℕ
+span_next (Here a) = span_of a
+span_next Done = 0
 
 -- "Sums are exact": the end of the first operation of a list does not wrap
 abbrev pub FirstFits : ℕ → List Op → Type 0
@@ -32,4 +32,4 @@ FirstFits at (a ∷ as') = at + span_of a ≤ most
 pub record Looks (ops : List ℕ) (tail : Next) (behind at : ℕ) (r : Ahead) : Type 0 where
   pub view : ahead_of ops r ≡ heads tail (list_from ops behind at)
   pub ends : r.next ≡ Done → ahead_of ops r ≡ []
-  pub from : (p : ℕ) → p + spanNext tail ≡ at → p + spanNext r.next ≡ r.at
+  pub from : (p : ℕ) → p + span_next tail ≡ at → p + span_next r.next ≡ r.at

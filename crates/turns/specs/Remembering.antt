@@ -3,12 +3,12 @@ use Rattle.std.specs.Prelude.{ℕ, ◌+◌, ◌*◌, ◌≤◌, ◌≡◌, true,
 use Rattle.std.proofs.Math.Seq.{slice}
 use Rattle.room.specs.Placed.{placed}
 use Rattle.merging.specs.declared.Op.{Op}
-use Rattle.merging.specs.Lent.{Lent, lengthsOf}
-use Rattle.merging.specs.Meeting.{rememberOf}
+use Rattle.merging.specs.Lent.{Lent, lengths_of}
+use Rattle.merging.specs.Meeting.{remember_of}
 use Rattle.operation.specs.declared.Last.{Last}
 use Rattle.operation.specs.declared.Last.TheVariants.{Nothing, Deleted, Retained, Inserted}
 use Rattle.numbers.specs.Sizes.{most}
-use Rattle.operation.specs.Views.{last_of, reach, LastFits, Keyed, Lies, tokens, ofSpans}
+use Rattle.operation.specs.Views.{last_of, reach, LastFits, Keyed, Lies, tokens, of_spans}
 use Rattle.turns.specs.declared.Memory.{Memory}
 
 -- the tokens are lent, and the work room has place for their keys in its first half and for their lengths in its second
@@ -27,18 +27,18 @@ pub record Kept (w w' : List ℕ) (half at n : ℕ) : Type 0 where
 
 -- "joined inserts copy tokens into lent room": the work room with the tokens in it, and its ranges that end where they do
 pub record Written (ss ks w w' : List ℕ) (first count fill half : ℕ) : Type 0 where
-  pub stands : w' ≡ placed (placed w fill (slice first (first + count) ks)) (half + fill) (lengthsOf (ofSpans ss) first count)
+  pub stands : w' ≡ placed (placed w fill (slice first (first + count) ks)) (half + fill) (lengths_of (of_spans ss) first count)
   pub keys : (a : ℕ) → a ≤ fill → slice a (fill + count) w' ≡ slice a fill w ++ slice first (first + count) ks
   pub lengths : (a : ℕ) → a ≤ fill
-      → slice (half + a) (half + (fill + count)) w' ≡ slice (half + a) (half + fill) w ++ lengthsOf (ofSpans ss) first count
+      → slice (half + a) (half + (fill + count)) w' ≡ slice (half + a) (half + fill) w ++ lengths_of (of_spans ss) first count
   pub kept : Kept w w' half fill count
 
 -- "an insert after a remembered insert of the same order on its own side is appended": where its side's tokens start
-abbrev pub keptFrom : Last → ℕ → ℕ → ℕ
-keptFrom Nothing order fill = fill
-keptFrom (Deleted o l) order fill = fill
-keptFrom (Retained o l) order fill = fill
-keptFrom (Inserted o from) order fill = elim (eqb o order) [ true ↦ from | false ↦ fill ]
+abbrev pub kept_from : Last → ℕ → ℕ → ℕ
+kept_from Nothing order fill = fill
+kept_from (Deleted o l) order fill = fill
+kept_from (Retained o l) order fill = fill
+kept_from (Inserted o from) order fill = elim (eqb o order) [ true ↦ from | false ↦ fill ]
 
 -- the remembered tokens start no later than they end
 abbrev pub Began : Last → ℕ → Type 0
@@ -66,7 +66,7 @@ pub record Rememberable (ss ks w : List ℕ) (half : ℕ) (m : Memory) (a : Op) 
 pub record Remembers (ss ks w w' : List ℕ) (half : ℕ) (m : Memory) (a : Op) (r : Memory) : Type 0 where
   pub fill : r.fill ≡ m.fill + tokens a
   pub last : (lent : Lent) → lent.spans ≡ ss → lent.keys ≡ ks
-      → last_of w' half r.fill r.last ≡ rememberOf lent (last_of w half m.fill m.last) a
+      → last_of w' half r.fill r.last ≡ remember_of lent (last_of w half m.fill m.last) a
   pub kept : Kept w w' half m.fill (tokens a)
   pub fits : reach a ≤ most → LastFits r.last
   pub since : (base : ℕ) → base ≤ m.fill → Since m.last base m.fill → Since r.last base r.fill

@@ -1,13 +1,13 @@
 // The steps of a merge's turn over one side: what is next, what is remembered, what is emitted.
 ghost use Rattle.std.specs.Prelude.{◌≡◌, ◌+◌, ◌*◌, ◌≤◌, length};
 ghost use Rattle.room.specs.Placed.{placed};
-ghost use Rattle.merging.specs.Lent.{lengthsOf};
-ghost use Rattle.merging.specs.Operations.{emptyOp};
+ghost use Rattle.merging.specs.Lent.{lengths_of};
+ghost use Rattle.merging.specs.Operations.{empty_op};
 ghost use Rattle.merging.specs.Turn.{emitted};
-ghost use Rattle.operation.specs.Views.{ofSpans};
+ghost use Rattle.operation.specs.Views.{of_spans};
 ghost use Rattle.turns.specs.Looking.{list_from, FirstFits, Looks};
-ghost use Rattle.turns.specs.Remembering.{Writable, Written, keptFrom, Rememberable, Remembers};
-ghost use Rattle.turns.specs.Emitting.{recordBy, Emits};
+ghost use Rattle.turns.specs.Remembering.{Writable, Written, kept_from, Rememberable, Remembers};
+ghost use Rattle.turns.specs.Emitting.{record_by, Emits};
 
 use merging::{Op, span_of};
 use operation::{Last, Next};
@@ -68,7 +68,7 @@ pub struct Memory {
 // The lengths of tokens into the work room at a place.
 pub fn put_lengths(spans: &[u32], first: usize, count: usize, work: &mut [u32], at: usize)
     requires { ((first + count) * 2 ≤ length spans.now) × (at + count ≤ length work.old) }
-    ensures { work.new ≡ placed work.old at (lengthsOf (ofSpans spans.now) first count) }
+    ensures { work.new ≡ placed work.old at (lengths_of (of_spans spans.now) first count) }
 {
     let mut i: usize = 0;
     'lengths: while i < count {
@@ -99,7 +99,7 @@ pub fn remember_tokens(
 // Where the remembered tokens start once those of an insert of this order are behind them: an insert
 // after a remembered insert of the same order is appended.
 pub fn kept_from(last: Last, order: usize, fill: usize) -> usize
-    ensures { result ≡ keptFrom last order fill }
+    ensures { result ≡ kept_from last order fill }
 {
     match last {
         Last::Nothing => fill,
@@ -151,7 +151,7 @@ pub fn remember_operation(
 
 // Whether an operation has no code points or no tokens.
 pub fn is_empty(a: Op) -> bool
-    ensures { result ≡ emptyOp a }
+    ensures { result ≡ empty_op a }
 {
     match a {
         Op::Delete { order, length } => length == 0,
@@ -167,7 +167,7 @@ pub fn is_empty(a: Op) -> bool
 // The record of an operation, text being the length of its text. An insert stands where `consumed` of
 // the original is consumed. Fields that mean nothing are 0.
 pub fn record_of(side: usize, consumed: usize, a: Op, text: usize) -> Operation
-    ensures { result ≡ recordBy side consumed text a }
+    ensures { result ≡ record_by side consumed text a }
 {
     match a {
         Op::Delete { order, length } => Operation {

@@ -5,29 +5,29 @@ use Rattle.refusal.specs.declared.Counted.TheVariants.{Count, Refused}
 use Rattle.refusal.specs.declared.Refusal.TheVariants.{CodePoint, Room, Utf8}
 use Rattle.room.specs.Choice.{pick}
 use Rattle.room.specs.Placed.{answered}
-use Rattle.utf8_read.specs.Reading.{good-end, points}
+use Rattle.utf8_read.specs.Reading.{good_end, points}
 use Rattle.numbers.specs.Points.{scalars}
-use Rattle.utf8_write.specs.Writing.{encode-all}
+use Rattle.utf8_write.specs.Writing.{encode_all}
 
 -- "bad UTF-8": "offset of the first byte of the first bad sequence"; else how many code points there are
-unfoldable pub read-length-of : List ℕ → Counted
-read-length-of s = pick (ltb (good-end s) (length s)) (Refused (Utf8 (good-end s))) (Count (length (points s)))
+unfoldable pub read_length_of : List ℕ → Counted
+read_length_of s = pick (ltb (good_end s) (length s)) (Refused (Utf8 (good_end s))) (Count (length (points s)))
 
 -- "Reading UTF-8: 10 then 7", 7 being "a lent room is shorter than asked"
 unfoldable pub read_of : List ℕ → ℕ → Counted
 read_of s room =
-    pick (ltb (good-end s) (length s)) (Refused (Utf8 (good-end s)))
+    pick (ltb (good_end s) (length s)) (Refused (Utf8 (good_end s)))
     (pick (ltb room (length (points s))) (Refused Room) (Count (length (points s))))
 
 -- "a lent text holds a number above 10FFFF hex or in D800 to DFFF": "its index"; else how many bytes its code points take
-unfoldable pub write-length-of : List ℕ → Counted
-write-length-of xs = pick (ltb (scalars xs) (length xs)) (Refused (CodePoint (scalars xs))) (Count (length (encode-all xs)))
+unfoldable pub write_length_of : List ℕ → Counted
+write_length_of xs = pick (ltb (scalars xs) (length xs)) (Refused (CodePoint (scalars xs))) (Count (length (encode_all xs)))
 
 -- "writing it: 4 then 7"
-unfoldable pub write-of : List ℕ → ℕ → Counted
-write-of xs room =
+unfoldable pub write_of : List ℕ → ℕ → Counted
+write_of xs room =
     pick (ltb (scalars xs) (length xs)) (Refused (CodePoint (scalars xs)))
-    (pick (ltb room (length (encode-all xs))) (Refused Room) (Count (length (encode-all xs))))
+    (pick (ltb room (length (encode_all xs))) (Refused Room) (Count (length (encode_all xs))))
 
 -- "A refusal writes nothing. On success a room past its answer is unchanged"
 unfoldable pub leaves : Counted → List ℕ → List ℕ → List ℕ

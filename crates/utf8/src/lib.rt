@@ -2,14 +2,14 @@
 // that is not UTF-8 passes, nothing that is is refused; a refusal writes nothing.
 ghost use Rattle.std.specs.Prelude.{◌≡◌, length};
 ghost use Rattle.utf8_read.specs.Reading.{points};
-ghost use Rattle.utf8_write.specs.Writing.{encode-all};
-ghost use Rattle.utf8.specs.Answers.{read-length-of, read_of, write-length-of, write-of, Answered};
+ghost use Rattle.utf8_write.specs.Writing.{encode_all};
+ghost use Rattle.utf8.specs.Answers.{read_length_of, read_of, write_length_of, write_of, Answered};
 
 use refusal::{Counted, Refusal};
 
 // How many code points bytes hold: the room to lend to `read`.
 pub fn read_length(bytes: &[u8]) -> Counted
-    ensures { result ≡ read-length-of bytes.now }
+    ensures { result ≡ read_length_of bytes.now }
 {
     let end = utf8_read::good_end_of(bytes);
     if end < bytes.len() {
@@ -50,7 +50,7 @@ pub fn read(bytes: &[u8], out: &mut [u32]) -> Counted
 
 // How many bytes code points take: the room to lend to `write`.
 pub fn write_length(text: &[u32]) -> Counted
-    ensures { result ≡ write-length-of text.now }
+    ensures { result ≡ write_length_of text.now }
 {
     let end = numbers::scalars_of(text);
     if end < text.len() {
@@ -61,7 +61,7 @@ pub fn write_length(text: &[u32]) -> Counted
 
 // The bytes of code points, at the start of a room.
 pub fn write(text: &[u32], out: &mut [u8]) -> Counted
-    ensures { Answered (write-of text.now (length out.old)) result (encode-all text.now) out.old out.new }
+    ensures { Answered (write_of text.now (length out.old)) result (encode_all text.now) out.old out.new }
 {
     let fine = numbers::scalars_of(text);
     if fine < text.len() {

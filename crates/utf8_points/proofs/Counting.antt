@@ -11,15 +11,15 @@ use lib.Seq.{take-suc, drop-drop}
 use Rattle.room.specs.Choice.{pick}
 use Rattle.utf8_read.specs.Grammar.{tail}
 use Rattle.utf8_read.specs.Window.{starts}
-use Rattle.room.proofs.Choices.{pick-elim}
+use Rattle.room.proofs.Choices.{pick_elim}
 
-pub of-tail : (b : ℕ) → tail b ≡ true → 0 ≡ starts (b ∷ [])
+pub of_tail : (b : ℕ) → tail b ≡ true → 0 ≡ starts (b ∷ [])
 unfolding starts
-of-tail b e = rw e
+of_tail b e = rw e
 
-pub of-start : (b : ℕ) → tail b ≡ false → 1 ≡ starts (b ∷ [])
+pub of_start : (b : ℕ) → tail b ≡ false → 1 ≡ starts (b ∷ [])
 unfolding starts
-of-start b e = rw e
+of_start b e = rw e
 
 pub none : 0 ≡ starts []
 unfolding starts
@@ -30,7 +30,7 @@ unfolding starts
 at_most [] = omega arith
 at_most (b ∷ s) =
     let h = at_most s in
-    pick-elim (λ (n : ℕ). n ≤ suc (length s)) (tail b) (λ _. omega arith) (λ _. omega arith)
+    pick_elim (λ (n : ℕ). n ≤ suc (length s)) (tail b) (λ _. omega arith) (λ _. omega arith)
 
 both : (s t : List ℕ) → starts (s ++ t) ≡ starts s + starts t
 unfolding starts
@@ -55,8 +55,8 @@ pub begins : (s : List ℕ) → Counted s 0 0
 begins s = record { most = omega arith; few = omega arith; sum = omega arith }
 
 -- the bytes from a place to another, counted
-pub by-block : {s : List ℕ} {at n : ℕ} (e m : ℕ) → Counted s at n → at ≤ e → e ≤ length s → m ≡ starts (take (e - at) (drop at s)) → Counted s e (n + m)
-by-block {s} {at} {n} e m c l h q =
+pub by_block : {s : List ℕ} {at n : ℕ} (e m : ℕ) → Counted s at n → at ≤ e → e ≤ length s → m ≡ starts (take (e - at) (drop at s)) → Counted s e (n + m)
+by_block {s} {at} {n} e m c l h q =
     let k : ℕ = e - at in
     let z : at + k ≡ e = omega arith in
     record {

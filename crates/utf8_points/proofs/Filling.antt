@@ -8,42 +8,42 @@ use native.Mathlib.Nat.{add-zero}
 use lib.ListN.{length, get_or, set, take, drop, length-append, length-drop}
 use lib.Seq.{take-add, drop-drop, take-append_seam, drop-append_seam, length-take-le, sets-eq, take_all, take-length}
 use Rattle.room.specs.Placed.{placed, answered, Put}
-use Rattle.room.proofs.Answers.{one_more, same-room}
-use Rattle.utf8_read.specs.Grammar.{utf8-char}
+use Rattle.room.proofs.Answers.{one_more, same_room}
+use Rattle.utf8_read.specs.Grammar.{utf8_char}
 use Rattle.utf8_read.specs.Table.{decode}
-use Rattle.utf8_read.specs.Reading.{good-from, good-end, points-from, points}
+use Rattle.utf8_read.specs.Reading.{good_from, good_end, points_from, points}
 use Rattle.utf8_read.specs.Window.{Ascii}
 use Rattle.utf8_points.specs.Found.{Pointed}
 use Rattle.utf8_points.specs.declared.Point.{Point}
-use Rattle.utf8_read.proofs.Sequences.{At, fits, stands, front-1, value-1}
-use Rattle.utf8_read.proofs.Steps.{next-good, next-points, end-good, end-points, on}
+use Rattle.utf8_read.proofs.Sequences.{At, fits, stands, front_1, value_1}
+use Rattle.utf8_read.proofs.Steps.{next_good, next_points, end_good, end_points, on}
 
 -- ASCII bytes are their own code points
-ascii-points : (m : ℕ) (s : List ℕ) (at : ℕ) → at + m ≤ length s → Ascii s at (at + m) → points-from 0 (drop at s) ≡ take m (drop at s) ++ points-from 0 (drop (at + m) s)
-ascii-points zero s at h f = rw (add-zero at)
-ascii-points (suc m) s at h f =
+ascii_points : (m : ℕ) (s : List ℕ) (at : ℕ) → at + m ≤ length s → Ascii s at (at + m) → points_from 0 (drop at s) ≡ take m (drop at s) ++ points_from 0 (drop (at + m) s)
+ascii_points zero s at h f = rw (add-zero at)
+ascii_points (suc m) s at h f =
     let a : At s at 1 = At.one (f at (omega arith) (omega arith)) (omega arith) in
-    let r = ascii-points m s (at + 1) (omega arith) (λ k l g. f k (omega arith) (omega arith)) in
+    let r = ascii_points m s (at + 1) (omega arith) (λ k l g. f k (omega arith) (omega arith)) in
     let e : at + 1 + m ≡ at + suc m = omega arith in
-    next-points a
-    ∙ ap (λ (x : ℕ). x ∷ points-from 0 (drop (at + 1) s)) (value-1 s at (omega arith))
-    ∙ ap (λ (t : List ℕ). get_or s at 0 ∷ t) (r ∙ ap (λ (n : ℕ). take m (drop (at + 1) s) ++ points-from 0 (drop n s)) e)
-    ∙ ap (λ (t : List ℕ). take (suc m) t ++ points-from 0 (drop (at + suc m) s)) (sym (front-1 s at (omega arith)))
+    next_points a
+    ∙ ap (λ (x : ℕ). x ∷ points_from 0 (drop (at + 1) s)) (value_1 s at (omega arith))
+    ∙ ap (λ (t : List ℕ). get_or s at 0 ∷ t) (r ∙ ap (λ (n : ℕ). take m (drop (at + 1) s) ++ points_from 0 (drop n s)) e)
+    ∙ ap (λ (t : List ℕ). take (suc m) t ++ points_from 0 (drop (at + suc m) s)) (sym (front_1 s at (omega arith)))
 
-ascii-good : (m : ℕ) (s : List ℕ) (at : ℕ) → at + m ≤ length s → Ascii s at (at + m) → at + good-from 0 (drop at s) ≡ at + m + good-from 0 (drop (at + m) s)
-ascii-good zero s at h f = rw (add-zero at)
-ascii-good (suc m) s at h f =
+ascii_good : (m : ℕ) (s : List ℕ) (at : ℕ) → at + m ≤ length s → Ascii s at (at + m) → at + good_from 0 (drop at s) ≡ at + m + good_from 0 (drop (at + m) s)
+ascii_good zero s at h f = rw (add-zero at)
+ascii_good (suc m) s at h f =
     let a : At s at 1 = At.one (f at (omega arith) (omega arith)) (omega arith) in
-    let r = ascii-good m s (at + 1) (omega arith) (λ k l g. f k (omega arith) (omega arith)) in
+    let r = ascii_good m s (at + 1) (omega arith) (λ k l g. f k (omega arith) (omega arith)) in
     let e : at + 1 + m ≡ at + suc m = omega arith in
-    next-good a ∙ r ∙ ap (λ (n : ℕ). n + good-from 0 (drop n s)) e
+    next_good a ∙ r ∙ ap (λ (n : ℕ). n + good_from 0 (drop n s)) e
 
 -- bytes that are all ASCII are good, and are their own code points
-pub all_plain : (s : List ℕ) → Ascii s 0 (length s) → (length s ≡ good-end s) × (points s ≡ s)
+pub all_plain : (s : List ℕ) → Ascii s 0 (length s) → (length s ≡ good_end s) × (points s ≡ s)
 all_plain s f =
     let g : Ascii s 0 (0 + length s) = λ k l h. f k l (omega arith) in (
-      omega (arith, ascii-good (length s) s 0 (omega arith) g, end-good s (0 + length s) (omega arith)),
-      ascii-points (length s) s 0 (omega arith) g ∙ rw (end-points s (0 + length s) (omega arith), take-length s, append-nil s),
+      omega (arith, ascii_good (length s) s 0 (omega arith) g, end_good s (0 + length s) (omega arith)),
+      ascii_points (length s) s 0 (omega arith) g ∙ rw (end_points s (0 + length s) (omega arith), take-length s, append-nil s),
     )
 
 -- the next part a of an answer, placed where what is there of it ends
@@ -54,94 +54,94 @@ module _ (all d o : List ℕ) (n : ℕ) (a r : List ℕ) (h : n ≤ length all) 
   left_after : drop (n + length a) all ≡ r
   left_after = sym (drop-drop (length a) n all) ∙ ap (λ (t : List ℕ). drop (length a) t) left ∙ drop-append_seam a r
 
-  more-there : placed o n a ≡ answered (take (n + length a) all) d
-  more-there =
+  more_there : placed o n a ≡ answered (take (n + length a) all) d
+  more_there =
       ap (λ (t : List ℕ). placed t n a) there
       ∙ ap (λ (m : ℕ). placed (answered (take n all) d) m a) (sym (length-take-le n all h))
       ∙ one_more (take n all) a d
       ∙ ap (λ (t : List ℕ). answered t d) (sym part)
 
-  most-after : n + length a ≤ length all
-  most-after = omega (arith, length-drop n all, ap length left, length-append a r)
+  most_after : n + length a ≤ length all
+  most_after = omega (arith, length-drop n all, ap length left, length-append a r)
 
 pub record Filling (s d o : List ℕ) (at n : ℕ) : Type 0 where
   pub most : at ≤ length s
-  pub good : at + good-from 0 (drop at s) ≡ length s
-  pub rest : drop n (points s) ≡ points-from 0 (drop at s)
+  pub good : at + good_from 0 (drop at s) ≡ length s
+  pub rest : drop n (points s) ≡ points_from 0 (drop at s)
   pub count : n ≤ length (points s)
   pub room : o ≡ answered (take n (points s)) d
 
-pub begins : (s d : List ℕ) → good-end s ≡ length s → Filling s d d 0 0
+pub begins : (s d : List ℕ) → good_end s ≡ length s → Filling s d d 0 0
 begins s d g = record { most = omega arith; good = omega (arith, g); rest = refl; count = omega arith; room = refl }
 
 module _ {s d o : List ℕ} {at n : ℕ} (f : Filling s d o at n) where
-  pub by-run : (e r : ℕ) (o' : List ℕ) → at ≤ e → e ≤ length s → Ascii s at e → Put (take (e - at) (drop at s)) o n o' r → Filling s d o' e r
-  by-run e r o' l h p w =
+  pub by_run : (e r : ℕ) (o' : List ℕ) → at ≤ e → e ≤ length s → Ascii s at e → Put (take (e - at) (drop at s)) o n o' r → Filling s d o' e r
+  by_run e r o' l h p w =
       let m : ℕ = e - at in
       let q : at + m ≡ e = omega arith in
       let a : List ℕ = take m (drop at s) in
-      let z = points-from 0 (drop (at + m) s) in
-      let t : drop n (points s) ≡ a ++ z = f.rest ∙ ascii-points m s at (omega arith) (λ k i j. p k i (omega arith)) in
+      let z = points_from 0 (drop (at + m) s) in
+      let t : drop n (points s) ≡ a ++ z = f.rest ∙ ascii_points m s at (omega arith) (λ k i j. p k i (omega arith)) in
       record {
         most = h;
-        good = ap (λ (k : ℕ). k + good-from 0 (drop k s)) (sym q) ∙ sym (ascii-good m s at (omega arith) (λ k i j. p k i (omega arith))) ∙ f.good;
-        rest = rw w.next (left_after (points s) d o n a z f.count t f.room) ∙ ap (λ (k : ℕ). points-from 0 (drop k s)) q;
-        count = rw w.next (most-after (points s) d o n a z f.count t f.room);
-        room = rw w.next (w.stands ∙ more-there (points s) d o n a z f.count t f.room);
+        good = ap (λ (k : ℕ). k + good_from 0 (drop k s)) (sym q) ∙ sym (ascii_good m s at (omega arith) (λ k i j. p k i (omega arith))) ∙ f.good;
+        rest = rw w.next (left_after (points s) d o n a z f.count t f.room) ∙ ap (λ (k : ℕ). points_from 0 (drop k s)) q;
+        count = rw w.next (most_after (points s) d o n a z f.count t f.room);
+        room = rw w.next (w.stands ∙ more_there (points s) d o n a z f.count t f.room);
       }
 
   pub as_long : length (points s) ≤ length d → length o ≡ length d
-  as_long h = rw f.room (same-room (take n (points s)) d (omega (arith, length-take-le n (points s) f.count, f.count)))
+  as_long h = rw f.room (same_room (take n (points s)) d (omega (arith, length-take-le n (points s) f.count, f.count)))
 
   module _ {l : ℕ} (a : At s at l) (h : length (points s) ≤ length d) where
-    left_here : drop n (points s) ≡ (decode (take l (drop at s)) ∷ []) ++ points-from 0 (drop (at + l) s)
-    left_here = f.rest ∙ next-points a
+    left_here : drop n (points s) ≡ (decode (take l (drop at s)) ∷ []) ++ points_from 0 (drop (at + l) s)
+    left_here = f.rest ∙ next_points a
 
     pub below : n < length (points s)
-    below = omega (arith, most-after (points s) d o n (decode (take l (drop at s)) ∷ []) (points-from 0 (drop (at + l) s)) f.count left_here f.room)
+    below = omega (arith, most_after (points s) d o n (decode (take l (drop at s)) ∷ []) (points_from 0 (drop (at + l) s)) f.count left_here f.room)
 
-    pub by-point : (x : ℕ) → x ≡ decode (take l (drop at s)) → Filling s d (set o n x) (at + l) (n + 1)
+    pub by_point : (x : ℕ) → x ≡ decode (take l (drop at s)) → Filling s d (set o n x) (at + l) (n + 1)
     unfolding placed
-    by-point x e =
+    by_point x e =
         let y : List ℕ = decode (take l (drop at s)) ∷ [] in
-        let z = points-from 0 (drop (at + l) s) in
+        let z = points_from 0 (drop (at + l) s) in
         record {
           most = (fits a).ends;
-          good = sym (next-good a) ∙ f.good;
+          good = sym (next_good a) ∙ f.good;
           rest = left_after (points s) d o n y z f.count left_here f.room;
-          count = most-after (points s) d o n y z f.count left_here f.room;
-          room = rw e (sets-eq y o n (omega (arith, as_long h, below)) ∙ more-there (points s) d o n y z f.count left_here f.room);
+          count = most_after (points s) d o n y z f.count left_here f.room;
+          room = rw e (sets-eq y o n (omega (arith, as_long h, below)) ∙ more_there (points s) d o n y z f.count left_here f.room);
         }
 
   pub ends : length s ≤ at → o ≡ answered (points s) d
-  ends h = f.room ∙ ap (λ (t : List ℕ). answered t d) (take_all n (points s) (omega (arith, length-drop n (points s), ap length (f.rest ∙ end-points s at h))))
+  ends h = f.room ∙ ap (λ (t : List ℕ). answered t d) (take_all n (points s) (omega (arith, length-drop n (points s), ap length (f.rest ∙ end_points s at h))))
 
   pub run_fits : (e : ℕ) → at ≤ e → e ≤ length s → Ascii s at e → length (points s) ≤ length d → n + length (take (e - at) (drop at s)) ≤ length o
   run_fits e l h p w =
       let m : ℕ = e - at in
-      let t : drop n (points s) ≡ take m (drop at s) ++ points-from 0 (drop (at + m) s)
-      = f.rest ∙ ascii-points m s at (omega arith) (λ k i j. p k i (omega arith)) in
-      omega (arith, as_long w, most-after (points s) d o n (take m (drop at s)) (points-from 0 (drop (at + m) s)) f.count t f.room)
+      let t : drop n (points s) ≡ take m (drop at s) ++ points_from 0 (drop (at + m) s)
+      = f.rest ∙ ascii_points m s at (omega arith) (λ k i j. p k i (omega arith)) in
+      omega (arith, as_long w, most_after (points s) d o n (take m (drop at s)) (points_from 0 (drop (at + m) s)) f.count t f.room)
 
   -- the good sequence at the place, and the room with its code point
   module _ (l : at < length s) where
-    pub there : 0 < utf8-char (drop at s)
+    pub there : 0 < utf8_char (drop at s)
     there = omega (arith, stands (on s at l f.good).1)
 
     module _ (p : Point) (w : Pointed s at p) where
-      is-long : p.len ≡ suc (on s at l f.good).0
-      is-long = w.long ∙ stands (on s at l f.good).1
+      is_long : p.len ≡ suc (on s at l f.good).0
+      is_long = w.long ∙ stands (on s at l f.good).1
 
       pub past : (1 ≤ p.len) × (at + p.len ≤ length s)
       past =
           let a = fits (on s at l f.good).1 in
-          omega (arith, is-long)
+          omega (arith, is_long)
 
-      pub room-left : length (points s) ≤ length d → n < length o
-      room-left h = omega (arith, as_long h, below (on s at l f.good).1 h)
+      pub room_left : length (points s) ≤ length d → n < length o
+      room_left h = omega (arith, as_long h, below (on s at l f.good).1 h)
 
-      pub by-pointed : length (points s) ≤ length d → Filling s d (set o n p.code) (at + p.len) (n + 1)
-      by-pointed h =
-          rw is-long
-          (by-point (on s at l f.good).1 h p.code
+      pub by_pointed : length (points s) ≤ length d → Filling s d (set o n p.code) (at + p.len) (n + 1)
+      by_pointed h =
+          rw is_long
+          (by_point (on s at l f.good).1 h p.code
           (w.number ∙ ap (λ (m : ℕ). decode (take m (drop at s))) (stands (on s at l f.good).1)))

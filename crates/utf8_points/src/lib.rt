@@ -2,9 +2,9 @@
 // Counting goes by many bytes at a time, which the compiler makes vectors of, and so does ASCII.
 ghost use Rattle.std.specs.Prelude.{◌≡◌, [], ◌∷◌, ◌+◌, ◌%◌, ◌<◌, ◌≤◌, ◌^◌, length, drop};
 ghost use Rattle.room.specs.Placed.{Put, answered};
-ghost use Rattle.utf8_read.specs.Grammar.{utf8-char};
+ghost use Rattle.utf8_read.specs.Grammar.{utf8_char};
 ghost use Rattle.utf8_read.specs.Table.{more};
-ghost use Rattle.utf8_read.specs.Reading.{good-end, points};
+ghost use Rattle.utf8_read.specs.Reading.{good_end, points};
 ghost use Rattle.utf8_read.specs.Window.{Ascii, starts};
 ghost use Rattle.utf8_points.specs.Found.{Pointed};
 
@@ -82,7 +82,7 @@ fn four_of(a: u8, b: u8, c: u8, d: u8) -> u32
 // The code point of the good sequence at a place: the one bits at the top of its first byte choose how many
 // bytes it takes. The count is asked by its order, of which the compiler makes comparisons of the byte.
 fn point_at(bytes: &[u8], at: usize) -> Point
-    requires { (at < length bytes.now) × (0 < utf8-char (drop at bytes.now)) }
+    requires { (at < length bytes.now) × (0 < utf8_char (drop at bytes.now)) }
     ensures { Pointed bytes.now at result }
 {
     let a = bytes[at];
@@ -138,7 +138,7 @@ pub fn widen(src: &[u8], out: &mut [u32], at: usize) -> usize
 // The code points of a good text, put into a room that holds them: ASCII by blocks, and where a block
 // is not ASCII 32 bytes one sequence at a time.
 pub fn fill(bytes: &[u8], out: &mut [u32])
-    requires { (good-end bytes.now ≡ length bytes.now) × (length (points bytes.now) ≤ length out.old) }
+    requires { (good_end bytes.now ≡ length bytes.now) × (length (points bytes.now) ≤ length out.old) }
     ensures { out.new ≡ answered (points bytes.now) out.old }
 {
     let mut at = 0;

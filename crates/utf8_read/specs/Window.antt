@@ -2,8 +2,8 @@
 use Rattle.std.specs.Prelude.{ℕ, suc, ◌+◌, ◌≤◌, ◌<◌, Bool, false, not, ◌&&◌, ◌||◌, ◌≡◌, List, [], ◌∷◌, get_or, length, drop, ltb, leb, eqb}
 use Rattle.std.specs.Bool.{beq}
 use Rattle.room.specs.Choice.{pick}
-use Rattle.utf8_read.specs.Grammar.{tail, utf8-char}
-use Rattle.utf8_read.specs.Reading.{good-from}
+use Rattle.utf8_read.specs.Grammar.{tail, utf8_char}
+use Rattle.utf8_read.specs.Reading.{good_from}
 
 -- "The number of one bits at the top of the first byte"
 unfoldable pub ones : ℕ → ℕ
@@ -50,12 +50,12 @@ pub record Reached (s : List ℕ) (at p : ℕ) : Type 0 where
   pub least : at ≤ p
   pub most : p ≤ length s
   pub clean : Clean s p
-  pub good : at + good-from 0 (drop at s) ≡ p + good-from 0 (drop p s)
+  pub good : at + good_from 0 (drop at s) ≡ p + good_from 0 (drop p s)
 
 -- good sequences from a place reach p; where p falls short of until, a bad one stands there
 pub record Walked (s : List ℕ) (from until p : ℕ) : Type 0 where
   pub reached : Reached s from p
-  pub stopped : p < until → utf8-char (drop p s) ≡ 0
+  pub stopped : p < until → utf8_char (drop p s) ≡ 0
 
 -- how many bytes are no tails
 unfoldable pub starts : List ℕ → ℕ

@@ -2,8 +2,8 @@
 // the compiler makes vectors of; one sequence at a time is judged only at the ends and where a window does
 // not fit.
 ghost use Rattle.std.specs.Prelude.{◌≡◌, true, false, ◌+◌, ◌<◌, ◌≤◌, min, length, drop};
-ghost use Rattle.utf8_read.specs.Grammar.{tail, utf8-2, utf8-3, utf8-4, utf8-char};
-ghost use Rattle.utf8_read.specs.Reading.{good-end};
+ghost use Rattle.utf8_read.specs.Grammar.{tail, utf8_2, utf8_3, utf8_4, utf8_char};
+ghost use Rattle.utf8_read.specs.Reading.{good_end};
 ghost use Rattle.utf8_read.specs.Window.{ones, misfit, Local, Ascii, Clean, Reached, Walked, Stretch};
 
 // The one bits at the top of a byte: the zero bits at the top of its complement.
@@ -22,13 +22,13 @@ pub fn is_tail(b: u8) -> bool
 
 // The grammar's rules for two, three and four bytes.
 fn is_two(a: u8, b: u8) -> bool
-    ensures { result ≡ utf8-2 a b }
+    ensures { result ≡ utf8_2 a b }
 {
     ((0xc2 <= a) & (a <= 0xdf)) & is_tail(b)
 }
 
 fn is_three(a: u8, b: u8, c: u8) -> bool
-    ensures { result ≡ utf8-3 a b c }
+    ensures { result ≡ utf8_3 a b c }
 {
     let tb = is_tail(b);
     let tc = is_tail(c);
@@ -39,7 +39,7 @@ fn is_three(a: u8, b: u8, c: u8) -> bool
 }
 
 fn is_four(a: u8, b: u8, c: u8, d: u8) -> bool
-    ensures { result ≡ utf8-4 a b c d }
+    ensures { result ≡ utf8_4 a b c d }
 {
     let tb = is_tail(b);
     let tcd = is_tail(c) & is_tail(d);
@@ -51,7 +51,7 @@ fn is_four(a: u8, b: u8, c: u8, d: u8) -> bool
 // How many bytes the sequence at a place takes; 0 where none stands there.
 fn length_at(bytes: &[u8], at: usize) -> usize
     requires { at < length bytes.now }
-    ensures { result ≡ utf8-char (drop at bytes.now) }
+    ensures { result ≡ utf8_char (drop at bytes.now) }
 {
     let left = bytes.len() - at;
     let a = bytes[at];
@@ -236,7 +236,7 @@ fn one_by_one(bytes: &[u8], from: usize, until: usize) -> usize
 // The offset of the first byte of the first bad sequence; the length where none is bad. A window looks back
 // three bytes, so that the first ones go one sequence at a time, and so do those behind the last window.
 pub fn good_end_of(bytes: &[u8]) -> usize
-    ensures { result ≡ good-end bytes.now }
+    ensures { result ≡ good_end bytes.now }
 {
     if bytes.len() < 35 {
         return one_by_one(bytes, 0, bytes.len());

@@ -9,37 +9,37 @@ use lib.Seq.{sets, sets-eq}
 use borrow.Author.Tests.{lt-ltb, le-ltb}
 use Rattle.room.specs.Placed.{placed}
 use Rattle.utf8_read.specs.Table.{encode, six}
-use Rattle.utf8_write.specs.Writing.{encode-all}
+use Rattle.utf8_write.specs.Writing.{encode_all}
 
-pub row-1 : (x : ℕ) → x < 0x80 → encode x ≡ x ∷ []
+pub row_1 : (x : ℕ) → x < 0x80 → encode x ≡ x ∷ []
 unfolding encode
-row-1 x h = rw (lt-ltb x 0x80 h)
+row_1 x h = rw (lt-ltb x 0x80 h)
 
-pub row-2 : (x : ℕ) → 0x80 ≤ x → x < 0x800 → encode x ≡ (0xc0 + x / 64) ∷ six x ∷ []
+pub row_2 : (x : ℕ) → 0x80 ≤ x → x < 0x800 → encode x ≡ (0xc0 + x / 64) ∷ six x ∷ []
 unfolding encode
-row-2 x g h = rw (le-ltb x 0x80 g, lt-ltb x 0x800 h)
+row_2 x g h = rw (le-ltb x 0x80 g, lt-ltb x 0x800 h)
 
-pub row-3 : (x : ℕ) → 0x800 ≤ x → x < 0x10000 → encode x ≡ (0xe0 + x / 4096) ∷ six (x / 64) ∷ six x ∷ []
+pub row_3 : (x : ℕ) → 0x800 ≤ x → x < 0x10000 → encode x ≡ (0xe0 + x / 4096) ∷ six (x / 64) ∷ six x ∷ []
 unfolding encode
-row-3 x g h = rw (le-ltb x 0x80 (omega arith), le-ltb x 0x800 g, lt-ltb x 0x10000 h)
+row_3 x g h = rw (le-ltb x 0x80 (omega arith), le-ltb x 0x800 g, lt-ltb x 0x10000 h)
 
-pub row-4 : (x : ℕ) → 0x10000 ≤ x → encode x ≡ (0xf0 + x / 262144) ∷ six (x / 4096) ∷ six (x / 64) ∷ six x ∷ []
+pub row_4 : (x : ℕ) → 0x10000 ≤ x → encode x ≡ (0xf0 + x / 262144) ∷ six (x / 4096) ∷ six (x / 64) ∷ six x ∷ []
 unfolding encode
-row-4 x g = rw (le-ltb x 0x80 (omega arith), le-ltb x 0x800 (omega arith), le-ltb x 0x10000 g)
+row_4 x g = rw (le-ltb x 0x80 (omega arith), le-ltb x 0x800 (omega arith), le-ltb x 0x10000 g)
 
 pub stores : (vs d : List ℕ) (at : ℕ) → at + length vs ≤ length d → sets d at vs ≡ placed d at vs
 unfolding placed
 stores vs d at h = sets-eq vs d at h
 
-pub none : encode-all [] ≡ []
-unfolding encode-all
+pub none : encode_all [] ≡ []
+unfolding encode_all
 none = refl
 
-pub one : (x : ℕ) → encode-all (x ∷ []) ≡ encode x
-unfolding encode-all
+pub one : (x : ℕ) → encode_all (x ∷ []) ≡ encode x
+unfolding encode_all
 one x = append-nil (encode x)
 
-pub parts : (s t : List ℕ) → encode-all (s ++ t) ≡ encode-all s ++ encode-all t
-unfolding encode-all
+pub parts : (s t : List ℕ) → encode_all (s ++ t) ≡ encode_all s ++ encode_all t
+unfolding encode_all
 parts [] t = refl
-parts (x ∷ s) t = ap (λ (r : List ℕ). encode x ++ r) (parts s t) ∙ sym (append_assoc (encode x) (encode-all s) (encode-all t))
+parts (x ∷ s) t = ap (λ (r : List ℕ). encode x ++ r) (parts s t) ∙ sym (append_assoc (encode x) (encode_all s) (encode_all t))

@@ -9,64 +9,64 @@ use native.Mathlib.Numerals.{add-one}
 use lib.ListN.{length, get_or, take, drop, length-append, take-append-drop, length-drop, drop_of_length-le}
 use lib.Seq.{take-suc, take-add, take_all, get_or-drop, get_or-take, drop-drop, length-take-le}
 use Rattle.numbers.specs.Steps.{step}
-use Rattle.numbers.proofs.Steps.{step-yes, step-no}
+use Rattle.numbers.proofs.Steps.{step_yes, step_no}
 use Rattle.room.specs.Placed.{placed, answered, Put}
-use Rattle.room.proofs.Answers.{at-start, one_more, same-room}
+use Rattle.room.proofs.Answers.{at_start, one_more, same_room}
 use Rattle.utf8_read.specs.Table.{encode}
 use Rattle.utf8_read.specs.Window.{Ascii}
-use Rattle.utf8_read.proofs.Sequences.{front-1}
-use Rattle.utf8_write.specs.Writing.{encode-all}
-use Rattle.utf8_write.proofs.Encodes.{row-1, row-2, row-3, row-4, none, one, parts}
+use Rattle.utf8_read.proofs.Sequences.{front_1}
+use Rattle.utf8_write.specs.Writing.{encode_all}
+use Rattle.utf8_write.proofs.Encodes.{row_1, row_2, row_3, row_4, none, one, parts}
 
-width-1 : (x : ℕ) → x < 0x80 → 1 ≡ length (encode x)
-width-1 x h = rw (row-1 x h)
+width_1 : (x : ℕ) → x < 0x80 → 1 ≡ length (encode x)
+width_1 x h = rw (row_1 x h)
 
-width-2 : (x : ℕ) → 0x80 ≤ x → x < 0x800 → 2 ≡ length (encode x)
-width-2 x g h = rw (row-2 x g h)
+width_2 : (x : ℕ) → 0x80 ≤ x → x < 0x800 → 2 ≡ length (encode x)
+width_2 x g h = rw (row_2 x g h)
 
-width-3 : (x : ℕ) → 0x800 ≤ x → x < 0x10000 → 3 ≡ length (encode x)
-width-3 x g h = rw (row-3 x g h)
+width_3 : (x : ℕ) → 0x800 ≤ x → x < 0x10000 → 3 ≡ length (encode x)
+width_3 x g h = rw (row_3 x g h)
 
-width-4 : (x : ℕ) → 0x10000 ≤ x → 4 ≡ length (encode x)
-width-4 x g = rw (row-4 x g)
+width_4 : (x : ℕ) → 0x10000 ≤ x → 4 ≡ length (encode x)
+width_4 x g = rw (row_4 x g)
 
-pub at-most-4 : (x : ℕ) → length (encode x) ≤ 4
-at-most-4 x = elim (dec_lt x 0x80) [
-  | yes h ↦ omega (arith, width-1 x h)
+pub at_most_4 : (x : ℕ) → length (encode x) ≤ 4
+at_most_4 x = elim (dec_lt x 0x80) [
+  | yes h ↦ omega (arith, width_1 x h)
   | no a ↦ elim (dec_lt x 0x800) [
-    | yes h ↦ omega (arith, width-2 x (omega arith) h)
+    | yes h ↦ omega (arith, width_2 x (omega arith) h)
     | no b ↦ elim (dec_lt x 0x10000) [
-      | yes h ↦ omega (arith, width-3 x (omega arith) h)
-      | no c ↦ omega (arith, width-4 x (omega arith))
+      | yes h ↦ omega (arith, width_3 x (omega arith) h)
+      | no c ↦ omega (arith, width_4 x (omega arith))
     ]
   ]
 ]
 
 abbrev pub wide : List ℕ → ℕ
-wide s = length (encode-all s)
+wide s = length (encode_all s)
 
 pub wide_both : (s t : List ℕ) → wide (s ++ t) ≡ wide s + wide t
-wide_both s t = ap length (parts s t) ∙ length-append (encode-all s) (encode-all t)
+wide_both s t = ap length (parts s t) ∙ length-append (encode_all s) (encode_all t)
 
-pub wide-one : (x : ℕ) → wide (x ∷ []) ≡ length (encode x)
-wide-one x = ap length (one x)
+pub wide_one : (x : ℕ) → wide (x ∷ []) ≡ length (encode x)
+wide_one x = ap length (one x)
 
-pub wide-none : 0 ≡ wide []
-wide-none = rw none
+pub wide_none : 0 ≡ wide []
+wide_none = rw none
 
-pub wide-most : (s : List ℕ) → wide s ≤ 4 * length s
-wide-most [] = omega (arith, wide-none)
-wide-most (x ∷ s) = omega (arith, wide_both (x ∷ []) s, wide-one x, at-most-4 x, wide-most s)
+pub wide_most : (s : List ℕ) → wide s ≤ 4 * length s
+wide_most [] = omega (arith, wide_none)
+wide_most (x ∷ s) = omega (arith, wide_both (x ∷ []) s, wide_one x, at_most_4 x, wide_most s)
 
 -- a step at each change of length
 pub steps : (x : ℕ) → 1 + step x 0x80 + step x 0x800 + step x 0x10000 ≡ length (encode x)
 steps x = elim (dec_lt x 0x80) [
-  | yes h ↦ omega (arith, width-1 x h, step-no x 0x80 h, step-no x 0x800 (omega arith), step-no x 0x10000 (omega arith))
+  | yes h ↦ omega (arith, width_1 x h, step_no x 0x80 h, step_no x 0x800 (omega arith), step_no x 0x10000 (omega arith))
   | no a ↦ elim (dec_lt x 0x800) [
-    | yes h ↦ omega (arith, width-2 x (omega arith) h, step-yes x 0x80 (omega arith), step-no x 0x800 h, step-no x 0x10000 (omega arith))
+    | yes h ↦ omega (arith, width_2 x (omega arith) h, step_yes x 0x80 (omega arith), step_no x 0x800 h, step_no x 0x10000 (omega arith))
     | no b ↦ elim (dec_lt x 0x10000) [
-      | yes h ↦ omega (arith, width-3 x (omega arith) h, step-yes x 0x80 (omega arith), step-yes x 0x800 (omega arith), step-no x 0x10000 h)
-      | no c ↦ omega (arith, width-4 x (omega arith), step-yes x 0x80 (omega arith), step-yes x 0x800 (omega arith), step-yes x 0x10000 (omega arith))
+      | yes h ↦ omega (arith, width_3 x (omega arith) h, step_yes x 0x80 (omega arith), step_yes x 0x800 (omega arith), step_no x 0x10000 h)
+      | no c ↦ omega (arith, width_4 x (omega arith), step_yes x 0x80 (omega arith), step_yes x 0x800 (omega arith), step_yes x 0x10000 (omega arith))
     ]
   ]
 ]
@@ -75,15 +75,15 @@ steps x = elim (dec_lt x 0x80) [
 pub number_more : (s : List ℕ) (k n m : ℕ) → k < length s → n ≡ wide (take k s) → m ≡ length (encode (get_or s k 0)) → n + m ≡ wide (take (k + 1) s)
 number_more s k n m h e g =
     let t : take (k + 1) s ≡ take k s ++ (get_or s k 0 ∷ []) = rw (add-one k, take-suc s k 0 h) in
-    omega (arith, ap (λ (r : List ℕ). wide r) t, wide_both (take k s) (get_or s k 0 ∷ []), wide-one (get_or s k 0))
+    omega (arith, ap (λ (r : List ℕ). wide r) t, wide_both (take k s) (get_or s k 0 ∷ []), wide_one (get_or s k 0))
 
 pub record Measured (s : List ℕ) (at n : ℕ) : Type 0 where
   pub most : at ≤ length s
   pub sum : n + wide (drop at s) ≡ wide s
 
 -- the numbers from a place to another, measured
-pub by-block : {s : List ℕ} {at n : ℕ} (e m : ℕ) → Measured s at n → at ≤ e → e ≤ length s → m ≡ wide (take (e - at) (drop at s)) → Measured s e (n + m)
-by-block {s} {at} {n} e m c l h q =
+pub by_block : {s : List ℕ} {at n : ℕ} (e m : ℕ) → Measured s at n → at ≤ e → e ≤ length s → m ≡ wide (take (e - at) (drop at s)) → Measured s e (n + m)
+by_block {s} {at} {n} e m c l h q =
     let k : ℕ = e - at in
     let z : at + k ≡ e = omega arith in
     record {
@@ -100,74 +100,74 @@ by-block {s} {at} {n} e m c l h q =
     }
 
 pub measured : {s : List ℕ} {n : ℕ} → Measured s (length s) n → n ≡ wide s
-measured {s} {n} c = omega (arith, c.sum, ap (λ (r : List ℕ). wide r) (drop_of_length-le s {i = length s} (omega arith)), wide-none)
+measured {s} {n} c = omega (arith, c.sum, ap (λ (r : List ℕ). wide r) (drop_of_length-le s {i = length s} (omega arith)), wide_none)
 
 pub within : {s : List ℕ} {at n : ℕ} → Measured s at n → n ≤ 4 * length s
-within {s} c = omega (arith, c.sum, wide-most s)
+within {s} c = omega (arith, c.sum, wide_most s)
 
 -- ASCII numbers are their own bytes
-plain-all : (l : List ℕ) → Ascii l 0 (length l) → encode-all l ≡ l
-unfolding encode-all
-plain-all [] f = refl
-plain-all (x ∷ l) f =
-    rw (row-1 x (f 0 (omega arith) (omega arith)))
-    (ap (λ (r : List ℕ). x ∷ r) (plain-all l (λ k a h. f (suc k) (omega arith) (omega arith))))
+plain_all : (l : List ℕ) → Ascii l 0 (length l) → encode_all l ≡ l
+unfolding encode_all
+plain_all [] f = refl
+plain_all (x ∷ l) f =
+    rw (row_1 x (f 0 (omega arith) (omega arith)))
+    (ap (λ (r : List ℕ). x ∷ r) (plain_all l (λ k a h. f (suc k) (omega arith) (omega arith))))
 
-pub part-ascii : (s : List ℕ) (i e : ℕ) → i ≤ e → e ≤ length s → Ascii s i e → Ascii (take (e - i) (drop i s)) 0 (length (take (e - i) (drop i s)))
-part-ascii s i e l h f k a m =
+pub part_ascii : (s : List ℕ) (i e : ℕ) → i ≤ e → e ≤ length s → Ascii s i e → Ascii (take (e - i) (drop i s)) 0 (length (take (e - i) (drop i s)))
+part_ascii s i e l h f k a m =
     let w = length-take-le (e - i) (drop i s) (rw length-drop (omega arith)) in
     rw (get_or-take (e - i) (drop i s) k 0 (omega arith), get_or-drop i s k 0) (f (i + k) (omega arith) (omega arith))
 
-pub plain-measured : (s : List ℕ) (e : ℕ) → e ≤ length s → Ascii s 0 e → Measured s e e
-plain-measured s e h f = record {
+pub plain_measured : (s : List ℕ) (e : ℕ) → e ≤ length s → Ascii s 0 e → Measured s e e
+plain_measured s e h f = record {
   most = h;
   sum =
       omega (
         arith,
         ap (λ (r : List ℕ). wide r) (take-append-drop e s),
         wide_both (take e s) (drop e s),
-        ap length (plain-all (take e s) (λ k a m. rw (get_or-take e s k 0 (omega (arith, length-take-le e s h))) (f k a (omega (arith, length-take-le e s h))))),
+        ap length (plain_all (take e s) (λ k a m. rw (get_or-take e s k 0 (omega (arith, length-take-le e s h))) (f k a (omega (arith, length-take-le e s h))))),
         length-take-le e s h,
       );
 }
 
 -- a text whose bytes are as many as its numbers is ASCII
-at-least-1 : (x : ℕ) → (1 ≤ length (encode x)) × (length (encode x) ≤ 1 → x < 0x80)
-at-least-1 x = elim (dec_lt x 0x80) [
-  | yes h ↦ (omega (arith, width-1 x h), λ _. h)
+at_least_1 : (x : ℕ) → (1 ≤ length (encode x)) × (length (encode x) ≤ 1 → x < 0x80)
+at_least_1 x = elim (dec_lt x 0x80) [
+  | yes h ↦ (omega (arith, width_1 x h), λ _. h)
   | no a ↦ elim (dec_lt x 0x800) [
-    | yes h ↦ (let w = width-2 x (omega arith) h in (omega arith, λ l. absurd (omega arith)))
+    | yes h ↦ (let w = width_2 x (omega arith) h in (omega arith, λ l. absurd (omega arith)))
     | no b ↦ elim (dec_lt x 0x10000) [
-      | yes h ↦ (let w = width-3 x (omega arith) h in (omega arith, λ l. absurd (omega arith)))
-      | no c ↦ (let w = width-4 x (omega arith) in (omega arith, λ l. absurd (omega arith)))
+      | yes h ↦ (let w = width_3 x (omega arith) h in (omega arith, λ l. absurd (omega arith)))
+      | no c ↦ (let w = width_4 x (omega arith) in (omega arith, λ l. absurd (omega arith)))
     ]
   ]
 ]
 
-wide-least : (s : List ℕ) → length s ≤ wide s
-wide-least [] = omega arith
-wide-least (x ∷ s) = omega (arith, wide_both (x ∷ []) s, wide-one x, (at-least-1 x).0, wide-least s)
+wide_least : (s : List ℕ) → length s ≤ wide s
+wide_least [] = omega arith
+wide_least (x ∷ s) = omega (arith, wide_both (x ∷ []) s, wide_one x, (at_least_1 x).0, wide_least s)
 
-pub narrow-text : (s : List ℕ) → wide s ≡ length s → Ascii s 0 (length s)
-narrow-text [] e k l h = absurd (omega arith)
-narrow-text (x ∷ s) e zero l h = (at-least-1 x).1 (omega (arith, wide_both (x ∷ []) s, wide-one x, wide-least s))
-narrow-text (x ∷ s) e (suc k) l h =
-    narrow-text s (omega (arith, wide_both (x ∷ []) s, wide-one x, (at-least-1 x).0, wide-least s)) k (omega arith) (omega arith)
+pub narrow_text : (s : List ℕ) → wide s ≡ length s → Ascii s 0 (length s)
+narrow_text [] e k l h = absurd (omega arith)
+narrow_text (x ∷ s) e zero l h = (at_least_1 x).1 (omega (arith, wide_both (x ∷ []) s, wide_one x, wide_least s))
+narrow_text (x ∷ s) e (suc k) l h =
+    narrow_text s (omega (arith, wide_both (x ∷ []) s, wide_one x, (at_least_1 x).0, wide_least s)) k (omega arith) (omega arith)
 
-pub narrow-room : (s d d' : List ℕ) (r : ℕ) → wide s ≡ length s → Put s d 0 d' r → d' ≡ answered (encode-all s) d
-narrow-room s d d' r e w = w.stands ∙ at-start s d ∙ ap (λ (a : List ℕ). answered a d) (sym (plain-all s (narrow-text s e)))
+pub narrow_room : (s d d' : List ℕ) (r : ℕ) → wide s ≡ length s → Put s d 0 d' r → d' ≡ answered (encode_all s) d
+narrow_room s d d' r e w = w.stands ∙ at_start s d ∙ ap (λ (a : List ℕ). answered a d) (sym (plain_all s (narrow_text s e)))
 
-pub narrow-long : (s d d' : List ℕ) (r : ℕ) → wide s ≡ length s → Put s d 0 d' r → wide s ≤ length d → length d' ≡ length d
-narrow-long s d d' r e w h = rw (narrow-room s d d' r e w) (same-room (encode-all s) d h)
+pub narrow_long : (s d d' : List ℕ) (r : ℕ) → wide s ≡ length s → Put s d 0 d' r → wide s ≤ length d → length d' ≡ length d
+narrow_long s d d' r e w h = rw (narrow_room s d d' r e w) (same_room (encode_all s) d h)
 
 -- how far the room is filled
 pub record Spilling (s d o : List ℕ) (i at : ℕ) : Type 0 where
   pub most : i ≤ length s
   pub place : at ≡ wide (take i s)
-  pub room : o ≡ answered (encode-all (take i s)) d
+  pub room : o ≡ answered (encode_all (take i s)) d
 
 pub begins : (s d : List ℕ) → Spilling s d d 0 0
-begins s d = record { most = omega arith; place = wide-none; room = rw none }
+begins s d = record { most = omega arith; place = wide_none; room = rw none }
 
 module _ {s d o : List ℕ} {i at : ℕ} (f : Spilling s d o i at) where
   whole : (m : ℕ) → wide s ≡ wide (take i s) + wide (take m (drop i s)) + wide (drop m (drop i s))
@@ -181,47 +181,47 @@ module _ {s d o : List ℕ} {i at : ℕ} (f : Spilling s d o i at) where
       )
 
   pub as_long : wide s ≤ length d → length o ≡ length d
-  as_long h = rw f.room (same-room (encode-all (take i s)) d (omega (arith, whole 0)))
+  as_long h = rw f.room (same_room (encode_all (take i s)) d (omega (arith, whole 0)))
 
-  fits : (m : ℕ) (a : List ℕ) → encode-all (take m (drop i s)) ≡ a → wide s ≤ length d → at + length a ≤ length o
+  fits : (m : ℕ) (a : List ℕ) → encode_all (take m (drop i s)) ≡ a → wide s ≤ length d → at + length a ≤ length o
   fits m a e h = omega (arith, as_long h, whole m, ap length e, f.place)
 
-  by_part : (m r : ℕ) (a o' : List ℕ) → encode-all (take m (drop i s)) ≡ a → i + m ≤ length s → Put a o at o' r → Spilling s d o' (i + m) r
+  by_part : (m r : ℕ) (a o' : List ℕ) → encode_all (take m (drop i s)) ≡ a → i + m ≤ length s → Put a o at o' r → Spilling s d o' (i + m) r
   by_part m r a o' e h w =
-      let t : encode-all (take (i + m) s) ≡ encode-all (take i s) ++ a
-      = ap encode-all (take-add i m s) ∙ parts (take i s) (take m (drop i s)) ∙ ap (λ (z : List ℕ). encode-all (take i s) ++ z) e in
+      let t : encode_all (take (i + m) s) ≡ encode_all (take i s) ++ a
+      = ap encode_all (take-add i m s) ∙ parts (take i s) (take m (drop i s)) ∙ ap (λ (z : List ℕ). encode_all (take i s) ++ z) e in
       record {
         most = h;
-        place = omega (arith, w.next, f.place, ap length t, length-append (encode-all (take i s)) a);
+        place = omega (arith, w.next, f.place, ap length t, length-append (encode_all (take i s)) a);
         room =
             w.stands
             ∙ ap (λ (z : List ℕ). placed z at a) f.room
-            ∙ ap (λ (n : ℕ). placed (answered (encode-all (take i s)) d) n a) f.place
-            ∙ one_more (encode-all (take i s)) a d
+            ∙ ap (λ (n : ℕ). placed (answered (encode_all (take i s)) d) n a) f.place
+            ∙ one_more (encode_all (take i s)) a d
             ∙ ap (λ (z : List ℕ). answered z d) (sym t);
       }
 
   module _ (e : ℕ) (l : i ≤ e) (h : e ≤ length s) (p : Ascii s i e) where
-    plain-part : encode-all (take (e - i) (drop i s)) ≡ take (e - i) (drop i s)
-    plain-part = plain-all (take (e - i) (drop i s)) (part-ascii s i e l h p)
+    plain_part : encode_all (take (e - i) (drop i s)) ≡ take (e - i) (drop i s)
+    plain_part = plain_all (take (e - i) (drop i s)) (part_ascii s i e l h p)
 
     pub run_fits : wide s ≤ length d → at + length (take (e - i) (drop i s)) ≤ length o
-    run_fits w = fits (e - i) (take (e - i) (drop i s)) plain-part w
+    run_fits w = fits (e - i) (take (e - i) (drop i s)) plain_part w
 
-    pub by-run : (r : ℕ) (o' : List ℕ) → Put (take (e - i) (drop i s)) o at o' r → Spilling s d o' e r
-    by-run r o' w =
+    pub by_run : (r : ℕ) (o' : List ℕ) → Put (take (e - i) (drop i s)) o at o' r → Spilling s d o' e r
+    by_run r o' w =
         let q : i + (e - i) ≡ e = omega arith in
-        rw q at (by_part (e - i) r (take (e - i) (drop i s)) o' plain-part (omega arith) w)
+        rw q at (by_part (e - i) r (take (e - i) (drop i s)) o' plain_part (omega arith) w)
 
   module _ (l : i < length s) where
-    code-part : encode-all (take 1 (drop i s)) ≡ encode (get_or s i 0)
-    code-part = rw (front-1 s i (omega arith)) (one (get_or s i 0))
+    code_part : encode_all (take 1 (drop i s)) ≡ encode (get_or s i 0)
+    code_part = rw (front_1 s i (omega arith)) (one (get_or s i 0))
 
     pub code_fits : wide s ≤ length d → at + length (encode (get_or s i 0)) ≤ length o
-    code_fits w = fits 1 (encode (get_or s i 0)) code-part w
+    code_fits w = fits 1 (encode (get_or s i 0)) code_part w
 
     pub by_code : (r : ℕ) (o' : List ℕ) → Put (encode (get_or s i 0)) o at o' r → Spilling s d o' (i + 1) r
-    by_code r o' w = by_part 1 r (encode (get_or s i 0)) o' code-part (omega arith) w
+    by_code r o' w = by_part 1 r (encode (get_or s i 0)) o' code_part (omega arith) w
 
-  pub ends : length s ≤ i → o ≡ answered (encode-all s) d
-  ends h = f.room ∙ ap (λ (z : List ℕ). answered (encode-all z) d) (take_all i s h)
+  pub ends : length s ≤ i → o ≡ answered (encode_all s) d
+  ends h = f.room ∙ ap (λ (z : List ℕ). answered (encode_all z) d) (take_all i s h)

@@ -3,6 +3,6 @@ use Rattle.std.specs.Prelude.{ℕ, List, [], ◌∷◌, ◌++◌}
 use Rattle.utf8_read.specs.Table.{encode}
 
 -- "Encoding a character to UTF-8", each in its turn
-unfoldable pub encode-all : List ℕ → List ℕ
-encode-all [] = []
-encode-all (x ∷ xs) = encode x ++ encode-all xs
+unfoldable pub encode_all : List ℕ → List ℕ
+encode_all [] = []
+encode_all (x ∷ xs) = encode x ++ encode_all xs

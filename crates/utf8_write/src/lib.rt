@@ -6,7 +6,7 @@ ghost use Rattle.room.specs.Placed.{Put, answered};
 ghost use Rattle.utf8_read.specs.Table.{six, encode};
 ghost use Rattle.utf8_read.specs.Window.{Ascii};
 ghost use Rattle.numbers.specs.Points.{scalars};
-ghost use Rattle.utf8_write.specs.Writing.{encode-all};
+ghost use Rattle.utf8_write.specs.Writing.{encode_all};
 
 // How many bytes a number takes: a sum, so that a loop over it is made of vectors.
 fn width(x: u32) -> u32
@@ -18,7 +18,7 @@ fn width(x: u32) -> u32
 // How many bytes at most 65,536 numbers take.
 fn width_block(src: &[u32]) -> u32
     requires { length src.now ≤ 65536 }
-    ensures { result ≡ length (encode-all src.now) }
+    ensures { result ≡ length (encode_all src.now) }
 {
     let mut n: u32 = 0;
     let mut k: usize = 0;
@@ -31,7 +31,7 @@ fn width_block(src: &[u32]) -> u32
 
 // How many bytes a text takes.
 pub fn width_of(text: &[u32]) -> usize
-    ensures { result ≡ length (encode-all text.now) }
+    ensures { result ≡ length (encode_all text.now) }
 {
     let plain = plain_end(text, 0);
     let mut n = plain;
@@ -196,8 +196,8 @@ fn pace(len: usize, width: usize) -> usize
 // The bytes of code points, as many as the width says, put into a room that holds them: ASCII by blocks, and
 // where a block is not ASCII some numbers one at a time.
 pub fn spill(text: &[u32], out: &mut [u8], width: usize)
-    requires { (scalars text.now ≡ length text.now) × (length (encode-all text.now) ≤ length out.old) × (width ≡ length (encode-all text.now)) }
-    ensures { out.new ≡ answered (encode-all text.now) out.old }
+    requires { (scalars text.now ≡ length text.now) × (length (encode_all text.now) ≤ length out.old) × (width ≡ length (encode_all text.now)) }
+    ensures { out.new ≡ answered (encode_all text.now) out.old }
 {
     if width == text.len() {
         narrow(text, out, 0);

@@ -18,9 +18,9 @@ pub goes_on : (a w v : Verdict) → a ≡ Accepted → v ≡ w → v ≡ and_the
 unfolding and_then
 goes_on a w v e f = rw e f
 
-pub too-big : (b : Bool) (w : Verdict) → b ≡ false → Refused Size ≡ and_then (sized b) w
+pub too_big : (b : Bool) (w : Verdict) → b ≡ false → Refused Size ≡ and_then (sized b) w
 unfolding and_then sized
-too-big b w e = rw e
+too_big b w e = rw e
 
 pub fits : (b : Bool) (w v : Verdict) → b ≡ true → v ≡ w → v ≡ and_then (sized b) w
 unfolding and_then sized
@@ -32,9 +32,9 @@ pub has_room : (v : Verdict) (b : Bool) → v ≡ Accepted → b ≡ true → an
 unfolding and_then roomed
 has_room v b e f = rw (e, f)
 
-pub lacks-room : (v : Verdict) (b : Bool) → v ≡ Accepted → b ≡ false → and_then v (roomed b) ≡ Refused Room
+pub lacks_room : (v : Verdict) (b : Bool) → v ≡ Accepted → b ≡ false → and_then v (roomed b) ≡ Refused Room
 unfolding and_then roomed
-lacks-room v b e f = rw (e, f)
+lacks_room v b e f = rw (e, f)
 
 -- what an accepted chain says
 
@@ -46,17 +46,17 @@ pub went : (b : Bool) (v : Verdict) (r : Refusal) → elim b [ true ↦ v | fals
 went true v r h = (refl, h)
 went false v r h = never h
 
-pub first-passed : (a w : Verdict) → and_then a w ≡ Accepted → a ≡ Accepted
+pub first_passed : (a w : Verdict) → and_then a w ≡ Accepted → a ≡ Accepted
 unfolding and_then
-first-passed Accepted w h = refl
-first-passed (Refused r) w h = h
+first_passed Accepted w h = refl
+first_passed (Refused r) w h = h
 
-pub rest-passed : (a w : Verdict) → and_then a w ≡ Accepted → w ≡ Accepted
+pub rest_passed : (a w : Verdict) → and_then a w ≡ Accepted → w ≡ Accepted
 unfolding and_then
-rest-passed Accepted w h = h
-rest-passed (Refused r) w h = cc
+rest_passed Accepted w h = h
+rest_passed (Refused r) w h = cc
 
-pub size-passed : (b : Bool) → sized b ≡ Accepted → b ≡ true
+pub size_passed : (b : Bool) → sized b ≡ Accepted → b ≡ true
 unfolding sized
-size-passed true h = refl
-size-passed false h = cc
+size_passed true h = refl
+size_passed false h = cc

@@ -6,26 +6,26 @@ use mathlib.Core.Bool.{true, false}
 use mathlib.Core.List.{List, [], ◌∷◌}
 use lib.ListN.{length}
 use Rattle.refusal.specs.declared.Refusal.TheVariants.{CodePoint}
-use Rattle.numbers.specs.Points.{isPoint, scalars}
-use Rattle.numbers.proofs.Scalar.{all-good, one-bad}
+use Rattle.numbers.specs.Points.{is_point, scalars}
+use Rattle.numbers.proofs.Scalar.{all_good, one_bad}
 use Rattle.verdict.specs.declared.Verdict.TheVariants.{Accepted, Refused}
-use Rattle.verdict.specs.Points.{pointsFrom}
+use Rattle.verdict.specs.Points.{points_from}
 
-ends : (i : ℕ) → pointsFrom [] i ≡ Accepted
-unfolding pointsFrom
+ends : (i : ℕ) → points_from [] i ≡ Accepted
+unfolding points_from
 ends i = refl
 
-on : (i c : ℕ) (cs : List ℕ) → isPoint c ≡ true → pointsFrom (c ∷ cs) i ≡ pointsFrom cs (i + 1)
-unfolding pointsFrom
-on i c cs e = rw (e, pointsFrom)
+on : (i c : ℕ) (cs : List ℕ) → is_point c ≡ true → points_from (c ∷ cs) i ≡ points_from cs (i + 1)
+unfolding points_from
+on i c cs e = rw (e, points_from)
 
-stops : (i c : ℕ) (cs : List ℕ) → isPoint c ≡ false → pointsFrom (c ∷ cs) i ≡ Refused (CodePoint i)
-unfolding pointsFrom
-stops i c cs e = rw (e, pointsFrom)
+stops : (i c : ℕ) (cs : List ℕ) → is_point c ≡ false → points_from (c ∷ cs) i ≡ Refused (CodePoint i)
+unfolding points_from
+stops i c cs e = rw (e, points_from)
 
 module _ (s : List ℕ) (n : ℕ) (e : n ≡ scalars s) where
-  pub accepts : length s ≤ n → Accepted ≡ pointsFrom s 0
-  accepts = all-good (λ (i : ℕ) (cs : List ℕ). pointsFrom cs i) Accepted (λ (i : ℕ). Refused (CodePoint i)) ends on stops s n e
+  pub accepts : length s ≤ n → Accepted ≡ points_from s 0
+  accepts = all_good (λ (i : ℕ) (cs : List ℕ). points_from cs i) Accepted (λ (i : ℕ). Refused (CodePoint i)) ends on stops s n e
 
-  pub refuses : n < length s → Refused (CodePoint n) ≡ pointsFrom s 0
-  refuses = one-bad (λ (i : ℕ) (cs : List ℕ). pointsFrom cs i) Accepted (λ (i : ℕ). Refused (CodePoint i)) ends on stops s n e
+  pub refuses : n < length s → Refused (CodePoint n) ≡ points_from s 0
+  refuses = one_bad (λ (i : ℕ) (cs : List ℕ). points_from cs i) Accepted (λ (i : ℕ). Refused (CodePoint i)) ends on stops s n e

@@ -14,5 +14,5 @@ module _ (n o m s : ℕ) (t : Bool) (h : n ≤ o / 6) where
   pub second_short : s / 2 < m → false ≡ leb (n * 6) o && (leb (m * 2) s && t)
   second_short k = rw (le-leb (n * 6) o (omega arith), lt-leb (m * 2) s (omega arith))
 
-  pub both-enough : (r : Bool) → m ≤ s / 2 → r ≡ t → r ≡ leb (n * 6) o && (leb (m * 2) s && t)
-  both-enough r k e = rw (le-leb (n * 6) o (omega arith), le-leb (m * 2) s (omega arith)) e
+  pub both_enough : (r : Bool) → m ≤ s / 2 → r ≡ t → r ≡ leb (n * 6) o && (leb (m * 2) s && t)
+  both_enough r k e = rw (le-leb (n * 6) o (omega arith), le-leb (m * 2) s (omega arith)) e

@@ -1,6 +1,6 @@
 // The verdict of a check, and refusal 4 of a text.
 ghost use Rattle.std.specs.Prelude.{◌≡◌};
-ghost use Rattle.verdict.specs.Points.{pointsFrom, pointsVerdict};
+ghost use Rattle.verdict.specs.Points.{points_from, points_verdict};
 
 #[derive(Drop)]
 pub enum Verdict {
@@ -10,7 +10,7 @@ pub enum Verdict {
 
 // Refusal 4 of one text.
 pub fn check_text(text: &[u32]) -> Verdict
-    ensures { result ≡ pointsFrom text.now 0 }
+    ensures { result ≡ points_from text.now 0 }
 {
     let bad = numbers::scalars_of(text);
     if bad < text.len() {
@@ -21,7 +21,7 @@ pub fn check_text(text: &[u32]) -> Verdict
 
 // Refusal 4 of both texts.
 pub fn check_texts(original: &[u32], text: &[u32]) -> Verdict
-    ensures { result ≡ pointsVerdict original.now text.now }
+    ensures { result ≡ points_verdict original.now text.now }
 {
     match check_text(original) {
         Verdict::Refused(refusal) => Verdict::Refused(refusal),

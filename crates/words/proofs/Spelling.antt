@@ -7,29 +7,29 @@ use native.Mathlib.Omega.{arith}
 use lib.ListN.{length, take, drop, length-append}
 use lib.Seq.{take-add, drop-drop}
 use Rattle.room.specs.Placed.{placed, Put}
-use Rattle.room.proofs.Placing.{placed-length, placed-more}
+use Rattle.room.proofs.Placing.{placed_length, placed_more}
 use Rattle.records.specs.declared.Token.{Token}
-use Rattle.records.specs.Tokens.{tokenAt, tokensFrom, spelled, spelling}
-use Rattle.records.proofs.Tokens.{from_more, from-none, length-spell}
+use Rattle.records.specs.Tokens.{token_at, tokens_from, spelled, spelling}
+use Rattle.records.proofs.Tokens.{from_more, from_none, length_spell}
 use Rattle.shapes.specs.Accepted.{AllIn}
-use Rattle.words.specs.Words.{Lends, firstStart}
+use Rattle.words.specs.Words.{Lends, first_start}
 
 -- where the first token begins
 
-pub start_none : (spans keys : List ℕ) (first count : ℕ) → count ≡ 0 → 0 ≡ firstStart (tokensFrom spans keys first count)
-unfolding tokensFrom firstStart
+pub start_none : (spans keys : List ℕ) (first count : ℕ) → count ≡ 0 → 0 ≡ first_start (tokens_from spans keys first count)
+unfolding tokens_from first_start
 start_none spans keys first count e = rw e
 
-pub start-some : (spans keys : List ℕ) (first count : ℕ) (t : Token) (r : ℕ) → (count ≡ 0 → ⊥) → t ≡ tokenAt spans keys first → r ≡ t.start
-    → r ≡ firstStart (tokensFrom spans keys first count)
-unfolding tokensFrom firstStart
-start-some spans keys first zero t r h e f = absurd (h refl)
-start-some spans keys first (suc k) t r h e f = f ∙ rw e
+pub start_some : (spans keys : List ℕ) (first count : ℕ) (t : Token) (r : ℕ) → (count ≡ 0 → ⊥) → t ≡ token_at spans keys first → r ≡ t.start
+    → r ≡ first_start (tokens_from spans keys first count)
+unfolding tokens_from first_start
+start_some spans keys first zero t r h e f = absurd (h refl)
+start_some spans keys first (suc k) t r h e f = f ∙ rw e
 
-start-inside : (n : ℕ) (ts : List Token) → AllIn n ts → firstStart ts ≤ n
-unfolding AllIn firstStart
-start-inside n [] h = zero-le
-start-inside n (t ∷ ts) h = omega (arith, h.1.0)
+start_inside : (n : ℕ) (ts : List Token) → AllIn n ts → first_start ts ≤ n
+unfolding AllIn first_start
+start_inside n [] h = zero-le
+start_inside n (t ∷ ts) h = omega (arith, h.1.0)
 
 -- a range and the one behind it are one range
 ranges : (text : List ℕ) (from held n : ℕ) → take (held + n) (drop from text) ≡ take held (drop from text) ++ take n (drop (from + held) text)
@@ -46,19 +46,19 @@ module _ (text spans keys : List ℕ) (first count : ℕ) (d : List ℕ) (at : �
 
   pub record Spelling (o : List ℕ) (i to from held : ℕ) : Type 0 where
     pub most : i ≤ first + count
-    pub tokens : AllIn (length text) (tokensFrom spans keys i (first + count - i))
+    pub tokens : AllIn (length text) (tokens_from spans keys i (first + count - i))
     pub inside : from + held ≤ length text
     pub same : length o ≡ length d
     pub ends : to + (held + length (rest i)) ≡ at + length (spelling text spans keys first count)
     pub stands : placed o to (range from held ++ rest i) ≡ placed d at (spelling text spans keys first count)
 
-  pub begins : Lends text spans keys first count d at → (f : ℕ) → f ≡ firstStart (tokensFrom spans keys first count) → Spelling d first at f 0
+  pub begins : Lends text spans keys first count d at → (f : ℕ) → f ≡ first_start (tokens_from spans keys first count) → Spelling d first at f 0
   begins h f g =
       let e : first + count - first ≡ count = omega arith in
       record {
         most = omega arith;
         tokens = rw e h.tokens;
-        inside = omega (arith, start-inside (length text) (tokensFrom spans keys first count) h.tokens);
+        inside = omega (arith, start_inside (length text) (tokens_from spans keys first count) h.tokens);
         same = refl;
         ends = rw e (omega arith);
         stands = rw e;
@@ -66,7 +66,7 @@ module _ (text spans keys : List ℕ) (first count : ℕ) (d : List ℕ) (at : �
 
   module _ (h : Lends text spans keys first count d at) {o : List ℕ} {i to from held : ℕ} (s : Spelling o i to from held) where
     long : length (range from held) ≡ held
-    long = length-spell text (record { start = from; length = held; key = 0 }) s.inside
+    long = length_spell text (record { start = from; length = held; key = 0 }) s.inside
 
     -- the range that is held back can be put
     pub asks : (from + held ≤ length text) × (to + held ≤ length o)
@@ -74,25 +74,25 @@ module _ (text spans keys : List ℕ) (first count : ℕ) (d : List ℕ) (at : �
 
     module _ {o' : List ℕ} {r : ℕ} (p : Put (range from held) o to o' r) where
       pub kept : length o' ≡ length d
-      kept = ap length p.stands ∙ placed-length o to (range from held) (omega (arith, long, asks.1)) ∙ s.same
+      kept = ap length p.stands ∙ placed_length o to (range from held) (omega (arith, long, asks.1)) ∙ s.same
 
-      put-more : placed o' r (rest i) ≡ placed d at (spelling text spans keys first count)
-      put-more = rw (p.stands, p.next) (placed-more o to (range from held) (rest i) (omega (arith, asks.1)) ∙ s.stands)
+      put_more : placed o' r (rest i) ≡ placed d at (spelling text spans keys first count)
+      put_more = rw (p.stands, p.next) (placed_more o to (range from held) (rest i) (omega (arith, asks.1)) ∙ s.stands)
 
       pub finishes : first + count ≤ i → Put (spelling text spans keys first count) d at o' r
       unfolding spelled
       finishes l =
-          let n : rest i ≡ [] = ap (spelled text) (from-none spans keys i (first + count) l) in
+          let n : rest i ≡ [] = ap (spelled text) (from_none spans keys i (first + count) l) in
           record {
             next = omega (arith, p.next, long, s.ends, ap length n);
             stands = p.stands ∙ ap (placed o to) (sym (append-nil (range from held)) ∙ ap (λ (r : List ℕ). range from held ++ r) (sym n)) ∙ s.stands;
           }
 
-    module _ (l : i < first + count) (t : Token) (f n : ℕ) (et : t ≡ tokenAt spans keys i) (ef : f ≡ t.start) (en : n ≡ t.length) where
-      more : tokensFrom spans keys i (first + count - i) ≡ t ∷ tokensFrom spans keys (i + 1) (first + count - (i + 1))
+    module _ (l : i < first + count) (t : Token) (f n : ℕ) (et : t ≡ token_at spans keys i) (ef : f ≡ t.start) (en : n ≡ t.length) where
+      more : tokens_from spans keys i (first + count - i) ≡ t ∷ tokens_from spans keys (i + 1) (first + count - (i + 1))
       more = rw et (from_more spans keys i (first + count) l)
 
-      good : (0 < t.length) × ((t.start + t.length ≤ length text) × AllIn (length text) (tokensFrom spans keys (i + 1) (first + count - (i + 1))))
+      good : (0 < t.length) × ((t.start + t.length ≤ length text) × AllIn (length text) (tokens_from spans keys (i + 1) (first + count - (i + 1))))
       unfolding AllIn
       good = rw more at s.tokens
 
@@ -102,7 +102,7 @@ module _ (text spans keys : List ℕ) (first count : ℕ) (d : List ℕ) (at : �
       words = rw (ef, en) (ap (spelled text) more)
 
       size : length (rest i) ≡ n + length (rest (i + 1))
-      size = omega (arith, simp length-append at (ap length words), length-spell text t good.1.0, ap (λ (k : ℕ). length (take k (drop f text))) en, ap (λ (k : ℕ). length (take t.length (drop k text))) ef)
+      size = omega (arith, simp length-append at (ap length words), length_spell text t good.1.0, ap (λ (k : ℕ). length (take k (drop f text))) en, ap (λ (k : ℕ). length (take t.length (drop k text))) ef)
 
       pub joins : f ≡ from + held → Spelling o (i + 1) to from (held + n)
       joins e =
@@ -125,5 +125,5 @@ module _ (text spans keys : List ℕ) (first count : ℕ) (d : List ℕ) (at : �
             inside = omega (arith, good.1.0);
             same = kept p;
             ends = omega (arith, p.next, long, s.ends, size);
-            stands = ap (placed o' r) (sym words) ∙ put-more p;
+            stands = ap (placed o' r) (sym words) ∙ put_more p;
           }

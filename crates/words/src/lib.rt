@@ -2,8 +2,8 @@
 // at a place; what stands before and past it is as it was.
 ghost use Rattle.std.specs.Prelude.{◌≡◌, ◌+◌, ◌≤◌, length, take, drop};
 ghost use Rattle.room.specs.Placed.{Put};
-ghost use Rattle.records.specs.Tokens.{tokensLent, tokensFrom, spelling};
-ghost use Rattle.words.specs.Words.{Lends, firstStart};
+ghost use Rattle.records.specs.Tokens.{tokens_lent, tokens_from, spelling};
+ghost use Rattle.words.specs.Words.{Lends, first_start};
 
 use numbers::wide;
 
@@ -24,8 +24,8 @@ pub fn put_original(
 
 // Where the first of so many tokens starts; 0 where there is none.
 fn first_start(spans: &[u32], keys: &[u32], first: usize, count: usize) -> usize
-    requires { first + count ≤ tokensLent spans.now keys.now }
-    ensures { result ≡ firstStart (tokensFrom spans.now keys.now first count) }
+    requires { first + count ≤ tokens_lent spans.now keys.now }
+    ensures { result ≡ first_start (tokens_from spans.now keys.now first count) }
 {
     if count == 0 {
         return 0;

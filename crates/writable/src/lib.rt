@@ -1,11 +1,11 @@
 // Whether a diff can be written as an edit file, its sums and the length of its items' lines: what is lent is checked in passes over the
 // items and the text.
 ghost use Rattle.std.specs.Prelude.{◌≡◌, false, ℕ, ◌+◌, ◌*◌, ◌/◌, ◌≤◌, length};
-ghost use Rattle.edit_format.specs.Written.{itemLine, itemLines};
+ghost use Rattle.edit_format.specs.Written.{item_line, item_lines};
 ghost use Rattle.diff.specs.Items.{item_at};
 ghost use Rattle.written_lines.specs.Lengths.{cap, further};
-ghost use Rattle.writable.specs.Writable.{fileItem, fileOf, shapes, writable};
-ghost use Rattle.writable.specs.Passes.{tally_of, shaped, checkedBy, Sound};
+ghost use Rattle.writable.specs.Writable.{file_item, file_of, shapes, writable};
+ghost use Rattle.writable.specs.Passes.{tally_of, shaped, checked_by, Sound};
 ghost use Rattle.writable.specs.declared.Sums.{Sums};
 ghost use Rattle.writable.specs.declared.Looked.TheVariants.{Sure};
 
@@ -41,7 +41,7 @@ pub enum Checked {
 
 // Refusal 3 by the items: the sums stop at the first step that passes a size.
 fn sum_items(items: &[i64], text: &[u32]) -> Tally
-    ensures { result ≡ tally_of (fileOf items.now text.now) }
+    ensures { result ≡ tally_of (file_of items.now text.now) }
 {
     let lent = text.len();
     let count = items.len() / 3;
@@ -84,7 +84,7 @@ fn sum_items(items: &[i64], text: &[u32]) -> Tally
 
 // Refusal 1: the first item that no line can say.
 fn first_bad(items: &[i64], text: &[u32]) -> Bad
-    ensures { shaped result ≡ shapes false 0 (fileOf items.now text.now) }
+    ensures { shaped result ≡ shapes false 0 (file_of items.now text.now) }
 {
     let lent = text.len();
     let count = items.len() / 3;
@@ -127,7 +127,7 @@ fn first_bad(items: &[i64], text: &[u32]) -> Bad
 
 fn item_length(items: &[i64], text: &[u32], i: usize) -> usize
     requires { i * 3 + 3 ≤ length items.now }
-    ensures { result ≡ cap (length (itemLine (fileItem text.now (item_at items.now (length text.now) i)))) }
+    ensures { result ≡ cap (length (item_line (file_item text.now (item_at items.now (length text.now) i)))) }
 {
     let lent = text.len();
     match diff::diff::item_at(items, lent, i) {
@@ -142,7 +142,7 @@ fn item_length(items: &[i64], text: &[u32], i: usize) -> usize
 }
 
 fn items_length(items: &[i64], text: &[u32]) -> usize
-    ensures { result ≡ cap (length (itemLines (fileOf items.now text.now))) }
+    ensures { result ≡ cap (length (item_lines (file_of items.now text.now))) }
 {
     let count = items.len() / 3;
     let mut sum: usize = 0;
@@ -168,7 +168,7 @@ fn parted_length(text: &[u32]) -> usize
 // One pass for all that most diffs need. Their texts follow one another over all that is lent, so that it is measured at once.
 fn look(items: &[i64], text: &[u32]) -> Looked
     requires { (length items.now / 3 ≤ 8192) × (length text.now ≤ 131070) }
-    ensures { (s : Sums) (n : ℕ) → result ≡ Sure s n → Sound (fileOf items.now text.now) s n }
+    ensures { (s : Sums) (n : ℕ) → result ≡ Sure s n → Sound (file_of items.now text.now) s n }
 {
     let lent = text.len();
     let count = items.len() / 3;
@@ -239,7 +239,7 @@ fn look(items: &[i64], text: &[u32]) -> Looked
 // Refusals 3, 4 and 1 of few items and a short text, each by a pass of its own.
 fn inspect(items: &[i64], text: &[u32]) -> Checked
     requires { (length items.now / 3 ≤ 8192) × (length text.now ≤ 131070) }
-    ensures { result ≡ checkedBy (writable (fileOf items.now text.now) text.now) (fileOf items.now text.now) }
+    ensures { result ≡ checked_by (writable (file_of items.now text.now) text.now) (file_of items.now text.now) }
 {
     match sum_items(items, text) {
         Tally::TooBig => Checked::Refused(Refusal::Size),
@@ -258,7 +258,7 @@ fn inspect(items: &[i64], text: &[u32]) -> Checked
 
 // Refusals 3, 4 and 1.
 pub fn check(items: &[i64], text: &[u32]) -> Checked
-    ensures { result ≡ checkedBy (writable (fileOf items.now text.now) text.now) (fileOf items.now text.now) }
+    ensures { result ≡ checked_by (writable (file_of items.now text.now) text.now) (file_of items.now text.now) }
 {
     if 8192 < items.len() / 3 {
         return Checked::Refused(Refusal::Size);

@@ -9,34 +9,34 @@ use lib.ListN.{length, get_or, drop, length-append, drop_of_length-le}
 use lib.Seq.{drop-cons}
 use Rattle.edit_format.specs.Digits.{digits}
 use Rattle.edit_format.specs.Items.{Add}
-use Rattle.edit_format.specs.Written.{points, numberLine, addKey, itemLine}
+use Rattle.edit_format.specs.Written.{points, number_line, add_key, item_line}
 use Rattle.written_lines.specs.Lengths.{cap, further}
 
-pub line-length : (k : List ℕ) (n : ℕ) → length (numberLine k n) ≡ length k + length (digits 10 n) + 1
-unfolding numberLine
-line-length k n = length-append (k ++ digits 10 n) (10 ∷ []) ∙ ap (λ (x : ℕ). x + 1) (length-append k (digits 10 n))
+pub line_length : (k : List ℕ) (n : ℕ) → length (number_line k n) ≡ length k + length (digits 10 n) + 1
+unfolding number_line
+line_length k n = length-append (k ++ digits 10 n) (10 ∷ []) ∙ ap (λ (x : ℕ). x + 1) (length-append k (digits 10 n))
 
-pub add-length : (cs : List ℕ) → length (itemLine (Add cs)) ≡ 5 + length (points cs)
-unfolding itemLine
-add-length cs = length-append (addKey ++ points cs) (10 ∷ []) ∙ omega (arith, length-append addKey (points cs))
+pub add_length : (cs : List ℕ) → length (item_line (Add cs)) ≡ 5 + length (points cs)
+unfolding item_line
+add_length cs = length-append (add_key ++ points cs) (10 ∷ []) ∙ omega (arith, length-append add_key (points cs))
 
 -- the points of a line: the first, and those further on
-pub points-further : (c : ℕ) (cs : List ℕ) → points (c ∷ cs) ≡ digits 16 c ++ further cs
+pub points_further : (c : ℕ) (cs : List ℕ) → points (c ∷ cs) ≡ digits 16 c ++ further cs
 unfolding points further
-points-further c [] = sym (append-nil (digits 16 c))
-points-further c (d ∷ cs) = ap (λ (l : List ℕ). digits 16 c ++ 32 ∷ l) (points-further d cs)
+points_further c [] = sym (append-nil (digits 16 c))
+points_further c (d ∷ cs) = ap (λ (l : List ℕ). digits 16 c ++ 32 ∷ l) (points_further d cs)
 
-pub first-point : (t : List ℕ) → 0 < length t → points t ≡ digits 16 (get_or t 0 0) ++ further (drop 1 t)
-first-point [] h = absurd (omega arith)
-first-point (c ∷ cs) h = points-further c cs
+pub first_point : (t : List ℕ) → 0 < length t → points t ≡ digits 16 (get_or t 0 0) ++ further (drop 1 t)
+first_point [] h = absurd (omega arith)
+first_point (c ∷ cs) h = points_further c cs
 
-pub next-point : (t : List ℕ) (i : ℕ) → i < length t → further (drop i t) ≡ 32 ∷ digits 16 (get_or t i 0) ++ further (drop (i + 1) t)
+pub next_point : (t : List ℕ) (i : ℕ) → i < length t → further (drop i t) ≡ 32 ∷ digits 16 (get_or t i 0) ++ further (drop (i + 1) t)
 unfolding further
-next-point t i h = rw (add-one i, drop-cons t i 0 h)
+next_point t i h = rw (add-one i, drop-cons t i 0 h)
 
-pub no-point : (t : List ℕ) (i : ℕ) → length t ≤ i → further (drop i t) ≡ []
+pub no_point : (t : List ℕ) (i : ℕ) → length t ≤ i → further (drop i t) ≡ []
 unfolding further
-no-point t i h = rw (drop_of_length-le t h)
+no_point t i h = rw (drop_of_length-le t h)
 
 pub points_none : (t : List ℕ) → length t ≡ 0 → 0 ≡ cap (length (points t))
 unfolding points

@@ -9,16 +9,16 @@ use native.Mathlib.Decide.{dec_lt}
 use lib.ListN.{length, get_or, take, drop, length-append, take-append-drop}
 use lib.Seq.{take-suc, take_all, drop-drop}
 use Rattle.numbers.specs.Steps.{step}
-use Rattle.numbers.proofs.Steps.{step-yes, step-no}
+use Rattle.numbers.proofs.Steps.{step_yes, step_no}
 use Rattle.edit_format.specs.Digits.{digits}
 use Rattle.edit_format.specs.Written.{points}
 use Rattle.written_lines.specs.Lengths.{cap, further, hexes}
-use Rattle.written_lines.proofs.Numbers.{one-digit, one_less}
-use Rattle.written_lines.proofs.Counting.{first-point}
+use Rattle.written_lines.proofs.Numbers.{one_digit, one_less}
+use Rattle.written_lines.proofs.Counting.{first_point}
 
 -- how many digits a number has, by its size
 digits_2 : (n : ℕ) → 16 ≤ n → n < 256 → length (digits 16 n) ≡ 2
-digits_2 n g h = omega (arith, one_less 16 n (omega arith) (omega arith), one-digit 16 (n / 16) (omega arith))
+digits_2 n g h = omega (arith, one_less 16 n (omega arith) (omega arith), one_digit 16 (n / 16) (omega arith))
 
 digits_3 : (n : ℕ) → 256 ≤ n → n < 4096 → length (digits 16 n) ≡ 3
 digits_3 n g h = omega (arith, one_less 16 n (omega arith) (omega arith), digits_2 (n / 16) (omega arith) (omega arith))
@@ -39,22 +39,22 @@ digits_8 : (n : ℕ) → 268435456 ≤ n → n < 4294967296 → length (digits 1
 digits_8 n g h = omega (arith, one_less 16 n (omega arith) (omega arith), digits_7 (n / 16) (omega arith) (omega arith))
 
 -- a digit more at each power of 16
-pub hex-steps : (n : ℕ) → n < 4294967296 → 1 + step n 16 + step n 256 + step n 4096 + step n 65536 + step n 1048576 + step n 16777216 + step n 268435456 ≡ length (digits 16 n)
-hex-steps n h = elim (dec_lt n 16) [
-  | yes a1 ↦ omega (arith, one-digit 16 n (omega arith), step-no n 16 (omega arith), step-no n 256 (omega arith), step-no n 4096 (omega arith), step-no n 65536 (omega arith), step-no n 1048576 (omega arith), step-no n 16777216 (omega arith), step-no n 268435456 (omega arith))
+pub hex_steps : (n : ℕ) → n < 4294967296 → 1 + step n 16 + step n 256 + step n 4096 + step n 65536 + step n 1048576 + step n 16777216 + step n 268435456 ≡ length (digits 16 n)
+hex_steps n h = elim (dec_lt n 16) [
+  | yes a1 ↦ omega (arith, one_digit 16 n (omega arith), step_no n 16 (omega arith), step_no n 256 (omega arith), step_no n 4096 (omega arith), step_no n 65536 (omega arith), step_no n 1048576 (omega arith), step_no n 16777216 (omega arith), step_no n 268435456 (omega arith))
   | no a1 ↦ elim (dec_lt n 256) [
-    | yes a2 ↦ omega (arith, digits_2 n (omega arith) (omega arith), step-yes n 16 (omega arith), step-no n 256 (omega arith), step-no n 4096 (omega arith), step-no n 65536 (omega arith), step-no n 1048576 (omega arith), step-no n 16777216 (omega arith), step-no n 268435456 (omega arith))
+    | yes a2 ↦ omega (arith, digits_2 n (omega arith) (omega arith), step_yes n 16 (omega arith), step_no n 256 (omega arith), step_no n 4096 (omega arith), step_no n 65536 (omega arith), step_no n 1048576 (omega arith), step_no n 16777216 (omega arith), step_no n 268435456 (omega arith))
     | no a2 ↦ elim (dec_lt n 4096) [
-      | yes a3 ↦ omega (arith, digits_3 n (omega arith) (omega arith), step-yes n 16 (omega arith), step-yes n 256 (omega arith), step-no n 4096 (omega arith), step-no n 65536 (omega arith), step-no n 1048576 (omega arith), step-no n 16777216 (omega arith), step-no n 268435456 (omega arith))
+      | yes a3 ↦ omega (arith, digits_3 n (omega arith) (omega arith), step_yes n 16 (omega arith), step_yes n 256 (omega arith), step_no n 4096 (omega arith), step_no n 65536 (omega arith), step_no n 1048576 (omega arith), step_no n 16777216 (omega arith), step_no n 268435456 (omega arith))
       | no a3 ↦ elim (dec_lt n 65536) [
-        | yes a4 ↦ omega (arith, digits_4 n (omega arith) (omega arith), step-yes n 16 (omega arith), step-yes n 256 (omega arith), step-yes n 4096 (omega arith), step-no n 65536 (omega arith), step-no n 1048576 (omega arith), step-no n 16777216 (omega arith), step-no n 268435456 (omega arith))
+        | yes a4 ↦ omega (arith, digits_4 n (omega arith) (omega arith), step_yes n 16 (omega arith), step_yes n 256 (omega arith), step_yes n 4096 (omega arith), step_no n 65536 (omega arith), step_no n 1048576 (omega arith), step_no n 16777216 (omega arith), step_no n 268435456 (omega arith))
         | no a4 ↦ elim (dec_lt n 1048576) [
-          | yes a5 ↦ omega (arith, digits_5 n (omega arith) (omega arith), step-yes n 16 (omega arith), step-yes n 256 (omega arith), step-yes n 4096 (omega arith), step-yes n 65536 (omega arith), step-no n 1048576 (omega arith), step-no n 16777216 (omega arith), step-no n 268435456 (omega arith))
+          | yes a5 ↦ omega (arith, digits_5 n (omega arith) (omega arith), step_yes n 16 (omega arith), step_yes n 256 (omega arith), step_yes n 4096 (omega arith), step_yes n 65536 (omega arith), step_no n 1048576 (omega arith), step_no n 16777216 (omega arith), step_no n 268435456 (omega arith))
           | no a5 ↦ elim (dec_lt n 16777216) [
-            | yes a6 ↦ omega (arith, digits_6 n (omega arith) (omega arith), step-yes n 16 (omega arith), step-yes n 256 (omega arith), step-yes n 4096 (omega arith), step-yes n 65536 (omega arith), step-yes n 1048576 (omega arith), step-no n 16777216 (omega arith), step-no n 268435456 (omega arith))
+            | yes a6 ↦ omega (arith, digits_6 n (omega arith) (omega arith), step_yes n 16 (omega arith), step_yes n 256 (omega arith), step_yes n 4096 (omega arith), step_yes n 65536 (omega arith), step_yes n 1048576 (omega arith), step_no n 16777216 (omega arith), step_no n 268435456 (omega arith))
             | no a6 ↦ elim (dec_lt n 268435456) [
-              | yes a7 ↦ omega (arith, digits_7 n (omega arith) (omega arith), step-yes n 16 (omega arith), step-yes n 256 (omega arith), step-yes n 4096 (omega arith), step-yes n 65536 (omega arith), step-yes n 1048576 (omega arith), step-yes n 16777216 (omega arith), step-no n 268435456 (omega arith))
-              | no a7 ↦ omega (arith, digits_8 n (omega arith) (omega arith), step-yes n 16 (omega arith), step-yes n 256 (omega arith), step-yes n 4096 (omega arith), step-yes n 65536 (omega arith), step-yes n 1048576 (omega arith), step-yes n 16777216 (omega arith), step-yes n 268435456 (omega arith))
+              | yes a7 ↦ omega (arith, digits_7 n (omega arith) (omega arith), step_yes n 16 (omega arith), step_yes n 256 (omega arith), step_yes n 4096 (omega arith), step_yes n 65536 (omega arith), step_yes n 1048576 (omega arith), step_yes n 16777216 (omega arith), step_no n 268435456 (omega arith))
+              | no a7 ↦ omega (arith, digits_8 n (omega arith) (omega arith), step_yes n 16 (omega arith), step_yes n 256 (omega arith), step_yes n 4096 (omega arith), step_yes n 65536 (omega arith), step_yes n 1048576 (omega arith), step_yes n 16777216 (omega arith), step_yes n 268435456 (omega arith))
             ]
           ]
         ]
@@ -63,63 +63,63 @@ hex-steps n h = elim (dec_lt n 16) [
   ]
 ]
 
-pub no-hexes : 0 ≡ hexes []
+pub no_hexes : 0 ≡ hexes []
 unfolding hexes
-no-hexes = refl
+no_hexes = refl
 
-hexes-one : (c : ℕ) → hexes (c ∷ []) ≡ length (digits 16 c)
+hexes_one : (c : ℕ) → hexes (c ∷ []) ≡ length (digits 16 c)
 unfolding hexes
-hexes-one c = omega arith
+hexes_one c = omega arith
 
-hexes-both : (s t : List ℕ) → hexes (s ++ t) ≡ hexes s + hexes t
+hexes_both : (s t : List ℕ) → hexes (s ++ t) ≡ hexes s + hexes t
 unfolding hexes
-hexes-both [] t = omega arith
-hexes-both (c ∷ s) t = omega (arith, hexes-both s t)
+hexes_both [] t = omega arith
+hexes_both (c ∷ s) t = omega (arith, hexes_both s t)
 
-pub hexes-more : (s : List ℕ) (k n m : ℕ) → k < length s → n ≡ hexes (take k s) → m ≡ length (digits 16 (get_or s k 0)) → n + m ≡ hexes (take (k + 1) s)
-hexes-more s k n m h e g =
+pub hexes_more : (s : List ℕ) (k n m : ℕ) → k < length s → n ≡ hexes (take k s) → m ≡ length (digits 16 (get_or s k 0)) → n + m ≡ hexes (take (k + 1) s)
+hexes_more s k n m h e g =
     let t : take (k + 1) s ≡ take k s ++ (get_or s k 0 ∷ []) = rw (add-one k, take-suc s k 0 h) in
-    omega (arith, ap (λ (r : List ℕ). hexes r) t, hexes-both (take k s) (get_or s k 0 ∷ []), hexes-one (get_or s k 0))
+    omega (arith, ap (λ (r : List ℕ). hexes r) t, hexes_both (take k s) (get_or s k 0 ∷ []), hexes_one (get_or s k 0))
 
-pub hexes-all : (s : List ℕ) (k n : ℕ) → length s ≤ k → n ≡ hexes (take k s) → n ≡ hexes s
-hexes-all s k n h e = e ∙ ap (λ (r : List ℕ). hexes r) (take_all k s h)
+pub hexes_all : (s : List ℕ) (k n : ℕ) → length s ≤ k → n ≡ hexes (take k s) → n ≡ hexes s
+hexes_all s k n h e = e ∙ ap (λ (r : List ℕ). hexes r) (take_all k s h)
 
-further-length : (cs : List ℕ) → length (further cs) ≡ length cs + hexes cs
+further_length : (cs : List ℕ) → length (further cs) ≡ length cs + hexes cs
 unfolding further hexes
-further-length [] = refl
-further-length (c ∷ cs) = omega (arith, length-append (digits 16 c) (further cs), further-length cs)
+further_length [] = refl
+further_length (c ∷ cs) = omega (arith, length-append (digits 16 c) (further cs), further_length cs)
 
 -- the digits and a space between each two
-pub points-length : (t : List ℕ) → 0 < length t → length (points t) + 1 ≡ length t + hexes t
-points-length [] h = absurd (omega arith)
-points-length (c ∷ cs) h = omega (arith, ap length (first-point (c ∷ cs) h), length-append (digits 16 c) (further cs), further-length cs, hexes-both (c ∷ []) cs, hexes-one c)
+pub points_length : (t : List ℕ) → 0 < length t → length (points t) + 1 ≡ length t + hexes t
+points_length [] h = absurd (omega arith)
+points_length (c ∷ cs) h = omega (arith, ap length (first_point (c ∷ cs) h), length-append (digits 16 c) (further cs), further_length cs, hexes_both (c ∷ []) cs, hexes_one c)
 
 pub record Measured (t : List ℕ) (sum at : ℕ) : Type 0 where
   pub most : at ≤ length t
   pub small : sum ≤ 1099511627776
   pub same : cap (sum + hexes (drop at t)) ≡ cap (length (points t))
 
-pub measured-begin : (t : List ℕ) {s : ℕ} → (length t ≡ 0 → ⊥) → s ≡ cap (0 + (length t - 1)) → Measured t s 0
-measured-begin t {s} h e = record { most = omega arith; small = omega arith; same = omega (arith, points-length t (positive (length t) h)) }
+pub measured_begin : (t : List ℕ) {s : ℕ} → (length t ≡ 0 → ⊥) → s ≡ cap (0 + (length t - 1)) → Measured t s 0
+measured_begin t {s} h e = record { most = omega arith; small = omega arith; same = omega (arith, points_length t (positive (length t) h)) }
   where
     positive : (n : ℕ) → (n ≡ 0 → ⊥) → 0 < n
     positive n g = elim (dec_lt 0 n) [ yes a ↦ a | no a ↦ absurd (g (omega arith)) ]
 
-pub measured-more : {t : List ℕ} {sum at m s : ℕ} (e : ℕ) → Measured t sum at → at ≤ e → e ≤ length t → m ≡ hexes (take (e - at) (drop at t)) → s ≡ cap (sum + m) → Measured t s e
-measured-more {t} {sum} {at} {m} e c l h q p =
+pub measured_more : {t : List ℕ} {sum at m s : ℕ} (e : ℕ) → Measured t sum at → at ≤ e → e ≤ length t → m ≡ hexes (take (e - at) (drop at t)) → s ≡ cap (sum + m) → Measured t s e
+measured_more {t} {sum} {at} {m} e c l h q p =
     let k : ℕ = e - at in
     let z : at + k ≡ e = omega arith in
     let r : hexes (drop at t) ≡ m + hexes (drop e t) = omega (
       arith,
       ap (λ (x : List ℕ). hexes x) (take-append-drop k (drop at t)),
-      hexes-both (take k (drop at t)) (drop k (drop at t)),
+      hexes_both (take k (drop at t)) (drop k (drop at t)),
       ap (λ (x : List ℕ). hexes x) (drop-drop k at t),
       ap (λ (i : ℕ). hexes (drop i t)) z,
     ) in
     record { most = h; small = omega arith; same = omega (arith, c.small, c.same) }
 
-pub measured-end : {t : List ℕ} {sum : ℕ} → Measured t sum (length t) → sum ≡ cap (length (points t))
-measured-end {t} {sum} c = omega (arith, c.small, c.same, ap (λ (x : List ℕ). hexes x) (drop_all t), no-hexes)
+pub measured_end : {t : List ℕ} {sum : ℕ} → Measured t sum (length t) → sum ≡ cap (length (points t))
+measured_end {t} {sum} c = omega (arith, c.small, c.same, ap (λ (x : List ℕ). hexes x) (drop_all t), no_hexes)
   where
     drop_all : (t : List ℕ) → drop (length t) t ≡ []
     drop_all [] = refl

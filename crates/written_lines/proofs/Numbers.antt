@@ -10,59 +10,59 @@ use lib.Seq.{take-suc, set_at, length-take-le}
 use lib.Dec.{ltb}
 use borrow.Author.Tests.{lt-ltb, le-ltb}
 use Rattle.room.specs.Placed.{placed, Put}
-use Rattle.edit_format.specs.Digits.{digit, digits, digitsIn}
-use Rattle.room.proofs.Choices.{pick-elim}
-use Rattle.edit_format.proofs.DigitLaws.{digits-one, digits_last}
-use Rattle.room.proofs.Placing.{placed-none}
+use Rattle.edit_format.specs.Digits.{digit, digits, digits_in}
+use Rattle.room.proofs.Choices.{pick_elim}
+use Rattle.edit_format.proofs.DigitLaws.{digits_one, digits_last}
+use Rattle.room.proofs.Placing.{placed_none}
 
-length-in : (f m n : ℕ) → length (digitsIn f m n) ≤ f + 1
-unfolding digitsIn
-length-in zero m n = omega arith
-length-in (suc f) m n = pick-elim (λ (l : List ℕ). length l ≤ suc f + 1) (ltb n m) (λ e. omega arith) (λ e. omega (arith, length-append (digitsIn f m (n / m)) (digit (n % m) ∷ []), length-in f m (n / m)))
+length_in : (f m n : ℕ) → length (digits_in f m n) ≤ f + 1
+unfolding digits_in
+length_in zero m n = omega arith
+length_in (suc f) m n = pick_elim (λ (l : List ℕ). length l ≤ suc f + 1) (ltb n m) (λ e. omega arith) (λ e. omega (arith, length-append (digits_in f m (n / m)) (digit (n % m) ∷ []), length_in f m (n / m)))
 
 -- a number has no more digits than one more than itself
-pub few-digits : (m n : ℕ) → length (digits m n) ≤ n + 1
+pub few_digits : (m n : ℕ) → length (digits m n) ≤ n + 1
 unfolding digits
-few-digits m n = length-in n m n
+few_digits m n = length_in n m n
 
-pub one-digit : (m n : ℕ) → n < m → length (digits m n) ≡ 1
-one-digit m n h = rw (digits-one m n h)
+pub one_digit : (m n : ℕ) → n < m → length (digits m n) ≡ 1
+one_digit m n h = rw (digits_one m n h)
 
 pub one_less : (m n : ℕ) → 1 < m → m ≤ n → length (digits m n) ≡ length (digits m (n / m)) + 1
 one_less m n h g = ap length (digits_last m n h g) ∙ length-append (digits m (n / m)) (digit (n % m) ∷ [])
 
 -- how many decimal digits a number has, by its size
-pub tens-2 : (n : ℕ) → 10 ≤ n → n < 100 → 2 ≡ length (digits 10 n)
-tens-2 n g h = omega (arith, one_less 10 n (omega arith) g, one-digit 10 (n / 10) (omega arith))
+pub tens_2 : (n : ℕ) → 10 ≤ n → n < 100 → 2 ≡ length (digits 10 n)
+tens_2 n g h = omega (arith, one_less 10 n (omega arith) g, one_digit 10 (n / 10) (omega arith))
 
-pub tens-3 : (n : ℕ) → 100 ≤ n → n < 1000 → 3 ≡ length (digits 10 n)
-tens-3 n g h = omega (arith, one_less 10 n (omega arith) (omega arith), tens-2 (n / 10) (omega arith) (omega arith))
+pub tens_3 : (n : ℕ) → 100 ≤ n → n < 1000 → 3 ≡ length (digits 10 n)
+tens_3 n g h = omega (arith, one_less 10 n (omega arith) (omega arith), tens_2 (n / 10) (omega arith) (omega arith))
 
-pub tens-4 : (n : ℕ) → 1000 ≤ n → n < 10000 → 4 ≡ length (digits 10 n)
-tens-4 n g h = omega (arith, one_less 10 n (omega arith) (omega arith), tens-3 (n / 10) (omega arith) (omega arith))
+pub tens_4 : (n : ℕ) → 1000 ≤ n → n < 10000 → 4 ≡ length (digits 10 n)
+tens_4 n g h = omega (arith, one_less 10 n (omega arith) (omega arith), tens_3 (n / 10) (omega arith) (omega arith))
 
-pub tens-5 : (n : ℕ) → 10000 ≤ n → n < 100000 → 5 ≡ length (digits 10 n)
-tens-5 n g h = omega (arith, one_less 10 n (omega arith) (omega arith), tens-4 (n / 10) (omega arith) (omega arith))
+pub tens_5 : (n : ℕ) → 10000 ≤ n → n < 100000 → 5 ≡ length (digits 10 n)
+tens_5 n g h = omega (arith, one_less 10 n (omega arith) (omega arith), tens_4 (n / 10) (omega arith) (omega arith))
 
 -- the bytes of digits as sums
 pub decimal_digit : (d : ℕ) → d < 10 → d + 48 ≡ digit d
 unfolding digit
 decimal_digit d h = rw (lt-ltb d 10 h)
 
-pub hex-digit : (d : ℕ) → d < 16 → d + 48 + (d + 6) / 16 * 39 ≡ digit d
+pub hex_digit : (d : ℕ) → d < 16 → d + 48 + (d + 6) / 16 * 39 ≡ digit d
 unfolding digit
-hex-digit d h = elim (dec_lt d 10) [ yes g ↦ rw (lt-ltb d 10 g) (omega arith) | no g ↦ rw (le-ltb d 10 (omega arith)) (omega arith) ]
+hex_digit d h = elim (dec_lt d 10) [ yes g ↦ rw (lt-ltb d 10 g) (omega arith) | no g ↦ rw (le-ltb d 10 (omega arith)) (omega arith) ]
 
-some-digit : (n : ℕ) → 1 ≤ length (digits 10 n)
-some-digit n = elim (dec_lt n 10) [
-  | yes g ↦ omega (arith, one-digit 10 n g)
+some_digit : (n : ℕ) → 1 ≤ length (digits 10 n)
+some_digit n = elim (dec_lt n 10) [
+  | yes g ↦ omega (arith, one_digit 10 n g)
   | no g ↦ omega (arith, one_less 10 n (omega arith) (omega arith))
 ]
 
 -- a store just before a run makes it longer
-store-before : (d tail : List ℕ) (j v : ℕ) → j < length d → set (placed d (suc j) tail) j v ≡ placed d j (v ∷ tail)
+store_before : (d tail : List ℕ) (j v : ℕ) → j < length d → set (placed d (suc j) tail) j v ≡ placed d j (v ∷ tail)
 unfolding placed
-store-before d tail j v h =
+store_before d tail j v h =
     let e : j + suc (length tail) ≡ suc j + length tail = omega arith in
     rw (e, take-suc d j 0 h, append_assoc (take j d) (get_or d j 0 ∷ []) tail, append_assoc (take j d) (get_or d j 0 ∷ tail) (drop (suc j + length tail) d), append_assoc (take j d) (v ∷ tail) (drop (suc j + length tail) d))
     (set_at (take j d) (get_or d j 0) (tail ++ drop (suc j + length tail) d) v j (length-take-le j d (omega arith)))
@@ -75,17 +75,17 @@ pub record Digiting (d : List ℕ) (at n : ℕ) (o : List ℕ) (m k : ℕ) : Typ
   pub same : length o ≡ length d
 
 pub starts : (d : List ℕ) (at n : ℕ) {k : ℕ} → k ≡ at + length (digits 10 n) → Digiting d at n d n k
-starts d at n e = record { tail = []; whole = sym (append-nil (digits 10 n)); place = e; room = sym (placed-none d _); same = refl }
+starts d at n e = record { tail = []; whole = sym (append-nil (digits 10 n)); place = e; room = sym (placed_none d _); same = refl }
 
 module _ {d : List ℕ} {at n : ℕ} {o : List ℕ} {m k : ℕ} (s : Digiting d at n o m k) (fits : at + length (digits 10 n) ≤ length d) where
   pub inside : k + length s.tail ≤ length d
   inside = omega (arith, s.place, simp length-append at (ap length s.whole))
 
   pub before : 0 < k
-  before = omega (arith, s.place, some-digit m)
+  before = omega (arith, s.place, some_digit m)
 
   stored : (v j : ℕ) → k ≡ suc j → set o j v ≡ placed d j (v ∷ s.tail)
-  stored v j e = ap (λ (l : List ℕ). set l j v) (s.room ∙ ap (λ (i : ℕ). placed d i s.tail) e) ∙ store-before d s.tail j v (omega (arith, inside))
+  stored v j e = ap (λ (l : List ℕ). set l j v) (s.room ∙ ap (λ (i : ℕ). placed d i s.tail) e) ∙ store_before d s.tail j v (omega (arith, inside))
 
   pub goes_on : 10 ≤ m → Digiting d at n (set o (k - 1) (digit (m % 10))) (m / 10) (k - 1)
   goes_on g =
@@ -100,6 +100,6 @@ module _ {d : List ℕ} {at n : ℕ} {o : List ℕ} {m k : ℕ} (s : Digiting d 
 
   pub ends : {e : ℕ} → m < 10 → e ≡ at + length (digits 10 n) → Put (digits 10 n) d at (set o (k - 1) (digit m)) e
   ends {e} g f =
-      let j : k - 1 ≡ at = omega (arith, s.place, one-digit 10 m g) in
-      let x : k ≡ suc at = omega (arith, s.place, one-digit 10 m g) in
-      record { next = f; stands = rw j (stored (digit m) at x ∙ ap (λ (l : List ℕ). placed d at l) (sym (s.whole ∙ ap (λ (l : List ℕ). l ++ s.tail) (digits-one 10 m g)))) }
+      let j : k - 1 ≡ at = omega (arith, s.place, one_digit 10 m g) in
+      let x : k ≡ suc at = omega (arith, s.place, one_digit 10 m g) in
+      record { next = f; stands = rw j (stored (digit m) at x ∙ ap (λ (l : List ℕ). placed d at l) (sym (s.whole ∙ ap (λ (l : List ℕ). l ++ s.tail) (digits_one 10 m g)))) }

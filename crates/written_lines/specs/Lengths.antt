@@ -12,8 +12,8 @@ further [] = []
 further (c ∷ cs) = 32 ∷ digits 16 c ++ further cs
 
 -- the last two hexadecimal digits of a number
-unfoldable pub lastTwo : ℕ → List ℕ
-lastTwo c = digit (c / 16 % 16) ∷ digit (c % 16) ∷ []
+unfoldable pub last_two : ℕ → List ℕ
+last_two c = digit (c / 16 % 16) ∷ digit (c % 16) ∷ []
 
 -- how many hexadecimal digits numbers have together
 unfoldable pub hexes : List ℕ → ℕ

@@ -3,8 +3,8 @@ ghost use Rattle.std.specs.Prelude.{◌≡◌, ◌+◌, ◌≤◌, ◌<◌, leng
 ghost use Rattle.room.specs.Placed.{Put};
 ghost use Rattle.edit_format.specs.Digits.{digit, digits};
 ghost use Rattle.edit_format.specs.Items.{Add};
-ghost use Rattle.edit_format.specs.Written.{points, numberLine, itemLine};
-ghost use Rattle.written_lines.specs.Lengths.{cap, further, lastTwo, hexes};
+ghost use Rattle.edit_format.specs.Written.{points, number_line, item_line};
+ghost use Rattle.written_lines.specs.Lengths.{cap, further, last_two, hexes};
 
 // How many decimal digits a number has: most have few, and are measured without a division.
 fn width(n: u64) -> usize
@@ -70,7 +70,7 @@ fn hex_byte(d: u32) -> u8
 // The last two hexadecimal digits of a number at a place.
 fn put_pair(out: &mut [u8], at: usize, c: u32) -> usize
     requires { at + 2 ≤ length out.old }
-    ensures { Put (lastTwo c) out.old at out.new result }
+    ensures { Put (last_two c) out.old at out.new result }
 {
     out[at] = hex_byte(c / 16 % 16);
     out[at + 1] = hex_byte(c % 16);
@@ -178,8 +178,8 @@ pub fn points_length(text: &[u32]) -> usize
 
 // A key, a decimal and LF at a place.
 pub fn put_line(out: &mut [u8], at: usize, key: &[u8], n: u64) -> usize
-    requires { at + length (numberLine key.now n) ≤ length out.old }
-    ensures { Put (numberLine key.now n) out.old at out.new result }
+    requires { at + length (number_line key.now n) ≤ length out.old }
+    ensures { Put (number_line key.now n) out.old at out.new result }
 {
     let a = room::put_u8(key, out, at);
     let b = put_decimal(out, a, n);
@@ -217,8 +217,8 @@ fn put_points(out: &mut [u8], at: usize, text: &[u32]) -> usize
 
 // An add line at a place.
 pub fn put_add(out: &mut [u8], at: usize, text: &[u32]) -> usize
-    requires { at + length (itemLine (Add text.now)) ≤ length out.old }
-    ensures { Put (itemLine (Add text.now)) out.old at out.new result }
+    requires { at + length (item_line (Add text.now)) ≤ length out.old }
+    ensures { Put (item_line (Add text.now)) out.old at out.new result }
 {
     let a = room::put_u8(b"add=", out, at);
     let b = put_points(out, a, text);

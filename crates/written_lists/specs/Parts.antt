@@ -4,17 +4,17 @@ use Rattle.std.specs.Prelude.{ℕ, ◌+◌, ◌*◌, ◌≤◌, ◌≡◌, List,
 use Rattle.room.specs.Choice.{pick}
 use Rattle.room.specs.Placed.{placed, answered}
 use Rattle.records.specs.declared.Operation.{Operation}
-use Rattle.records.specs.Tokens.{tokensLent, tokensFrom}
+use Rattle.records.specs.Tokens.{tokens_lent, tokens_from}
 use Rattle.shapes.specs.Accepted.{AllIn}
 use Rattle.merging.specs.declared.Op.{Op}
 use Rattle.merging.specs.declared.Op.TheVariants.{Delete, Insert, Retain}
 use Rattle.merging.specs.Lent.{Lent}
 use Rattle.merging.specs.Operations.{op_of}
-use Rattle.merging.specs.Outputs.{words_of, Span, spanned, historyText, flatSpans}
+use Rattle.merging.specs.Outputs.{words_of, Span, spanned, history_text, flat_spans}
 
 -- "retained original and insert tokens' spelling"; of a delete the original text that it drops
-unfoldable pub wordsBy : Lent → Operation → List ℕ
-wordsBy lent o = words_of lent (op_of 0 o)
+unfoldable pub words_by : Lent → Operation → List ℕ
+words_by lent o = words_of lent (op_of 0 o)
 
 -- "A list's text: retained original and insert tokens' spelling": what an operation gives to it
 abbrev pub given : Lent → Op → List ℕ
@@ -23,36 +23,36 @@ given lent (Insert o f n) = words_of lent (Insert o f n)
 given lent (Retain o l) = words_of lent (Retain o l)
 
 -- the same, of its record
-unfoldable pub givenBy : Lent → Operation → List ℕ
-givenBy lent o = given lent (op_of 0 o)
+unfoldable pub given_by : Lent → Operation → List ℕ
+given_by lent o = given lent (op_of 0 o)
 
 -- "A list's text: [..] in list order."
-unfoldable pub textBy : Lent → List Operation → List ℕ
-textBy lent [] = []
-textBy lent (o ∷ os) = givenBy lent o ++ textBy lent os
+unfoldable pub text_by : Lent → List Operation → List ℕ
+text_by lent [] = []
+text_by lent (o ∷ os) = given_by lent o ++ text_by lent os
 
 -- "History has one span for each operation"
-unfoldable pub spanBy : Lent → Operation → Span
-spanBy lent o = spanned lent o.side (op_of 0 o)
+unfoldable pub span_by : Lent → Operation → Span
+span_by lent o = spanned lent o.side (op_of 0 o)
 
 -- "History has one span for each operation, in order."
-unfoldable pub historyBy : Lent → List Operation → List Span
-historyBy lent [] = []
-historyBy lent (o ∷ os) = spanBy lent o ∷ historyBy lent os
+unfoldable pub history_by : Lent → List Operation → List Span
+history_by lent [] = []
+history_by lent (o ∷ os) = span_by lent o ∷ history_by lent os
 
 -- the side of what is unchanged means nothing and is 0
 abbrev pub side_of : Operation → ℕ
 side_of o = pick (eqb o.kind 2) 0 o.side
 
 -- "removed": what an operation deletes
-abbrev pub removedBy : Operation → ℕ
-removedBy o = pick (eqb o.kind 0) o.length 0
+abbrev pub removed_by : Operation → ℕ
+removed_by o = pick (eqb o.kind 0) o.length 0
 
 -- "unknown kind", "token or range outside what was lent", "passes the end": an operation is not so
 pub record Lies (lent : Lent) (o : Operation) : Type 0 where
   pub known : o.kind ≤ 2
-  pub lends : o.kind ≡ 1 → o.first + o.count ≤ tokensLent lent.spans lent.keys
-  pub tokens : o.kind ≡ 1 → AllIn (length lent.inserted) (tokensFrom lent.spans lent.keys o.first o.count)
+  pub lends : o.kind ≡ 1 → o.first + o.count ≤ tokens_lent lent.spans lent.keys
+  pub tokens : o.kind ≡ 1 → AllIn (length lent.inserted) (tokens_from lent.spans lent.keys o.first o.count)
   pub inside : (o.kind ≡ 1 → ⊥) → o.order + o.length ≤ length lent.original
 
 -- the same of each operation of a list
@@ -68,5 +68,5 @@ pub record Told (s : Span) (h d : List ℕ) (i at : ℕ) (h' d' : List ℕ) (r :
 
 -- the history of a list was put at the start of its rooms
 pub record Wrote (ss : List Span) (h d h' d' : List ℕ) : Type 0 where
-  pub spans : h' ≡ answered (flatSpans 0 ss) h
-  pub text : d' ≡ answered (historyText ss) d
+  pub spans : h' ≡ answered (flat_spans 0 ss) h
+  pub text : d' ≡ answered (history_text ss) d

@@ -2,13 +2,13 @@
 // four numbers: kind (0 unchanged, 1 added, 2 removed), side, and where its text stands in the text of all spans, start and length.
 ghost use Rattle.std.specs.Prelude.{◌≡◌, ◌&&◌, [], ◌∷◌, ◌+◌, ◌*◌, ◌≤◌, min, leb, length};
 ghost use Rattle.room.specs.Placed.{placed, answered, Put};
-ghost use Rattle.records.specs.Operations.{operationsOf};
-ghost use Rattle.records.specs.Cursors.{cursorsOf, flatCursors};
+ghost use Rattle.records.specs.Operations.{operations_of};
+ghost use Rattle.records.specs.Cursors.{cursors_of, flat_cursors};
 ghost use Rattle.merging.specs.Lent.{lent_of};
 ghost use Rattle.cursors.specs.Sorted.{sorted};
 ghost use Rattle.sizes.specs.Texts.{total};
-ghost use Rattle.merging.specs.Outputs.{historyText};
-ghost use Rattle.written_lists.specs.Parts.{wordsBy, givenBy, textBy, spanBy, historyBy, removedBy, side_of, Lies, AllLie, Told, Wrote};
+ghost use Rattle.merging.specs.Outputs.{history_text};
+ghost use Rattle.written_lists.specs.Parts.{words_by, given_by, text_by, span_by, history_by, removed_by, side_of, Lies, AllLie, Told, Wrote};
 
 // The words of an operation: a range of the original, or what its tokens spell.
 fn put_words(
@@ -20,8 +20,8 @@ fn put_words(
     out: &mut [u32],
     at: usize,
 ) -> usize
-    requires { Lies (lent_of original.now text.now spans.now keys.now) o × (at + length (wordsBy (lent_of original.now text.now spans.now keys.now) o) ≤ length out.old) }
-    ensures { Put (wordsBy (lent_of original.now text.now spans.now keys.now) o) out.old at out.new result }
+    requires { Lies (lent_of original.now text.now spans.now keys.now) o × (at + length (words_by (lent_of original.now text.now spans.now keys.now) o) ≤ length out.old) }
+    ensures { Put (words_by (lent_of original.now text.now spans.now keys.now) o) out.old at out.new result }
 {
     if o.kind == 1 {
         return words::put_tokens(text, spans, keys, o.first, o.count, out, at);
@@ -39,8 +39,8 @@ fn put_text(
     out: &mut [u32],
     at: usize,
 ) -> usize
-    requires { Lies (lent_of original.now text.now spans.now keys.now) o × (at + length (givenBy (lent_of original.now text.now spans.now keys.now) o) ≤ length out.old) }
-    ensures { Put (givenBy (lent_of original.now text.now spans.now keys.now) o) out.old at out.new result }
+    requires { Lies (lent_of original.now text.now spans.now keys.now) o × (at + length (given_by (lent_of original.now text.now spans.now keys.now) o) ≤ length out.old) }
+    ensures { Put (given_by (lent_of original.now text.now spans.now keys.now) o) out.old at out.new result }
 {
     if o.kind == 0 {
         return at;
@@ -83,8 +83,8 @@ fn tell(
     out: &mut [u32],
     at: usize,
 ) -> usize
-    requires { Lies (lent_of original.now text.now spans.now keys.now) o × ((i * 4 + 4 ≤ length history.old) × (at + length (wordsBy (lent_of original.now text.now spans.now keys.now) o) ≤ length out.old)) }
-    ensures { Told (spanBy (lent_of original.now text.now spans.now keys.now) o) history.old out.old i at history.new out.new result }
+    requires { Lies (lent_of original.now text.now spans.now keys.now) o × ((i * 4 + 4 ≤ length history.old) × (at + length (words_by (lent_of original.now text.now spans.now keys.now) o) ≤ length out.old)) }
+    ensures { Told (span_by (lent_of original.now text.now spans.now keys.now) o) history.old out.old i at history.new out.new result }
 {
     let next = put_words(original, text, spans, keys, o, out, at);
     let side = side_of(o);
@@ -101,8 +101,8 @@ pub fn write_text(
     operations: &[usize],
     out: &mut [u32],
 )
-    requires { AllLie (lent_of original.now text.now spans.now keys.now) (operationsOf operations.now) × (length (textBy (lent_of original.now text.now spans.now keys.now) (operationsOf operations.now)) ≤ length out.old) }
-    ensures { out.new ≡ answered (textBy (lent_of original.now text.now spans.now keys.now) (operationsOf operations.now)) out.old }
+    requires { AllLie (lent_of original.now text.now spans.now keys.now) (operations_of operations.now) × (length (text_by (lent_of original.now text.now spans.now keys.now) (operations_of operations.now)) ≤ length out.old) }
+    ensures { out.new ≡ answered (text_by (lent_of original.now text.now spans.now keys.now) (operations_of operations.now)) out.old }
 {
     let end = operations.len() / 6;
     let mut i = 0;
@@ -124,8 +124,8 @@ pub fn write_history(
     history: &mut [usize],
     out: &mut [u32],
 )
-    requires { AllLie (lent_of original.now text.now spans.now keys.now) (operationsOf operations.now) × ((length (operationsOf operations.now) * 4 ≤ length history.old) × (length (historyText (historyBy (lent_of original.now text.now spans.now keys.now) (operationsOf operations.now))) ≤ length out.old)) }
-    ensures { Wrote (historyBy (lent_of original.now text.now spans.now keys.now) (operationsOf operations.now)) history.old out.old history.new out.new }
+    requires { AllLie (lent_of original.now text.now spans.now keys.now) (operations_of operations.now) × ((length (operations_of operations.now) * 4 ≤ length history.old) × (length (history_text (history_by (lent_of original.now text.now spans.now keys.now) (operations_of operations.now))) ≤ length out.old)) }
+    ensures { Wrote (history_by (lent_of original.now text.now spans.now keys.now) (operations_of operations.now)) history.old out.old history.new out.new }
 {
     let count = operations.len() / 6;
     let mut i = 0;
@@ -148,8 +148,8 @@ pub fn write_all(
     history: &mut [usize],
     history_text: &mut [u32],
 )
-    requires { AllLie (lent_of original.now text.now spans.now keys.now) (operationsOf operations.now) × ((length (textBy (lent_of original.now text.now spans.now keys.now) (operationsOf operations.now)) ≤ length out.old) × ((length (operationsOf operations.now) * 4 ≤ length history.old) × (length (historyText (historyBy (lent_of original.now text.now spans.now keys.now) (operationsOf operations.now))) ≤ length history_text.old))) }
-    ensures { (out.new ≡ answered (textBy (lent_of original.now text.now spans.now keys.now) (operationsOf operations.now)) out.old) × Wrote (historyBy (lent_of original.now text.now spans.now keys.now) (operationsOf operations.now)) history.old history_text.old history.new history_text.new }
+    requires { AllLie (lent_of original.now text.now spans.now keys.now) (operations_of operations.now) × ((length (text_by (lent_of original.now text.now spans.now keys.now) (operations_of operations.now)) ≤ length out.old) × ((length (operations_of operations.now) * 4 ≤ length history.old) × (length (history_text (history_by (lent_of original.now text.now spans.now keys.now) (operations_of operations.now))) ≤ length history_text.old))) }
+    ensures { (out.new ≡ answered (text_by (lent_of original.now text.now spans.now keys.now) (operations_of operations.now)) out.old) × Wrote (history_by (lent_of original.now text.now spans.now keys.now) (operations_of operations.now)) history.old history_text.old history.new history_text.new }
 {
     let count = operations.len() / 6;
     let mut i = 0;
@@ -176,22 +176,22 @@ pub fn write_all(
 
 // The whole cursors of a slice, sorted, at the front of a room.
 pub fn sort_cursors(cursors: &[usize], moved: &mut [usize])
-    requires { length (cursorsOf cursors.now) * 2 ≤ length moved.old }
-    ensures { moved.new ≡ answered (flatCursors (sorted (cursorsOf cursors.now))) moved.old }
+    requires { length (cursors_of cursors.now) * 2 ≤ length moved.old }
+    ensures { moved.new ≡ answered (flat_cursors (sorted (cursors_of cursors.now))) moved.old }
 {
     let whole = cursors.len() / 2 * 2;
     cursors::sort_into(&cursors[..whole], moved);
 }
 
 fn removed_by(o: records::Operation) -> usize
-    ensures { result ≡ removedBy o }
+    ensures { result ≡ removed_by o }
 {
     if o.kind == 0 { o.length } else { 0 }
 }
 
 // The code points that a list's operations delete, capped.
 pub fn removed(operations: &[usize]) -> usize
-    ensures { result ≡ min 1000000 (total removedBy (operationsOf operations.now)) }
+    ensures { result ≡ min 1000000 (total removed_by (operations_of operations.now)) }
 {
     let count = operations.len() / 6;
     let mut i = 0;

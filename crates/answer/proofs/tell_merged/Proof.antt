@@ -1,7 +1,7 @@
 -- `tell_merged` tells an answer as the definition does.
 -- Each case of the match is the definition's clause for it.
 use mathlib.Core.Path.{◌∙◌, sym, ap}
-use Rattle.answer.specs.Tellings.{tellMerged}
+use Rattle.answer.specs.Tellings.{tell_merged}
 use borrow.Author.Rules.{rules}
 use Rattle.answer.proofs.tell_merged.Statement.{statement}
 use Rattle.answer.proofs.tell_merged.Tie as tie
@@ -19,10 +19,10 @@ tell-refusal-requires : tie.Need-tell-refusal-requires
 tell-refusal-requires c κs = search rules
 
 returns : tie.Need-returns
-returns c = c.tell-counts.ensures ∙ sym (ap tellMerged c.before.before.answer.given.1)
+returns c = c.tell-counts.ensures ∙ sym (ap tell_merged c.before.before.answer.given.1)
 
 returns-2 : tie.Need-returns-2
-returns-2 c = c.tell-refusal.ensures ∙ sym (ap tellMerged c.before.before.answer2.given.1)
+returns-2 c = c.tell-refusal.ensures ∙ sym (ap tell_merged c.before.before.answer2.given.1)
 
 pub tell-merged-spec : {M : Type 1} → statement M
 tell-merged-spec =

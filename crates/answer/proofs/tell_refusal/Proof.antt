@@ -7,12 +7,12 @@ use Rattle.refusal.specs.Numbers.{number, values, padded}
 use Rattle.refusal.specs.declared.Refusal.{Refusal}
 use Rattle.refusal.specs.declared.Values.{Values}
 use Rattle.answer.specs.declared.Answer.{Answer}
-use Rattle.answer.specs.Tellings.{tellRefusal}
+use Rattle.answer.specs.Tellings.{tell_refusal}
 use Rattle.answer.proofs.tell_refusal.Statement.{statement}
 use Rattle.answer.proofs.tell_refusal.Tie as tie
 
 tells : (why : Refusal) {n : ℕ} {v : Values} → n ≡ number why → v ≡ padded (values why)
-    → ◌≡◌ {A = Answer} (record { refusal = n; first = v.first; second = v.second; third = v.third }) (tellRefusal why)
+    → ◌≡◌ {A = Answer} (record { refusal = n; first = v.first; second = v.second; third = v.third }) (tell_refusal why)
 tells why e f = rw (e, f)
 
 number-of-requires : tie.Need-number-of-requires

@@ -1,10 +1,10 @@
 -- `apply` answers and leaves its rooms as the definition says.
 -- Each way is a law of ApplyWays. Assumes nothing.
-use Rattle.apply.proofs.ApplyWays.{apply-stops, apply-no-room, apply-asks, apply-sorts, apply-writes}
+use Rattle.apply.proofs.ApplyWays.{apply_stops, apply_no_room, apply_asks, apply_sorts, apply_writes}
 use borrow.Author.Tests.{not-true, not-false}
 use Rattle.merging.specs.Lent.{lent_of}
-use Rattle.records.specs.Cursors.{cursorsOf}
-use Rattle.records.specs.Operations.{operationsOf}
+use Rattle.records.specs.Cursors.{cursors_of}
+use Rattle.records.specs.Operations.{operations_of}
 use borrow.Author.Rules.{rules}
 use Rattle.apply.proofs.apply.Statement.{statement}
 use Rattle.apply.proofs.apply.Tie as tie
@@ -27,9 +27,9 @@ returns c =
     let c5 = c3.before.before in
     let c14 = c5.before.before.before.before.before.before.before.before.before in
     let L = lent_of c14.args.original.now c14.args.text.now c14.args.spans.now c14.args.keys.now in
-    let os = operationsOf c14.args.operations.now in
-    let cs = cursorsOf c14.args.cursors.now in
-    apply-no-room L os cs c14.args.out.now c14.args.moved.now _ c5.apply-lengths.ensures _ _ c3.written.given.1 _
+    let os = operations_of c14.args.operations.now in
+    let cs = cursors_of c14.args.cursors.now in
+    apply_no_room L os cs c14.args.out.now c14.args.moved.now _ c5.apply-lengths.ensures _ _ c3.written.given.1 _
     c.before.text-fits.ensures (not-true _ c.if1.true)
 
 write-text-requires : tie.Need-write-text-requires
@@ -39,9 +39,9 @@ write-text-requires c κs =
     let c6 = c4.before.before in
     let c15 = c6.before.before.before.before.before.before.before.before.before in
     let L = lent_of c15.args.original.now c15.args.text.now c15.args.spans.now c15.args.keys.now in
-    let os = operationsOf c15.args.operations.now in
-    let cs = cursorsOf c15.args.cursors.now in
-    apply-asks L os cs c15.args.out.now c15.args.moved.now _ c6.apply-lengths.ensures _ _ c4.written.given.1 _
+    let os = operations_of c15.args.operations.now in
+    let cs = cursors_of c15.args.cursors.now in
+    apply_asks L os cs c15.args.out.now c15.args.moved.now _ c6.apply-lengths.ensures _ _ c4.written.given.1 _
     c2.text-fits.ensures (not-false _ c.before.if1.false)
 
 sort-cursors-requires : tie.Need-sort-cursors-requires
@@ -52,9 +52,9 @@ sort-cursors-requires c κs =
     let c10 = c8.before.before in
     let c19 = c10.before.before.before.before.before.before.before.before.before in
     let L = lent_of c19.args.original.now c19.args.text.now c19.args.spans.now c19.args.keys.now in
-    let os = operationsOf c19.args.operations.now in
-    let cs = cursorsOf c19.args.cursors.now in
-    apply-sorts L os cs c19.args.out.now c19.args.moved.now _ c10.apply-lengths.ensures _ _ c8.written.given.1 _
+    let os = operations_of c19.args.operations.now in
+    let cs = cursors_of c19.args.cursors.now in
+    apply_sorts L os cs c19.args.out.now c19.args.moved.now _ c10.apply-lengths.ensures _ _ c8.written.given.1 _
     c6.text-fits.ensures (not-false _ c5.if1.false)
 
 returns-2 : tie.Need-returns-2
@@ -62,9 +62,9 @@ returns-2 c =
     let c3 = c.before.before.before in
     let c12 = c3.before.before.before.before.before.before.before.before.before in
     let L = lent_of c12.args.original.now c12.args.text.now c12.args.spans.now c12.args.keys.now in
-    let os = operationsOf c12.args.operations.now in
-    let cs = cursorsOf c12.args.cursors.now in
-    apply-stops L os cs c12.args.out.now c12.args.moved.now _ c3.apply-lengths.ensures _ c.before.refusal.given.1
+    let os = operations_of c12.args.operations.now in
+    let cs = cursors_of c12.args.cursors.now in
+    apply_stops L os cs c12.args.out.now c12.args.moved.now _ c3.apply-lengths.ensures _ c.before.refusal.given.1
 
 same_length : tie.Need-same-length
 same_length c = search rules
@@ -82,9 +82,9 @@ returns-3 c =
     let c13 = c11.before.before in
     let c22 = c13.before.before.before.before.before.before.before.before.before in
     let L = lent_of c22.args.original.now c22.args.text.now c22.args.spans.now c22.args.keys.now in
-    let os = operationsOf c22.args.operations.now in
-    let cs = cursorsOf c22.args.cursors.now in
-    apply-writes L os cs c22.args.out.now c22.args.moved.now _ c13.apply-lengths.ensures _ _ c11.written.given.1 _
+    let os = operations_of c22.args.operations.now in
+    let cs = cursors_of c22.args.cursors.now in
+    apply_writes L os cs c22.args.out.now c22.args.moved.now _ c13.apply-lengths.ensures _ _ c11.written.given.1 _
     c9.text-fits.ensures (not-false _ c8.if1.false) c6.write-text.ensures c2.sort-cursors.ensures
 
 pub apply-spec : {M : Type 1} → statement M

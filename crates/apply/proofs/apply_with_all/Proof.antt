@@ -1,10 +1,10 @@
 -- `apply_with_all` answers and leaves its rooms as the definition says.
 -- Each way is a law of AllWays. Assumes nothing.
-use Rattle.apply.proofs.AllWays.{all-stops, all-no-room, all-no-history, all-asks, all-sorts, all-writes}
+use Rattle.apply.proofs.AllWays.{all_stops, all_no_room, all_no_history, all_asks, all_sorts, all_writes}
 use borrow.Author.Tests.{not-true, not-false}
 use Rattle.merging.specs.Lent.{lent_of}
-use Rattle.records.specs.Cursors.{cursorsOf}
-use Rattle.records.specs.Operations.{operationsOf}
+use Rattle.records.specs.Cursors.{cursors_of}
+use Rattle.records.specs.Operations.{operations_of}
 use borrow.Author.Rules.{rules}
 use Rattle.apply.proofs.apply_with_all.Statement.{statement}
 use Rattle.apply.proofs.apply_with_all.Tie as tie
@@ -27,9 +27,9 @@ returns c =
     let c5 = c3.before.before in
     let c16 = c5.before.before.before.before.before.before.before.before.before.before.before in
     let L = lent_of c16.args.original.now c16.args.text.now c16.args.spans.now c16.args.keys.now in
-    let os = operationsOf c16.args.operations.now in
-    let cs = cursorsOf c16.args.cursors.now in
-    all-no-room L os cs c16.args.out.now c16.args.moved.now c16.args.history.now c16.args.history-text.now _
+    let os = operations_of c16.args.operations.now in
+    let cs = cursors_of c16.args.cursors.now in
+    all_no_room L os cs c16.args.out.now c16.args.moved.now c16.args.history.now c16.args.history-text.now _
     c5.apply-with-all-lengths.ensures _ _ _ _ c3.written.given.1 _ c.before.text-fits.ensures (not-true _ c.if1.true)
 
 history-fits-requires : tie.Need-history-fits-requires
@@ -43,9 +43,9 @@ returns-2 c =
     let c7 = c5.before.before in
     let c18 = c7.before.before.before.before.before.before.before.before.before.before.before in
     let L = lent_of c18.args.original.now c18.args.text.now c18.args.spans.now c18.args.keys.now in
-    let os = operationsOf c18.args.operations.now in
-    let cs = cursorsOf c18.args.cursors.now in
-    all-no-history L os cs c18.args.out.now c18.args.moved.now c18.args.history.now c18.args.history-text.now _
+    let os = operations_of c18.args.operations.now in
+    let cs = cursors_of c18.args.cursors.now in
+    all_no_history L os cs c18.args.out.now c18.args.moved.now c18.args.history.now c18.args.history-text.now _
     c7.apply-with-all-lengths.ensures _ _ _ _ c5.written.given.1 _ c3.text-fits.ensures (not-false _ c2.if1.false) _
     c.before.history-fits.ensures (not-true _ c.if2.true)
 
@@ -59,9 +59,9 @@ write-all-requires c κs =
     let c10 = c8.before.before in
     let c21 = c10.before.before.before.before.before.before.before.before.before.before.before in
     let L = lent_of c21.args.original.now c21.args.text.now c21.args.spans.now c21.args.keys.now in
-    let os = operationsOf c21.args.operations.now in
-    let cs = cursorsOf c21.args.cursors.now in
-    all-asks L os cs c21.args.out.now c21.args.moved.now c21.args.history.now c21.args.history-text.now _
+    let os = operations_of c21.args.operations.now in
+    let cs = cursors_of c21.args.cursors.now in
+    all_asks L os cs c21.args.out.now c21.args.moved.now c21.args.history.now c21.args.history-text.now _
     c10.apply-with-all-lengths.ensures _ _ _ _ c8.written.given.1 _ c6.text-fits.ensures (not-false _ c5.if1.false) _
     c4.history-fits.ensures (not-false _ c3.if2.false)
 
@@ -75,9 +75,9 @@ sort-cursors-requires c κs =
     let c18 = c16.before.before in
     let c29 = c18.before.before.before.before.before.before.before.before.before.before.before in
     let L = lent_of c29.args.original.now c29.args.text.now c29.args.spans.now c29.args.keys.now in
-    let os = operationsOf c29.args.operations.now in
-    let cs = cursorsOf c29.args.cursors.now in
-    all-sorts L os cs c29.args.out.now c29.args.moved.now c29.args.history.now c29.args.history-text.now _
+    let os = operations_of c29.args.operations.now in
+    let cs = cursors_of c29.args.cursors.now in
+    all_sorts L os cs c29.args.out.now c29.args.moved.now c29.args.history.now c29.args.history-text.now _
     c18.apply-with-all-lengths.ensures _ _ _ _ c16.written.given.1 _ c14.text-fits.ensures (not-false _ c13.if1.false) _
     c12.history-fits.ensures (not-false _ c11.if2.false)
 
@@ -86,9 +86,9 @@ returns-3 c =
     let c3 = c.before.before.before in
     let c14 = c3.before.before.before.before.before.before.before.before.before.before.before in
     let L = lent_of c14.args.original.now c14.args.text.now c14.args.spans.now c14.args.keys.now in
-    let os = operationsOf c14.args.operations.now in
-    let cs = cursorsOf c14.args.cursors.now in
-    all-stops L os cs c14.args.out.now c14.args.moved.now c14.args.history.now c14.args.history-text.now _
+    let os = operations_of c14.args.operations.now in
+    let cs = cursors_of c14.args.cursors.now in
+    all_stops L os cs c14.args.out.now c14.args.moved.now c14.args.history.now c14.args.history-text.now _
     c3.apply-with-all-lengths.ensures _ c.before.refusal.given.1
 
 same_length : tie.Need-same-length
@@ -115,9 +115,9 @@ returns-4 c =
     let c21 = c19.before.before in
     let c32 = c21.before.before.before.before.before.before.before.before.before.before.before in
     let L = lent_of c32.args.original.now c32.args.text.now c32.args.spans.now c32.args.keys.now in
-    let os = operationsOf c32.args.operations.now in
-    let cs = cursorsOf c32.args.cursors.now in
-    all-writes L os cs c32.args.out.now c32.args.moved.now c32.args.history.now c32.args.history-text.now _
+    let os = operations_of c32.args.operations.now in
+    let cs = cursors_of c32.args.cursors.now in
+    all_writes L os cs c32.args.out.now c32.args.moved.now c32.args.history.now c32.args.history-text.now _
     c21.apply-with-all-lengths.ensures _ _ _ _ c19.written.given.1 _ c17.text-fits.ensures (not-false _ c16.if1.false) _
     c15.history-fits.ensures (not-false _ c14.if2.false) c10.write-all.ensures c2.sort-cursors.ensures
 

@@ -1,10 +1,10 @@
 -- `apply_with_history_lengths` counts what `apply_with_history` writes.
 -- By the verdict, as Answering says. Assumes nothing.
-use Rattle.sizes.proofs.Fits.{other-small}
-use Rattle.apply.proofs.Answering.{judged-no, judged-yes, text-told, text-low, checks-none, told-refuse, told-count}
-use Rattle.records.proofs.Operations.{length-of}
+use Rattle.sizes.proofs.Fits.{other_small}
+use Rattle.apply.proofs.Answering.{judged_no, judged_yes, text_told, text_low, checks_none, told_refuse, told_count}
+use Rattle.records.proofs.Operations.{length_of_lem}
 use Rattle.merging.specs.Lent.{lent_of}
-use Rattle.records.specs.Operations.{operationsOf}
+use Rattle.records.specs.Operations.{operations_of}
 use mathlib.Core.Path.{sym}
 use native.Mathlib.Omega.{arith}
 use mathlib.Core.List.{[]}
@@ -19,7 +19,7 @@ slice-aggregate-none : tie.Need-slice-aggregate-none
 slice-aggregate-none c = search rules
 
 sum-list-requires : tie.Need-sum-list-requires
-sum-list-requires c κs = other-small c.before.other-limits.ensures
+sum-list-requires c κs = other_small c.before.other-limits.ensures
 
 enum-known-refusal : tie.Need-enum-known-refusal
 enum-known-refusal c = search rules
@@ -37,11 +37,11 @@ add-t16 c =
     let c6 = c4.before.before in
     let a = c6.before.before.before.before.before.before.args in
     let L = lent_of a.original.now a.text.now a.spans.now a.keys.now in
-    let os = operationsOf a.operations.now in
+    let os = operations_of a.operations.now in
     let e = c6.other-limits.ensures in
-    let f = checks-none L os a.operations.now _ c4.sum-list.ensures in
+    let f = checks_none L os a.operations.now _ c4.sum-list.ensures in
     let g = c2.written.given.1 in
-    omega (arith, text-low L os [] (judged-yes L os [] e f _ _ g) _ (text-told L os [] e f _ _ g), c.removed.ensures)
+    omega (arith, text_low L os [] (judged_yes L os [] e f _ _ g) _ (text_told L os [] e f _ _ g), c.removed.ensures)
 
 returns : tie.Need-returns
 returns c =
@@ -49,8 +49,8 @@ returns c =
     let c5 = c3.before.before in
     let c11 = c5.before.before.before.before.before.before in
     let L = lent_of c11.args.original.now c11.args.text.now c11.args.spans.now c11.args.keys.now in
-    let os = operationsOf c11.args.operations.now in
-    told-refuse L os _ (judged-no L os [] c5.other-limits.ensures (checks-none L os c11.args.operations.now _ c3.sum-list.ensures) _ c.before.refusal.given.1)
+    let os = operations_of c11.args.operations.now in
+    told_refuse L os _ (judged_no L os [] c5.other-limits.ensures (checks_none L os c11.args.operations.now _ c3.sum-list.ensures) _ c.before.refusal.given.1)
 
 returns-2 : tie.Need-returns-2
 returns-2 c =
@@ -59,11 +59,11 @@ returns-2 c =
     let c6 = c4.before.before in
     let c12 = c6.before.before.before.before.before.before in
     let L = lent_of c12.args.original.now c12.args.text.now c12.args.spans.now c12.args.keys.now in
-    let os = operationsOf c12.args.operations.now in
+    let os = operations_of c12.args.operations.now in
     let e = c6.other-limits.ensures in
-    let f = checks-none L os c12.args.operations.now _ c4.sum-list.ensures in
+    let f = checks_none L os c12.args.operations.now _ c4.sum-list.ensures in
     let g = c2.written.given.1 in
-    told-count L os _ _ _ (judged-yes L os [] e f _ _ g) (sym (length-of c12.args.operations.now)) (text-told L os [] e f _ _ g) c.removed.ensures
+    told_count L os _ _ _ (judged_yes L os [] e f _ _ g) (sym (length_of_lem c12.args.operations.now)) (text_told L os [] e f _ _ g) c.removed.ensures
 
 pub apply-with-history-lengths-spec : {M : Type 1} → statement M
 apply-with-history-lengths-spec =

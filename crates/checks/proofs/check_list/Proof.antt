@@ -1,6 +1,6 @@
 -- `check_list` gives the verdict on one list.
 -- It is what `sum_list` says, without the sums. Assumes nothing.
-use Rattle.checks.proofs.Telling.{says-no, says-yes}
+use Rattle.checks.proofs.Telling.{says_no, says_yes}
 use mathlib.Core.Path.{sym, ◌∙◌}
 use borrow.Author.Rules.{rules}
 use Rattle.checks.proofs.check_list.Statement.{statement}
@@ -16,10 +16,10 @@ enum-known-inserted : tie.Need-enum-known-inserted
 enum-known-inserted c = search rules
 
 returns : tie.Need-returns
-returns c = sym (says-no _ _ _ _ (sym c.before.before.before.sum-list.ensures ∙ c.before.refusal.given.1))
+returns c = sym (says_no _ _ _ _ (sym c.before.before.before.sum-list.ensures ∙ c.before.refusal.given.1))
 
 returns-2 : tie.Need-returns-2
-returns-2 c = sym (says-yes _ _ _ _ _ (sym c.before.before.before.sum-list.ensures ∙ c.before.inserted.given.1))
+returns-2 c = sym (says_yes _ _ _ _ _ (sym c.before.before.before.sum-list.ensures ∙ c.before.inserted.given.1))
 
 pub check-list-spec : {M : Type 1} → statement M
 check-list-spec =

@@ -1,6 +1,6 @@
 -- `good_sums` gives the sums only of a list in which there is nothing to refuse.
 -- Each no is an empty promise. Assumes nothing.
-use Rattle.checks.proofs.Passing.{good-list}
+use Rattle.checks.proofs.Passing.{good_list}
 use Rattle.room.proofs.Choices.{no_way}
 use borrow.Author.Tests.{not-false}
 use native.Mathlib.Omega.{arith}
@@ -59,7 +59,7 @@ returns-4 c =
     let c15 = c9.before.before.before.before.before.before in
     let a = c15.args in
     λ e.
-    good-list a.limits a.n a.m a.spans.now a.keys.now a.operations.now a.cursors.now c6.pass-list.result _ c15.requires.0 c15.requires.1
+    good_list a.limits a.n a.m a.spans.now a.keys.now a.operations.now a.cursors.now c6.pass-list.result _ c15.requires.0 c15.requires.1
     c9.if1.false c7.if2.false (c6.pass-list.ensures (not-false _ c4.if3.false)) c2.check-cursors.ensures c.enum_told.given.1
 
 returns-5 : tie.Need-returns-5

@@ -1,7 +1,7 @@
 -- `judge_sums` gives the verdict on one list, with the lengths of the texts of one that is accepted.
 -- They are below the cap of their sums. Assumes nothing.
-use Rattle.checks.proofs.Accepted.{inserted-known, text-known}
-use Rattle.checks.proofs.Telling.{told-no, told-yes}
+use Rattle.checks.proofs.Accepted.{inserted_known, text_known}
+use Rattle.checks.proofs.Telling.{told_no, told_yes}
 use mathlib.Core.Path.{sym, ◌∙◌}
 use borrow.Author.Rules.{rules}
 use Rattle.checks.proofs.judge_sums.Statement.{statement}
@@ -23,7 +23,7 @@ text-length-requires : tie.Need-text-length-requires
 text-length-requires c κs = search rules
 
 returns : tie.Need-returns
-returns c = told-no _ _ _ _ (sym c.before.before.before.judge-list.ensures ∙ c.before.refusal.given.1)
+returns c = told_no _ _ _ _ (sym c.before.before.before.judge-list.ensures ∙ c.before.refusal.given.1)
 
 returns-2 : tie.Need-returns-2
 returns-2 c =
@@ -31,9 +31,9 @@ returns-2 c =
     let c11 = c4.before.before.before.before.before.before.before in
     let a = c11.args in
     let v = sym c4.judge-list.ensures ∙ c.before.before.enum_told.given.1 in
-    told-yes _ _ _ _ _ v
-    (inserted-known a.limits a.original.now a.text.now a.spans.now a.keys.now _ _ _ c11.requires.0 v c.before.inserted.ensures)
-    (text-known a.limits a.original.now a.text.now a.spans.now a.keys.now _ _ _ c11.requires.0 v c.text-length.ensures)
+    told_yes _ _ _ _ _ v
+    (inserted_known a.limits a.original.now a.text.now a.spans.now a.keys.now _ _ _ c11.requires.0 v c.before.inserted.ensures)
+    (text_known a.limits a.original.now a.text.now a.spans.now a.keys.now _ _ _ c11.requires.0 v c.text-length.ensures)
 
 pub judge-sums-spec : {M : Type 1} → statement M
 judge-sums-spec =

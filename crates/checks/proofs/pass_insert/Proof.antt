@@ -1,6 +1,6 @@
 -- `pass_insert` tells that an insert's tokens are lent and good, and their text up to the cap.
 -- Each no is an empty promise; a run that is whole is an insert's. Assumes nothing.
-use Rattle.checks.proofs.Passing.{whole-insert}
+use Rattle.checks.proofs.Passing.{whole_insert}
 use Rattle.sizes.proofs.Sums.{lent_fits}
 use Rattle.room.proofs.Choices.{no_way}
 use borrow.Author.Tests.{not-false}
@@ -35,7 +35,7 @@ returns-3 c =
     let c7 = c2.before.before.before.before.before in
     let a = c7.args in
     λ e.
-    whole-insert a.n a.spans.now a.keys.now a.o _ c7.requires c2.before.if1.false
+    whole_insert a.n a.spans.now a.keys.now a.o _ c7.requires c2.before.if1.false
     (sym c2.run_lent.ensures ∙ not-false _ c.before.if2.false) (c.pass-run.ensures e)
 
 pub pass-insert-spec : {M : Type 1} → statement M

@@ -1,6 +1,6 @@
 -- `pass_list` sums up a list, and gives no pass where it may have found something to refuse.
 -- The loop keeps `Passing`, whose ways are in the file of that name. Assumes nothing.
-use Rattle.checks.proofs.Passing.{Passing, passing_begins, retains-most, passes-insert, passes-part, passed}
+use Rattle.checks.proofs.Passing.{Passing, passing_begins, retains_most, passes_insert, passes_part, passed}
 use Rattle.room.proofs.Choices.{no_way}
 use borrow.Author.Tests.{not-false}
 use native.Mathlib.Omega.{arith}
@@ -89,7 +89,7 @@ pass-again c =
     let c16 = c15.before in
     let c17 = c16.before in
     let c21 = c17.before.before.before.before in
-    passes-insert c17.pass.invariant c21.requires.0 c15.operation-at.result c16.pass-test.true c15.operation-at.ensures c13.if1.false
+    passes_insert c17.pass.invariant c21.requires.0 c15.operation-at.result c16.pass-test.true c15.operation-at.ensures c13.if1.false
     c7.pass-insert.result c11.if2.true c8.if3.false (c7.pass-insert.ensures (not-false _ c5.if4.false)) c2.if5.false
 
 no-pass-requires-5 : tie.Need-no-pass-requires-5 invariant-pass decreases-pass
@@ -128,7 +128,7 @@ add-retained c =
     let c15 = c13.before.before in
     let c19 = c15.before.before.before.before in
     let h = c15.pass.invariant in
-    omega (arith, c.retained-by.ensures, retains-most c13.operation-at.result, c.before.if9.false, h.kept, h.tiles.inside, c19.requires.1)
+    omega (arith, c.retained-by.ensures, retains_most c13.operation-at.result, c.before.if9.false, h.kept, h.tiles.inside, c19.requires.1)
 
 add_at : tie.Need-overflow-add-at invariant-pass decreases-pass
 add_at c =
@@ -152,7 +152,7 @@ pass-again-2 c =
     let c15 = c14.before in
     let c16 = c15.before in
     let c20 = c16.before.before.before.before in
-    passes-part c16.pass.invariant c20.requires.0 c14.operation-at.result c15.pass-test.true c14.operation-at.ensures c12.if1.false
+    passes_part c16.pass.invariant c20.requires.0 c14.operation-at.result c15.pass-test.true c14.operation-at.ensures c12.if1.false
     c.before.retained-by.result c20.requires.1 c10.if2.false c8.if6.false c6.if7.false c4.if8.false c2.if9.false
     c.before.retained-by.ensures
 

@@ -1,6 +1,6 @@
 -- `pass_run` tells that a run's tokens are good, and their text up to the cap.
 -- The loop keeps `Running`, whose ways are in Passing. Assumes nothing.
-use Rattle.checks.proofs.Passing.{Running, run-begins, run_on, run_ends}
+use Rattle.checks.proofs.Passing.{Running, run_begins, run_on, run_ends}
 use Rattle.room.proofs.Choices.{no_way}
 use borrow.Author.Tests.{not-false}
 use mathlib.Core.Path.{refl, sym, ◌∙◌}
@@ -19,7 +19,7 @@ add-end : tie.Need-overflow-add-end invariant-run decreases-run
 add-end c = search rules
 
 run_holds : tie.Need-run-init invariant-run decreases-run
-run_holds c = run-begins _ _ _ _ _ _ refl
+run_holds c = run_begins _ _ _ _ _ _ refl
 
 token-at-requires : tie.Need-token-at-requires invariant-run decreases-run
 token-at-requires c κs = search rules

@@ -1,7 +1,7 @@
 -- `sum_list` gives the verdict on one list, with the lengths of the texts of one that is accepted.
 -- A good list leaves the texts; any other is judged check by check. Assumes nothing.
-use Rattle.checks.proofs.Passing.{lent-few, no_size, good-alone}
-use Rattle.checks.proofs.Telling.{told-no, told-yes}
+use Rattle.checks.proofs.Passing.{lent_few, no_size, good_alone}
+use Rattle.checks.proofs.Telling.{told_no, told_yes}
 use borrow.Author.Tests.{not-true, not-false}
 use native.Mathlib.Omega.{arith}
 use mathlib.Core.Path.{sym, ◌∙◌}
@@ -15,13 +15,13 @@ lent-fits-requires c κs = search rules
 returns : tie.Need-returns
 returns c =
     let a = c.before.before.before.before.before.before.before.before.args in
-    told-no _ _ _ _
+    told_no _ _ _ _
     (no_size a.limits a.original.now a.text.now a.spans.now a.keys.now _ _ (sym c.before.lent_fits.ensures ∙ not-true _ c.if1.true))
 
 good-sums-requires : tie.Need-good-sums-requires
 good-sums-requires c κs =
     let c8 = c.before.before.before.before.before.before.before.before in
-    (c8.requires, lent-few c8.args.original.now c8.args.text.now (sym c.before.lent_fits.ensures ∙ not-false _ c.if1.false))
+    (c8.requires, lent_few c8.args.original.now c8.args.text.now (sym c.before.lent_fits.ensures ∙ not-false _ c.if1.false))
 
 judge-sums-requires : tie.Need-judge-sums-requires
 judge-sums-requires c κs = (c.before.before.before.before.before.before.before.before.before.before.before.requires, sym c.before.before.before.before.lent_fits.ensures ∙ not-false _ c.before.before.before.if1.false)
@@ -46,9 +46,9 @@ returns-3 c =
     let c7 = c6.before in
     let c8 = c7.before in
     let a = c8.before.before.before.before.before.before.before.args in
-    let g = good-alone a.limits a.original.now a.text.now a.spans.now a.keys.now _ _ _
+    let g = good_alone a.limits a.original.now a.text.now a.spans.now a.keys.now _ _ _
     (sym c8.lent_fits.ensures ∙ not-false _ c7.if1.false) (c6.good-sums.ensures (not-false _ c4.if2.false)) in
-    told-no _ _ _ _ (sym g ∙ (sym c3.check-texts.ensures ∙ c.before.refusal.given.1))
+    told_no _ _ _ _ (sym g ∙ (sym c3.check-texts.ensures ∙ c.before.refusal.given.1))
 
 add-written : tie.Need-overflow-add-written
 add-written c =
@@ -65,9 +65,9 @@ returns-4 c =
     let c8 = c7.before in
     let a = c8.before.before.before.before.before.before.before.args in
     let s = c6.good-sums.ensures (not-false _ c4.if2.false) in
-    let g = good-alone a.limits a.original.now a.text.now a.spans.now a.keys.now _ _ _
+    let g = good_alone a.limits a.original.now a.text.now a.spans.now a.keys.now _ _ _
     (sym c8.lent_fits.ensures ∙ not-false _ c7.if1.false) s in
-    told-yes _ _ _ _ _ (sym g ∙ (sym c3.check-texts.ensures ∙ c1.enum_told.given.1)) s.inserted s.text
+    told_yes _ _ _ _ _ (sym g ∙ (sym c3.check-texts.ensures ∙ c1.enum_told.given.1)) s.inserted s.text
 
 pub sum-list-spec : {M : Type 1} → statement M
 sum-list-spec =

@@ -1,6 +1,6 @@
 -- Shown: `end_cursors` puts `ended` into the room and leaves none.
 -- How: `Ending` of Going.antt is the loop's invariant; one of its laws answers each way through a turn.
-use Rattle.cursor_position.proofs.Going.{Ending, ending-none, ending-more, ending-out}
+use Rattle.cursor_position.proofs.Going.{Ending, ending_none, ending_more, ending_out}
 use mathlib.Core.Path.{refl}
 use Prim.Native.Nat.{◌-◌}
 use borrow.Author.Rules.{rules}
@@ -14,7 +14,7 @@ abbrev decreases-ending : tie.decreases-ending
 decreases-ending cursors end out₀ total next₀ count₀ out next count = total - next
 
 ending-holds : tie.Need-ending-init invariant-ending decreases-ending
-ending-holds c = ending-none _ _ _ _ _ _
+ending-holds c = ending_none _ _ _ _ _ _
 
 cursor-at-requires : tie.Need-cursor-at-requires invariant-ending decreases-ending
 cursor-at-requires c κs = search rules
@@ -42,14 +42,14 @@ ending-again c =
     let c6 = c5.before in
     let c7 = c6.before in
     let c10 = c7.before.before.before in
-    ending-more c7.ending.invariant c5.cursor-at.result c3.with-index.result _ c10.requires c6.ending-test.true c5.cursor-at.ensures
+    ending_more c7.ending.invariant c5.cursor-at.result c3.with-index.result _ c10.requires c6.ending-test.true c5.cursor-at.ensures
     c3.with-index.ensures c2.put-cursor.ensures
 
 same_length : tie.Need-same-length invariant-ending decreases-ending
 same_length c = search rules
 
 returns : tie.Need-returns invariant-ending decreases-ending
-returns c = ending-out c.before.ending.invariant refl c.ending-test.false
+returns c = ending_out c.before.ending.invariant refl c.ending-test.false
 
 pub end-cursors-spec : {M : Type 1} → statement M
 end-cursors-spec =

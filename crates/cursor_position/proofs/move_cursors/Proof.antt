@@ -1,6 +1,6 @@
 -- Shown: `move_cursors` puts `moved` into the room and leaves `behind`.
 -- How: `Moving` of Going.antt is the loop's invariant; one of its laws answers each way through a turn.
-use Rattle.cursor_position.proofs.Going.{Moving, moving-none, moving-more, moving-all, moving-out}
+use Rattle.cursor_position.proofs.Going.{Moving, moving_none, moving_more, moving_all, moving_out}
 use mathlib.Core.Path.{refl}
 use Prim.Native.Nat.{◌-◌}
 use borrow.Author.Rules.{rules}
@@ -17,7 +17,7 @@ add-end : tie.Need-overflow-add-end invariant-moving decreases-moving
 add-end c = search rules
 
 moving-holds : tie.Need-moving-init invariant-moving decreases-moving
-moving-holds c = moving-none _ _ _ _ _ _
+moving-holds c = moving_none _ _ _ _ _ _
 
 cursor-at-requires : tie.Need-cursor-at-requires invariant-moving decreases-moving
 cursor-at-requires c κs = search rules
@@ -30,7 +30,7 @@ returns c =
     let c2 = c.before.before in
     let c3 = c2.before in
     let c4 = c3.before in
-    moving-out c4.moving.invariant c2.cursor-at.result refl c3.moving-test.true c2.cursor-at.ensures c.if1.true
+    moving_out c4.moving.invariant c2.cursor-at.result refl c3.moving-test.true c2.cursor-at.ensures c.if1.true
 
 moved-index-requires : tie.Need-moved-index-requires invariant-moving decreases-moving
 moved-index-requires c κs = search rules
@@ -60,7 +60,7 @@ moving-again c =
     let c9 = c8.before in
     let c10 = c9.before in
     let c14 = c10.before.before.before.before in
-    moving-more c10.moving.invariant c8.cursor-at.result c3.with-index.result c4.moved-index.result _ c14.requires.1
+    moving_more c10.moving.invariant c8.cursor-at.result c3.with-index.result c4.moved-index.result _ c14.requires.1
     c9.moving-test.true c8.cursor-at.ensures c6.if1.false c4.moved-index.ensures c3.with-index.ensures
     c2.put-cursor.ensures
 
@@ -68,7 +68,7 @@ same-length-2 : tie.Need-same-length-2 invariant-moving decreases-moving
 same-length-2 c = search rules
 
 returns-2 : tie.Need-returns-2 invariant-moving decreases-moving
-returns-2 c = moving-all c.before.moving.invariant refl c.moving-test.false
+returns-2 c = moving_all c.before.moving.invariant refl c.moving-test.false
 
 pub move-cursors-spec : {M : Type 1} → statement M
 move-cursors-spec =

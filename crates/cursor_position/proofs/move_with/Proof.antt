@@ -1,6 +1,6 @@
--- Shown: `move_with` moves what `movedBy` says and leaves `behindOf`.
+-- Shown: `move_with` moves what `moved_by` says and leaves `behind_of`.
 -- How: by the kind of the operation; with a delete nothing happens.
-use Rattle.cursor_position.proofs.Going.{went-none}
+use Rattle.cursor_position.proofs.Going.{went_none}
 use borrow.Author.Rules.{rules}
 use Rattle.cursor_position.proofs.move_with.Statement.{statement}
 use Rattle.cursor_position.proofs.move_with.Tie as tie
@@ -21,7 +21,7 @@ move-cursors-requires-2 : tie.Need-move-cursors-requires-2
 move-cursors-requires-2 c κs = search rules
 
 returns : tie.Need-returns
-returns c = rw c.before.a.given.1 (went-none _ _ _)
+returns c = rw c.before.a.given.1 (went_none _ _ _)
 
 same_length : tie.Need-same-length
 same_length c = search rules

@@ -1,6 +1,6 @@
--- Shown: `moved_index` answers `movedIndex`.
+-- Shown: `moved_index` answers `moved_index`.
 -- How: each way through its test is a case of the definition's test.
-use Rattle.merging.proofs.Moving.{in-front, in_rest}
+use Rattle.merging.proofs.Moving.{in_front, in_rest}
 use native.Mathlib.Omega.{arith}
 use borrow.Author.Rules.{rules}
 use Rattle.cursor_position.proofs.moved_index.Statement.{statement}
@@ -22,7 +22,7 @@ sub-result : tie.Need-overflow-sub-result
 sub-result c = search rules
 
 returns : tie.Need-returns
-returns c = omega (arith, in-front c.before.before.before.before.before.args.t c.before.before.before.before.before.args.index (omega arith))
+returns c = omega (arith, in_front c.before.before.before.before.before.args.t c.before.before.before.before.before.args.index (omega arith))
 
 returns-2 : tie.Need-returns-2
 returns-2 c = omega (arith, in_rest c.before.before.before.before.before.args.t c.before.before.before.before.before.args.index (omega arith))

@@ -2,7 +2,7 @@
 -- How: by the law of its bits in proofs/DigitLaws.antt.
 use native.Mathlib.Omega.{arith}
 use lib.Bits.{and_mask}
-use Rattle.edit_format.proofs.DigitLaws.{value-bits}
+use Rattle.edit_format.proofs.DigitLaws.{value_bits}
 use borrow.Author.Rules.{rules}
 use Rattle.edit_format.proofs.digit.Statement.{statement}
 use Rattle.edit_format.proofs.digit.Tie as tie
@@ -17,7 +17,7 @@ add-result : tie.Need-overflow-add-result
 add-result c = rw (c.wide.ensures, and_mask c.before.args.b 4) (omega arith)
 
 returns : tie.Need-returns
-returns c = rw (c.wide.ensures, and_mask c.before.args.b 4) (value-bits c.before.args.b c.before.requires)
+returns c = rw (c.wide.ensures, and_mask c.before.args.b 4) (value_bits c.before.args.b c.before.requires)
 
 pub digit-spec : {M : Type 1} → statement M
 digit-spec = tie.close (tie.spec wide-requires mul-result add-result returns)

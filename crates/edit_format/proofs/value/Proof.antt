@@ -2,7 +2,7 @@
 -- How: each way through it is a law of proofs/DigitLaws.antt.
 use mathlib.Core.Path.{sym}
 use native.Mathlib.Omega.{arith}
-use Rattle.edit_format.proofs.DigitLaws.{value_low, value-ten, value-gap, value-six, value-high}
+use Rattle.edit_format.proofs.DigitLaws.{value_low, value_ten, value_gap, value_six, value_high}
 use borrow.Author.Rules.{rules}
 use Rattle.edit_format.proofs.value.Statement.{statement}
 use Rattle.edit_format.proofs.value.Tie as tie
@@ -14,19 +14,19 @@ returns : tie.Need-returns
 returns c = sym (value_low c.before.before.args.b (omega arith))
 
 returns-2 : tie.Need-returns-2
-returns-2 c = rw (value-ten c.before.before.before.args.b (omega arith) (omega arith)) (omega arith)
+returns-2 c = rw (value_ten c.before.before.before.args.b (omega arith) (omega arith)) (omega arith)
 
 returns-3 : tie.Need-returns-3
-returns-3 c = sym (value-gap c.before.before.before.before.args.b (omega arith) (omega arith))
+returns-3 c = sym (value_gap c.before.before.before.before.args.b (omega arith) (omega arith))
 
 sub-result : tie.Need-overflow-sub-result
 sub-result c = search rules
 
 returns-4 : tie.Need-returns-4
-returns-4 c = rw (value-six c.before.before.before.before.before.args.b (omega arith) (omega arith)) (omega arith)
+returns-4 c = rw (value_six c.before.before.before.before.before.args.b (omega arith) (omega arith)) (omega arith)
 
 returns-5 : tie.Need-returns-5
-returns-5 c = sym (value-high c.before.before.before.before.before.args.b (omega arith))
+returns-5 c = sym (value_high c.before.before.before.before.before.args.b (omega arith))
 
 pub value_spec : {M : Type 1} → statement M
 value_spec =

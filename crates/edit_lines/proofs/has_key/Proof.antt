@@ -40,8 +40,8 @@ returns-2 c = sym (c.before.before.before.before.key.invariant.1 ∙ differs c.b
 add-i : tie.Need-overflow-add-i invariant-key decreases-key
 add-i c = omega arith
 
-key-less : tie.Need-key-smaller invariant-key decreases-key
-key-less c = omega arith
+key_less : tie.Need-key-smaller invariant-key decreases-key
+key_less c = omega arith
 
 key-again : tie.Need-key-preserved invariant-key decreases-key
 key-again c = (omega arith, c.before.before.before.before.key.invariant.1 ∙ agrees c.before.before.before.before.before.before.args.key.now c.before.before.before.before.before.before.args.bytes.now c.before.before.before.before.before.before.args.at c.before.before.before.before.key.i (omega arith) (omega arith) c.if2.false)
@@ -63,6 +63,6 @@ has-key-spec =
     shared-slice-read-if2-2
     returns-2
     add-i
-    key-less
+    key_less
     key-again
     returns-3)

@@ -2,7 +2,7 @@
 -- How: by the contracts of what it calls.
 use mathlib.Core.Path.{sym, ap}
 use native.Mathlib.Omega.{arith}
-use Rattle.edit_lines.specs.Scan.{pointAt, endedAt}
+use Rattle.edit_lines.specs.Scan.{point_at, ended_at}
 use borrow.Author.Rules.{rules}
 use Rattle.edit_lines.proofs.hex_number.Statement.{statement}
 use Rattle.edit_lines.proofs.hex_number.Tie as tie
@@ -14,8 +14,8 @@ number-at-requires : tie.Need-number-at-requires
 number-at-requires c κs = (omega arith, omega arith, omega arith)
 
 returns : tie.Need-returns
-unfolding pointAt
-returns c = ap (endedAt _) (sym c.number_at.ensures)
+unfolding point_at
+returns c = ap (ended_at _) (sym c.number_at.ensures)
 
 short-number-requires : tie.Need-short-number-requires
 short-number-requires c κs = omega arith

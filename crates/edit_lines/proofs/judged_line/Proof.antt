@@ -4,7 +4,7 @@ use Prim.Native.Nat.{◌-◌}
 use native.Mathlib.Omega.{arith}
 use lib.ListN.{length}
 use borrow.Author.Rules.{rules}
-use Rattle.edit_lines.proofs.Lines.{Reads, starts, first-digit, first_read, inside, ends, digit-most, goes_on}
+use Rattle.edit_lines.proofs.Lines.{Reads, starts, first_digit, first_read, inside, ends, digit_most, goes_on}
 use Rattle.edit_lines.proofs.judged_line.Statement.{statement}
 use Rattle.edit_lines.proofs.judged_line.Tie as tie
 
@@ -21,7 +21,7 @@ wide-requires : tie.Need-wide-requires invariant-digits decreases-digits
 wide-requires c κs = search rules
 
 sub-n : tie.Need-overflow-sub-n invariant-digits decreases-digits
-sub-n c = omega (arith, c.wide.ensures, (first-digit c.before.before.before.requires).0)
+sub-n c = omega (arith, c.wide.ensures, (first_digit c.before.before.before.requires).0)
 
 add-i : tie.Need-overflow-add-i invariant-digits decreases-digits
 add-i c = omega (arith, starts c.before.before.before.requires)
@@ -45,7 +45,7 @@ sub-n-2 : tie.Need-overflow-sub-n-2 invariant-digits decreases-digits
 sub-n-2 c = omega (arith, c.wide2.ensures, c.before.before.if1.true)
 
 add-n : tie.Need-overflow-add-n invariant-digits decreases-digits
-add-n c = omega (arith, c.before.before.before.before.digits.invariant.small, c.wide2.ensures, digit-most c.before.before.before.before.before.before.before.before.requires c.before.before.before.before.digits.invariant c.before.before.if1.true)
+add-n c = omega (arith, c.before.before.before.before.digits.invariant.small, c.wide2.ensures, digit_most c.before.before.before.before.before.before.before.before.requires c.before.before.before.before.digits.invariant c.before.before.if1.true)
 
 add-i-2 : tie.Need-overflow-add-i-2 invariant-digits decreases-digits
 add-i-2 c = omega (arith, inside c.before.before.before.before.before.before.before.before.requires c.before.before.before.before.digits.invariant)

@@ -4,7 +4,7 @@ use lib.ListN.{length-drop}
 use mathlib.Core.Path.{sym, ap, ◌∙◌}
 use native.Mathlib.Omega.{arith}
 use Rattle.edit_lines.proofs.Begins.{long}
-use Rattle.edit_lines.specs.Scan.{line_at, closedAt}
+use Rattle.edit_lines.specs.Scan.{line_at, closed_at}
 use borrow.Author.Rules.{rules}
 use Rattle.edit_lines.proofs.number_line.Statement.{statement}
 use Rattle.edit_lines.proofs.number_line.Tie as tie
@@ -23,7 +23,7 @@ closed-requires c κs = search rules
 
 returns : tie.Need-returns
 unfolding line_at
-returns c = rw (sym c.before.before.before.has_key_lem.ensures ∙ c.before.before.if1.true) (c.closed.ensures ∙ ap (closedAt _) c.before.number_at.ensures)
+returns c = rw (sym c.before.before.before.has_key_lem.ensures ∙ c.before.before.if1.true) (c.closed.ensures ∙ ap (closed_at _) c.before.number_at.ensures)
 
 returns-2 : tie.Need-returns-2
 unfolding line_at

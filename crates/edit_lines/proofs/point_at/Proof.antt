@@ -1,4 +1,4 @@
--- Shown: `point_at` answers `pointAt`.
+-- Shown: `point_at` answers `point_at`.
 -- How: by the contracts of what it calls.
 use mathlib.Core.Path.{sym, ◌∙◌}
 use borrow.Author.Rules.{rules}

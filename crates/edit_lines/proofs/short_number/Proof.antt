@@ -1,9 +1,9 @@
 -- Shown: `short_number` meets its contract.
 -- How: loop `digits` keeps `Digits`, and each way through it is a law of proofs/Points.antt.
-use Rattle.edit_lines.specs.Scan.{endedAt}
+use Rattle.edit_lines.specs.Scan.{ended_at}
 use native.Mathlib.Omega.{arith}
 use Prim.Native.Nat.{◌-◌}
-use Rattle.edit_lines.proofs.Points.{Digits, none, first, further, after-zero, after_last, stops, six}
+use Rattle.edit_lines.proofs.Points.{Digits, none, first, further, after_zero, after_last, stops, six}
 use borrow.Author.Rules.{rules}
 use Rattle.edit_lines.proofs.short_number.Statement.{statement}
 use Rattle.edit_lines.proofs.short_number.Tie as tie
@@ -21,7 +21,7 @@ hex-value-requires : tie.Need-hex-value-requires invariant-digits decreases-digi
 hex-value-requires c κs = search rules
 
 returns : tie.Need-returns invariant-digits decreases-digits
-unfolding endedAt
+unfolding ended_at
 returns c = none c.before.before.before.before.args.bytes.now c.before.before.before.before.args.at (omega arith) (omega (arith, c.before.hex-value.ensures))
 
 digits-holds : tie.Need-digits-init invariant-digits decreases-digits
@@ -43,11 +43,11 @@ returns-2 : tie.Need-returns-2 invariant-digits decreases-digits
 returns-2 c = stops c.before.before.before.before.digits.invariant (omega (arith, c.before.hex-value2.ensures))
 
 returns-3 : tie.Need-returns-3 invariant-digits decreases-digits
-unfolding endedAt
-returns-3 c = after-zero c.before.before.before.before.before.digits.invariant (omega (arith, c.before.before.hex-value2.ensures)) (omega arith)
+unfolding ended_at
+returns-3 c = after_zero c.before.before.before.before.before.digits.invariant (omega (arith, c.before.before.hex-value2.ensures)) (omega arith)
 
 returns-4 : tie.Need-returns-4 invariant-digits decreases-digits
-unfolding endedAt
+unfolding ended_at
 returns-4 c = after_last c.before.before.before.before.before.before.digits.invariant (omega (arith, c.before.before.before.hex-value2.ensures)) c.if4.true
 
 mul-n : tie.Need-overflow-mul-n invariant-digits decreases-digits

@@ -2,7 +2,7 @@
 -- How: the list is ready to be written; the rest are laws of proofs/Raising.antt. Assumes nothing.
 use native.Mathlib.Omega.{arith}
 use mathlib.Core.Path.{refl}
-use Rattle.edit_list.proofs.Raising.{can_write, can-shift, raises}
+use Rattle.edit_list.proofs.Raising.{can_write, can_shift, raises}
 use borrow.Author.Rules.{rules}
 use Rattle.edit_list.proofs.elongate_at.Statement.{statement}
 use Rattle.edit_list.proofs.elongate_at.Tie as tie
@@ -64,7 +64,7 @@ shift-requires : tie.Need-shift-requires
 shift-requires c κs =
     let w = c.before.before.before.before.before.before.before.before in
     let s = w.before.before.before.before.before.before.before.before.before.before.before.before in
-    can-shift s.requires _ refl w.write.ensures (omega (arith, s.requires.in-keys, s.well-formed.1.1.1.1.1.1.0))
+    can_shift s.requires _ refl w.write.ensures (omega (arith, s.requires.in-keys, s.well-formed.1.1.1.1.1.1.0))
 
 -- src/lib.rt:193:1
 same_length : tie.Need-same-length

@@ -2,7 +2,7 @@
 -- How: the loop keeps `Going`. Assumes nothing.
 use native.Mathlib.Omega.{arith}
 use Prim.Native.Nat.{◌-◌}
-use Rattle.edit_list.proofs.Writing.{Going, going-begins, going-fits, going_on, going-ends, lent-to}
+use Rattle.edit_list.proofs.Writing.{Going, going_begins, going_fits, going_on, going_ends, lent_to}
 use borrow.Author.Rules.{rules}
 use Rattle.edit_list.proofs.fill.Statement.{statement}
 use Rattle.edit_list.proofs.fill.Tie as tie
@@ -14,14 +14,14 @@ abbrev decreases-items : tie.decreases-items
 decreases-items items count lent text at raw₀ spans₀ keys₀ i₀ tokens₀ raw spans keys i tokens = count - i
 
 items-holds : tie.Need-items-init invariant-items decreases-items
-items-holds c = going-begins _ _ _ _ _ _ _ _ c.before.before.before.before.requires.1
+items-holds c = going_begins _ _ _ _ _ _ _ _ c.before.before.before.before.requires.1
 
 put-item-requires : tie.Need-put-item-requires invariant-items decreases-items
 put-item-requires c κs =
     let c3 = c.before.before.before in
     let c4 = c3.before in
     let c9 = c4.before.before.before.before.before in
-    (lent-to _ c9.requires.0 c3.items-test.true, going-fits c4.items.invariant c3.items-test.true)
+    (lent_to _ c9.requires.0 c3.items-test.true, going_fits c4.items.invariant c3.items-test.true)
 
 add-i : tie.Need-overflow-add-i invariant-items decreases-items
 add-i c = search rules
@@ -46,7 +46,7 @@ same-length-3 : tie.Need-same-length-3 invariant-items decreases-items
 same-length-3 c = c.before.items.invariant.fills.puts.same_keys
 
 returns : tie.Need-returns invariant-items decreases-items
-returns c = going-ends c.before.items.invariant c.items-test.false
+returns c = going_ends c.before.items.invariant c.items-test.false
 
 pub fill_spec : {M : Type 1} → statement M
 fill_spec =

@@ -2,7 +2,7 @@
 -- How: by what it calls, and the laws of proofs/Raising.antt. Assumes nothing.
 use native.Mathlib.Omega.{arith}
 use mathlib.Core.Path.{refl}
-use Rattle.edit_list.proofs.Raising.{end-most, end-length, elongable, lists}
+use Rattle.edit_list.proofs.Raising.{end_most, end_length, elongable, lists}
 use borrow.Author.Rules.{rules}
 use Rattle.edit_list.proofs.list_of.Statement.{statement}
 use Rattle.edit_list.proofs.list_of.Tie as tie
@@ -19,25 +19,25 @@ slice-aggregate-raws-of-3 c = search rules
 raws-of-requires : tie.Need-raws-of-requires
 raws-of-requires c κs =
     let c9 = c.before.before.before.before.before.before.before.before.before in
-    record { accepted = c9.requires.accepted; short = c9.requires.short; text-fits = c9.requires.text-fits; most = c9.requires.most; in-raw = omega arith; in-spans = omega arith; in-keys = omega arith }
+    record { accepted = c9.requires.accepted; short = c9.requires.short; text_fits = c9.requires.text-fits; most = c9.requires.most; in_raw = omega arith; in_spans = omega arith; in_keys = omega arith }
 
 mul-end : tie.Need-overflow-mul-end
 mul-end c =
     let c6 = c.before.before.before.before.before.before in
     let c16 = c6.before.before.before.before.before.before.before.before.before.before in
-    record { fits = omega (arith, end-most c16.requires refl refl refl c6.raws-of.ensures) }
+    record { fits = omega (arith, end_most c16.requires refl refl refl c6.raws-of.ensures) }
 
 array-share-prefix-raw : tie.Need-array-share-prefix-raw
 array-share-prefix-raw c =
     let c6 = c.before.before.before.before.before.before in
     let c16 = c6.before.before.before.before.before.before.before.before.before.before in
-    end-most c16.requires refl refl refl c6.raws-of.ensures
+    end_most c16.requires refl refl refl c6.raws-of.ensures
 
 slice-aggregate-elongate-at : tie.Need-slice-aggregate-elongate-at
 slice-aggregate-elongate-at c =
     let c7 = c.before.before.before.before.before.before.before in
     let c17 = c7.before.before.before.before.before.before.before.before.before.before in
-    end-length c17.requires refl refl refl c7.raws-of.ensures
+    end_length c17.requires refl refl refl c7.raws-of.ensures
 
 slice-aggregate-elongate-at-2 : tie.Need-slice-aggregate-elongate-at-2
 slice-aggregate-elongate-at-2 c = search rules

@@ -2,7 +2,7 @@
 -- How: each kind of item is a law of proofs/Writing.antt. Assumes nothing.
 use native.Mathlib.Omega.{arith}
 use mathlib.Core.Path.{sym, ◌∙◌}
-use Rattle.edit_list.proofs.Writing.{retain-run, delete-run, no_run, insert-in, insert-fits, insert-puts}
+use Rattle.edit_list.proofs.Writing.{retain_run, delete_run, no_run, insert_in, insert_fits, insert_puts}
 use borrow.Author.Rules.{rules}
 use Rattle.edit_list.proofs.put_item.Statement.{statement}
 use Rattle.edit_list.proofs.put_item.Tie as tie
@@ -18,7 +18,7 @@ put-part-requires c κs =
     let c4 = c.before.before.before.before in
     let c6 = c4.before.before in
     let c11 = c6.before.before.before.before.before in
-    rw (retain-run _ _ _ _ (sym c6.item-at.ensures ∙ c4.n.given.1)) at c11.requires.1
+    rw (retain_run _ _ _ _ (sym c6.item-at.ensures ∙ c4.n.given.1)) at c11.requires.1
 
 enum-known-n-2 : tie.Need-enum-known-n-2
 enum-known-n-2 c = search rules
@@ -28,7 +28,7 @@ put-part-requires-2 c κs =
     let c4 = c.before.before.before.before in
     let c6 = c4.before.before in
     let c11 = c6.before.before.before.before.before in
-    rw (delete-run _ _ _ _ (sym c6.item-at.ensures ∙ c4.n2.given.1)) at c11.requires.1
+    rw (delete_run _ _ _ _ (sym c6.item-at.ensures ∙ c4.n2.given.1)) at c11.requires.1
 
 enum-known-start : tie.Need-enum-known-start
 enum-known-start c = search rules
@@ -41,14 +41,14 @@ add-put-points c =
     let c5 = c.before.before.before.before.before in
     let c7 = c5.before.before in
     let c12 = c7.before.before.before.before.before in
-    record { fits = omega (arith, insert-in _ _ _ _ _ _ _ _ _ _ _ c12.requires.0 c12.requires.1 (sym c7.item-at.ensures ∙ c5.start.given.1), c12.requires.0.most) }
+    record { fits = omega (arith, insert_in _ _ _ _ _ _ _ _ _ _ _ c12.requires.0 c12.requires.1 (sym c7.item-at.ensures ∙ c5.start.given.1), c12.requires.0.most) }
 
 put-points-requires : tie.Need-put-points-requires
 put-points-requires c κs =
     let c7 = c.before.before.before.before.before.before.before in
     let c9 = c7.before.before in
     let c14 = c9.before.before.before.before.before in
-    insert-fits _ _ _ _ _ _ _ _ _ _ _ c14.requires.0 c14.requires.1 (sym c9.item-at.ensures ∙ c7.start.given.1)
+    insert_fits _ _ _ _ _ _ _ _ _ _ _ c14.requires.0 c14.requires.1 (sym c9.item-at.ensures ∙ c7.start.given.1)
 
 add-result : tie.Need-overflow-add-result
 add-result c =
@@ -58,7 +58,7 @@ add-result c =
     record {
       fits = omega (
         arith,
-        (insert-fits _ _ _ _ _ _ _ _ _ _ _ c19.requires.0 c19.requires.1
+        (insert_fits _ _ _ _ _ _ _ _ _ _ _ c19.requires.0 c19.requires.1
             (sym c14.item-at.ensures ∙ c12.start.given.1)).in-keys,
         c19.well-formed.1.1.1.1.1.1.1.0,
       );
@@ -81,7 +81,7 @@ returns c =
     let c6 = c.before.before.before.before.before.before in
     let c11 = c6.before.before.before.before.before in
     let c13 = c11.before.before in
-    rw (retain-run _ _ _ _ (sym c13.item-at.ensures ∙ c11.n.given.1)) c6.put-part.ensures
+    rw (retain_run _ _ _ _ (sym c13.item-at.ensures ∙ c11.n.given.1)) c6.put-part.ensures
 
 same-length-4 : tie.Need-same-length-4
 same-length-4 c = search rules
@@ -97,7 +97,7 @@ returns-2 c =
     let c6 = c.before.before.before.before.before.before in
     let c11 = c6.before.before.before.before.before in
     let c13 = c11.before.before in
-    rw (delete-run _ _ _ _ (sym c13.item-at.ensures ∙ c11.n2.given.1)) c6.put-part2.ensures
+    rw (delete_run _ _ _ _ (sym c13.item-at.ensures ∙ c11.n2.given.1)) c6.put-part2.ensures
 
 same-length-7 : tie.Need-same-length-7
 same-length-7 c = search rules
@@ -115,7 +115,7 @@ returns-3 c =
     let c12 = c9.before.before.before in
     let c14 = c12.before.before in
     let c19 = c14.before.before.before.before.before in
-    insert-puts _ _ _ _ _ _ _ _ _ _ _ c19.requires.0 c19.requires.1 (sym c14.item-at.ensures ∙ c12.start.given.1) c9.put-raw.ensures c4.put-points.ensures
+    insert_puts _ _ _ _ _ _ _ _ _ _ _ c19.requires.0 c19.requires.1 (sym c14.item-at.ensures ∙ c12.start.given.1) c9.put-raw.ensures c4.put-points.ensures
 
 returns-4 : tie.Need-returns-4
 returns-4 c =

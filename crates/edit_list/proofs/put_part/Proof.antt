@@ -36,7 +36,7 @@ returns : tie.Need-returns
 returns c =
     let c4 = c.before.before.before.before in
     let c9 = c4.before.before.before.before.before in
-    record { in-raw = c9.put-raw.ensures; tokens = c4.put-token.ensures; after = refl }
+    record { in_raw = c9.put-raw.ensures; tokens = c4.put-token.ensures; after = refl }
 
 pub put-part-spec : {M : Type 1} → statement M
 put-part-spec =

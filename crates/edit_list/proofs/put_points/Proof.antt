@@ -2,7 +2,7 @@
 -- How: the loop keeps `Pointing`. Assumes nothing.
 use native.Mathlib.Omega.{arith}
 use Prim.Native.Nat.{◌-◌}
-use Rattle.edit_list.proofs.Writing.{Pointing, points-begin, next_fits, points_on, points-end}
+use Rattle.edit_list.proofs.Writing.{Pointing, points_begin, next_fits, points_on, points_end}
 use borrow.Author.Rules.{rules}
 use Rattle.edit_list.proofs.put_points.Statement.{statement}
 use Rattle.edit_list.proofs.put_points.Tie as tie
@@ -14,7 +14,7 @@ abbrev decreases-points : tie.decreases-points
 decreases-points text from count spans₀ keys₀ at j₀ spans keys j = count - j
 
 points-holds : tie.Need-points-init invariant-points decreases-points
-points-holds c = points-begin _ _ _ _ _ _ c.before.before.before.requires
+points-holds c = points_begin _ _ _ _ _ _ c.before.before.before.requires
 
 add-place : tie.Need-overflow-add-place invariant-points decreases-points
 add-place c = record { fits = omega (arith, c.before.before.before.before.before.requires.within, c.before.before.before.before.before.requires.most) }
@@ -65,7 +65,7 @@ same-length-2 : tie.Need-same-length-2 invariant-points decreases-points
 same-length-2 c = c.before.points.invariant.puts.same_keys
 
 returns : tie.Need-returns invariant-points decreases-points
-returns c = points-end c.before.before.before.before.before.requires.within c.before.points.invariant c.points-test.false
+returns c = points_end c.before.before.before.before.before.requires.within c.before.points.invariant c.points-test.false
 
 pub put-points-spec : {M : Type 1} → statement M
 put-points-spec =

@@ -2,7 +2,7 @@
 -- How: three stores are one run of three. Assumes nothing.
 use native.Mathlib.Omega.{arith}
 use lib.ListN.{length-set}
-use Rattle.edit_read.proofs.Filling.{three-stores}
+use Rattle.edit_read.proofs.Filling.{three_stores}
 use borrow.Author.Rules.{rules}
 use Rattle.edit_list.proofs.put_raw.Statement.{statement}
 use Rattle.edit_list.proofs.put_raw.Tie as tie
@@ -38,7 +38,7 @@ same_length : tie.Need-same-length
 same_length c = search rules
 
 returns : tie.Need-returns
-returns c = three-stores _ _ _ _ _ c.requires
+returns c = three_stores _ _ _ _ _ c.requires
 
 pub put-raw-spec : {M : Type 1} → statement M
 put-raw-spec =

@@ -2,7 +2,7 @@
 -- How: its stores are runs of two and of one. Assumes nothing.
 use native.Mathlib.Omega.{arith}
 use lib.ListN.{length-set}
-use Rattle.edit_list.proofs.Writing.{token-put}
+use Rattle.edit_list.proofs.Writing.{token_put}
 use borrow.Author.Rules.{rules}
 use Rattle.edit_list.proofs.put_token.Statement.{statement}
 use Rattle.edit_list.proofs.put_token.Tie as tie
@@ -38,7 +38,7 @@ same-length-2 : tie.Need-same-length-2
 same-length-2 c = search rules
 
 returns : tie.Need-returns
-returns c = token-put _ _ _ (record { start = c.args.start; length = c.args.size; key = c.args.key; joins = 3 }) c.requires.0 c.requires.1
+returns c = token_put _ _ _ (record { start = c.args.start; length = c.args.size; key = c.args.key; joins = 3 }) c.requires.0 c.requires.1
 
 pub put-token-spec : {M : Type 1} → statement M
 put-token-spec =

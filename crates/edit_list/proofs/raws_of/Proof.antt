@@ -1,7 +1,7 @@
 -- Shown: `raws_of` makes a file's raw list.
 -- How: by what it calls, and the laws of proofs/Making.antt. Assumes nothing.
 use native.Mathlib.Omega.{arith}
-use Rattle.edit_list.proofs.Making.{fill-lent, fill-fits, fill-makes}
+use Rattle.edit_list.proofs.Making.{fill_lent, fill_fits, fill_makes}
 use borrow.Author.Rules.{rules}
 use Rattle.edit_list.proofs.raws_of.Statement.{statement}
 use Rattle.edit_list.proofs.raws_of.Tie as tie
@@ -12,7 +12,7 @@ slice-aggregate-read-at c = search rules
 read-at-requires : tie.Need-read-at-requires
 read-at-requires c κs =
     let c7 = c.before.before.before.before.before.before.before in
-    record { accepted = c7.requires.accepted; short = c7.requires.short; text-fits = c7.requires.text-fits; items-fit = omega arith }
+    record { accepted = c7.requires.accepted; short = c7.requires.short; text_fits = c7.requires.text-fits; items_fit = omega arith }
 
 slice-aggregate-fill : tie.Need-slice-aggregate-fill
 slice-aggregate-fill c = search rules
@@ -21,7 +21,7 @@ fill-requires : tie.Need-fill-requires
 fill-requires c κs =
     let c8 = c.before.before.before.before.before.before.before.before in
     let c16 = c8.before.before.before.before.before.before.before.before in
-    (fill-lent c16.requires c8.read_at.ensures, fill-fits c16.requires c8.read_at.ensures)
+    (fill_lent c16.requires c8.read_at.ensures, fill_fits c16.requires c8.read_at.ensures)
 
 same_length : tie.Need-same-length
 same_length c = search rules
@@ -40,7 +40,7 @@ returns c =
     let c6 = c.before.before.before.before.before.before in
     let c15 = c6.before.before.before.before.before.before.before.before.before in
     let c23 = c15.before.before.before.before.before.before.before.before in
-    fill-makes c23.requires c15.read_at.ensures c6.fill.ensures
+    fill_makes c23.requires c15.read_at.ensures c6.fill.ensures
 
 pub raws-of-spec : {M : Type 1} → statement M
 raws-of-spec =

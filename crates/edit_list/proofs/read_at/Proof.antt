@@ -1,6 +1,6 @@
 -- Shown: `read_at` reads an accepted file into the rooms.
 -- How: the answer of `read` is known, since the file is short and the rooms are long. Assumes nothing.
-use Rattle.edit_list.proofs.Making.{read_done, read-never}
+use Rattle.edit_list.proofs.Making.{read_done, read_never}
 use borrow.Author.Rules.{rules}
 use Rattle.edit_list.proofs.read_at.Statement.{statement}
 use Rattle.edit_list.proofs.read_at.Tie as tie
@@ -48,7 +48,7 @@ returns-2 : tie.Need-returns-2
 returns-2 c =
     let c5 = c.before.before.before.before.before in
     let c10 = c5.before.before.before.before.before in
-    absurd (read-never c10.requires c5.read.ensures _ c.enum_told.given.1)
+    absurd (read_never c10.requires c5.read.ensures _ c.enum_told.given.1)
 
 pub read-at-spec : {M : Type 1} → statement M
 read-at-spec =

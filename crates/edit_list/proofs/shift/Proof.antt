@@ -2,7 +2,7 @@
 -- How: the loop keeps `Shifting`. Assumes nothing.
 use native.Mathlib.Omega.{arith}
 use Prim.Native.Nat.{◌-◌}
-use Rattle.edit_list.proofs.Shifting.{Shifting, begins, goes_on, ends, in-room, small}
+use Rattle.edit_list.proofs.Shifting.{Shifting, begins, goes_on, ends, in_room, small}
 use borrow.Author.Rules.{rules}
 use Rattle.edit_list.proofs.shift.Statement.{statement}
 use Rattle.edit_list.proofs.shift.Tie as tie
@@ -26,7 +26,7 @@ mul-operations : tie.Need-overflow-mul-operations invariant-shift decreases-shif
 mul-operations c = search rules
 
 slice-read-operations : tie.Need-slice-read-operations invariant-shift decreases-shift
-slice-read-operations c = omega (arith, in-room c.before.before.shift.invariant c.before.before.before.requires c.before.shift-test.true)
+slice-read-operations c = omega (arith, in_room c.before.before.shift.invariant c.before.before.before.requires c.before.shift-test.true)
 
 add-operations : tie.Need-overflow-add-operations invariant-shift decreases-shift
 add-operations c = record { fits = omega (arith, small c.before.before.shift.invariant c.before.before.before.requires c.before.shift-test.true) }
@@ -35,7 +35,7 @@ mul-operations-2 : tie.Need-overflow-mul-operations-2 invariant-shift decreases-
 mul-operations-2 c = search rules
 
 slice-write-operations : tie.Need-slice-write-operations invariant-shift decreases-shift
-slice-write-operations c = omega (arith, in-room c.before.before.shift.invariant c.before.before.before.requires c.before.shift-test.true)
+slice-write-operations c = omega (arith, in_room c.before.before.shift.invariant c.before.before.before.requires c.before.shift-test.true)
 
 add-i : tie.Need-overflow-add-i invariant-shift decreases-shift
 add-i c = search rules

@@ -3,7 +3,7 @@
 use native.Mathlib.Omega.{arith}
 use borrow.Author.Tests.{eq-eqb, ne_eqb}
 use Rattle.edit_format.specs.Reading.{keeping, dropping, adding, kind_of}
-use Rattle.edit_read.proofs.ItemLines.{cut_off, as-kind}
+use Rattle.edit_read.proofs.ItemLines.{cut_off, as_kind}
 use Rattle.edit_read.proofs.item_line.Statement.{statement}
 use Rattle.edit_read.proofs.item_line.Tie as tie
 
@@ -18,21 +18,21 @@ keep-line-requires c κs = c.before.before.before.before.requires
 
 returns-2 : tie.Need-returns-2
 unfolding kind_of
-returns-2 c = as-kind _ _ keeping c.before.before.before.if1.false (rw (eq-eqb _ _ c.before.if2.true)) c.keep-line.ensures
+returns-2 c = as_kind _ _ keeping c.before.before.before.if1.false (rw (eq-eqb _ _ c.before.if2.true)) c.keep-line.ensures
 
 drop-line-requires : tie.Need-drop-line-requires
 drop-line-requires c κs = c.before.before.before.before.before.requires
 
 returns-3 : tie.Need-returns-3
 unfolding kind_of
-returns-3 c = as-kind _ _ dropping c.before.before.before.before.if1.false (rw (ne_eqb _ _ c.before.before.if2.false, eq-eqb _ _ c.before.if3.true)) c.drop-line.ensures
+returns-3 c = as_kind _ _ dropping c.before.before.before.before.if1.false (rw (ne_eqb _ _ c.before.before.if2.false, eq-eqb _ _ c.before.if3.true)) c.drop-line.ensures
 
 add-line-requires : tie.Need-add-line-requires
 add-line-requires c κs = c.before.before.before.before.before.requires
 
 returns-4 : tie.Need-returns-4
 unfolding kind_of
-returns-4 c = as-kind _ _ adding c.before.before.before.before.if1.false (rw (ne_eqb _ _ c.before.before.if2.false, ne_eqb _ _ c.before.if3.false)) c.add-line.ensures
+returns-4 c = as_kind _ _ adding c.before.before.before.before.if1.false (rw (ne_eqb _ _ c.before.before.if2.false, ne_eqb _ _ c.before.if3.false)) c.add-line.ensures
 
 pub item-line-spec : {M : Type 1} → statement M
 item-line-spec =

@@ -1,6 +1,6 @@
 -- Shown: `judge` meets its contract.
 -- How: each way through it is a law of proofs/Judging.antt.
-use Rattle.edit_read.proofs.Judging.{bad-header}
+use Rattle.edit_read.proofs.Judging.{bad_header}
 use borrow.Author.Rules.{rules}
 use Rattle.edit_read.proofs.judge.Statement.{statement}
 use Rattle.edit_read.proofs.judge.Tie as tie
@@ -21,7 +21,7 @@ returns : tie.Need-returns
 returns c = c.judge-items.ensures
 
 returns-2 : tie.Need-returns-2
-returns-2 c = bad-header (rw c.before.line.given.1 at c.before.before.before.read-header.ensures)
+returns-2 c = bad_header (rw c.before.line.given.1 at c.before.before.before.read-header.ensures)
 
 pub judge-spec : {M : Type 1} → statement M
 judge-spec =

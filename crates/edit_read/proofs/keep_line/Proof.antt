@@ -2,8 +2,8 @@
 -- How: each way through it is a law of proofs/ItemLines.antt.
 use mathlib.Core.Path.{refl, sym, ◌∙◌}
 use native.Mathlib.Omega.{arith}
-use Rattle.edit_format.specs.Reading.{keeping, kindKey, hexes}
-use Rattle.edit_read.proofs.ItemLines.{no_line, keep-joined, keep-none, keep-over, keep-fits}
+use Rattle.edit_format.specs.Reading.{keeping, kind_key, hexes}
+use Rattle.edit_read.proofs.ItemLines.{no_line, keep_joined, keep_none, keep_over, keep_fits}
 use borrow.Author.Rules.{rules}
 use Rattle.edit_read.proofs.keep_line.Statement.{statement}
 use Rattle.edit_read.proofs.keep_line.Tie as tie
@@ -18,19 +18,19 @@ enum-known-value : tie.Need-enum-known-value
 enum-known-value c = search rules
 
 returns : tie.Need-returns
-unfolding kindKey
-returns c = keep-joined _ _ (sym c.before.before.before.before.number-line.ensures ∙ c.before.before.value.given.1) c.if1.true
+unfolding kind_key
+returns c = keep_joined _ _ (sym c.before.before.before.before.number-line.ensures ∙ c.before.before.value.given.1) c.if1.true
 
 returns-2 : tie.Need-returns-2
-unfolding kindKey
-returns-2 c = keep-none _ _ (sym c.before.before.before.before.before.number-line.ensures ∙ c.before.before.before.value.given.1) c.if2.true
+unfolding kind_key
+returns-2 c = keep_none _ _ (sym c.before.before.before.before.before.number-line.ensures ∙ c.before.before.before.value.given.1) c.if2.true
 
 sub-if3 : tie.Need-overflow-sub-if3
 sub-if3 c = search rules
 
 returns-3 : tie.Need-returns-3
-unfolding kindKey
-returns-3 c = keep-over _ _ (sym c.before.before.before.before.before.before.number-line.ensures ∙ c.before.before.before.before.value.given.1) (omega (arith, c.before.before.before.before.before.before.before.before.before.requires.used))
+unfolding kind_key
+returns-3 c = keep_over _ _ (sym c.before.before.before.before.before.before.number-line.ensures ∙ c.before.before.before.before.value.given.1) (omega (arith, c.before.before.before.before.before.before.before.before.before.requires.used))
 
 add-t14 : tie.Need-overflow-add-t14
 add-t14 c = search rules
@@ -42,11 +42,11 @@ enum_told : tie.Need-enum-told
 enum_told c = search rules
 
 returns-4 : tie.Need-returns-4
-unfolding kindKey
-returns-4 c = keep-fits _ _ c.before.before.before.before.before.before.before.before.before.before.requires (sym c.before.before.before.before.before.before.before.number-line.ensures ∙ c.before.before.before.before.before.value.given.1) c.before.before.before.if1.false (omega arith) (omega (arith, c.before.before.before.before.before.before.before.before.before.before.requires.used))
+unfolding kind_key
+returns-4 c = keep_fits _ _ c.before.before.before.before.before.before.before.before.before.before.requires (sym c.before.before.before.before.before.before.before.number-line.ensures ∙ c.before.before.before.before.before.value.given.1) c.before.before.before.if1.false (omega arith) (omega (arith, c.before.before.before.before.before.before.before.before.before.before.requires.used))
 
 returns-5 : tie.Need-returns-5
-unfolding kindKey hexes
+unfolding kind_key hexes
 returns-5 c = no_line _ _ keeping refl (sym c.before.before.number-line.ensures ∙ c.enum_told.given.1)
 
 pub keep-line-spec : {M : Type 1} → statement M

@@ -2,7 +2,7 @@
 -- How: loop `points` keeps `SoFar`, and each way through it is a law of proofs/Adding.antt.
 use Prim.Native.Nat.{◌-◌, ◌+◌}
 use mathlib.Core.Path.{sym, ◌∙◌}
-use Rattle.edit_read.proofs.Adding.{SoFar, starts, goes_on, ends, fails, is-full}
+use Rattle.edit_read.proofs.Adding.{SoFar, starts, goes_on, ends, fails, is_full}
 use borrow.Author.Rules.{rules}
 use Rattle.edit_read.proofs.points_at.Statement.{statement}
 use Rattle.edit_read.proofs.points_at.Tie as tie
@@ -50,7 +50,7 @@ returns-2 : tie.Need-returns-2 invariant-points decreases-points
 returns-2 c = fails _ _ _ _ _ c.before.before.before.before.points.invariant c.before.before.before.points-test.true (sym c.before.before.point_at.ensures ∙ c.enum_told.given.1)
 
 returns-3 : tie.Need-returns-3 invariant-points decreases-points
-returns-3 c = is-full _ _ _ _ _ c.before.points.invariant c.points-test.false
+returns-3 c = is_full _ _ _ _ _ c.before.points.invariant c.points-test.false
 
 pub points-at-spec : {M : Type 1} → statement M
 points-at-spec =

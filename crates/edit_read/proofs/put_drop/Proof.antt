@@ -4,10 +4,10 @@ use mir.Syntax.{w64}
 use mir.Facts.{to_z-of_z}
 use mathlib.Core.Path.{refl, ◌∙◌}
 use native.Mathlib.Omega.{arith}
-use Rattle.edit_format.specs.Records.{recordOf}
-use Rattle.edit_format.specs.Reading.{dropping, kindKey, hexes, item_of}
+use Rattle.edit_format.specs.Records.{record_of}
+use Rattle.edit_format.specs.Reading.{dropping, kind_key, hexes, item_of}
 use Rattle.edit_lines.proofs.Lines.{starts}
-use Rattle.edit_read.proofs.Filling.{number-line, number_put}
+use Rattle.edit_read.proofs.Filling.{number_line, number_put}
 use borrow.Author.Rules.{rules}
 use Rattle.edit_read.proofs.put_drop.Statement.{statement}
 use Rattle.edit_read.proofs.put_drop.Tie as tie
@@ -31,8 +31,8 @@ same_length : tie.Need-same-length
 same_length c = search rules
 
 returns : tie.Need-returns
-unfolding kindKey hexes item_of recordOf
-returns c = number_put _ dropping refl _ _ _ _ (number-line _ dropping refl _ refl c.before.before.before.before.before.before.before.requires.1 c.before.before.before.before.before.judged-line.ensures) (c.before.put_record.ensures ∙ rw (to_z-of_z {w = w64} {z = c.before.before.dropped-number.result} (record { sfits = c.before.before.dropped-number.type-inv }) ∙ c.before.before.dropped-number.ensures))
+unfolding kind_key hexes item_of record_of
+returns c = number_put _ dropping refl _ _ _ _ (number_line _ dropping refl _ refl c.before.before.before.before.before.before.before.requires.1 c.before.before.before.before.before.judged-line.ensures) (c.before.put_record.ensures ∙ rw (to_z-of_z {w = w64} {z = c.before.before.dropped-number.result} (record { sfits = c.before.before.dropped-number.type-inv }) ∙ c.before.before.dropped-number.ensures))
 
 pub put-drop-spec : {M : Type 1} → statement M
 put-drop-spec =

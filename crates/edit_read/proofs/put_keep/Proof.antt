@@ -4,10 +4,10 @@ use mir.Syntax.{w64}
 use mir.Facts.{to_z-of_z}
 use mathlib.Core.Path.{refl, ◌∙◌}
 use native.Mathlib.Omega.{arith}
-use Rattle.edit_format.specs.Records.{recordOf}
-use Rattle.edit_format.specs.Reading.{keeping, kindKey, hexes, item_of}
+use Rattle.edit_format.specs.Records.{record_of}
+use Rattle.edit_format.specs.Reading.{keeping, kind_key, hexes, item_of}
 use Rattle.edit_lines.proofs.Lines.{starts}
-use Rattle.edit_read.proofs.Filling.{number-line, number_put}
+use Rattle.edit_read.proofs.Filling.{number_line, number_put}
 use borrow.Author.Rules.{rules}
 use Rattle.edit_read.proofs.put_keep.Statement.{statement}
 use Rattle.edit_read.proofs.put_keep.Tie as tie
@@ -31,8 +31,8 @@ same_length : tie.Need-same-length
 same_length c = search rules
 
 returns : tie.Need-returns
-unfolding kindKey hexes item_of recordOf
-returns c = number_put _ keeping refl _ _ _ _ (number-line _ keeping refl _ refl c.before.before.before.before.before.before.before.requires.1 c.before.before.before.before.before.judged-line.ensures) (c.before.put_record.ensures ∙ rw (to_z-of_z {w = w64} {z = c.before.before.plain-number.result} (record { sfits = c.before.before.plain-number.type-inv }) ∙ c.before.before.plain-number.ensures))
+unfolding kind_key hexes item_of record_of
+returns c = number_put _ keeping refl _ _ _ _ (number_line _ keeping refl _ refl c.before.before.before.before.before.before.before.requires.1 c.before.before.before.before.before.judged-line.ensures) (c.before.put_record.ensures ∙ rw (to_z-of_z {w = w64} {z = c.before.before.plain-number.result} (record { sfits = c.before.before.plain-number.type-inv }) ∙ c.before.before.plain-number.ensures))
 
 pub put-keep-spec : {M : Type 1} → statement M
 put-keep-spec =

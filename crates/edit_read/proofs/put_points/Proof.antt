@@ -4,7 +4,7 @@ use Prim.Native.Nat.{◌-◌}
 use mathlib.Core.Path.{sym, ◌∙◌}
 use native.Mathlib.Omega.{arith}
 use lib.ListN.{length, length-set}
-use Rattle.edit_read.proofs.Filling.{Putting, starts, stands, goes_on, ends, fails, is-full}
+use Rattle.edit_read.proofs.Filling.{Putting, starts, stands, goes_on, ends, fails, is_full}
 use borrow.Author.Rules.{rules}
 use Rattle.edit_read.proofs.put_points.Statement.{statement}
 use Rattle.edit_read.proofs.put_points.Tie as tie
@@ -70,7 +70,7 @@ same-length-3 : tie.Need-same-length-3 invariant-points decreases-points
 same-length-3 c = c.before.points.invariant.same
 
 returns-3 : tie.Need-returns-3 invariant-points decreases-points
-returns-3 c = is-full c.before.points.invariant c.points-test.false
+returns-3 c = is_full c.before.points.invariant c.points-test.false
 
 pub put-points-spec : {M : Type 1} → statement M
 put-points-spec =

@@ -1,6 +1,6 @@
 -- Shown: `read` meets its contract.
 -- How: each way through it is a law of proofs/Filled.antt.
-use Rattle.edit_read.proofs.Filled.{refused, few-records, little-text, fillable, filled}
+use Rattle.edit_read.proofs.Filled.{refused, few_records, little_text, fillable, filled}
 use borrow.Author.Rules.{rules}
 use Rattle.edit_read.proofs.read.Statement.{statement}
 use Rattle.edit_read.proofs.read.Tie as tie
@@ -12,10 +12,10 @@ enum-known-count : tie.Need-enum-known-count
 enum-known-count c = search rules
 
 returns : tie.Need-returns
-returns c = few-records (rw c.before.before.count.given.1 at c.before.before.before.before.judge.ensures) c.if1.true
+returns c = few_records (rw c.before.before.count.given.1 at c.before.before.before.before.judge.ensures) c.if1.true
 
 returns-2 : tie.Need-returns-2
-returns-2 c = little-text (rw c.before.before.before.count.given.1 at c.before.before.before.before.before.judge.ensures) c.before.if1.false c.if2.true
+returns-2 c = little_text (rw c.before.before.before.count.given.1 at c.before.before.before.before.before.judge.ensures) c.before.if1.false c.if2.true
 
 fill-requires : tie.Need-fill-requires
 fill-requires c κs = fillable _ _ (rw c.before.before.before.before.before.count.given.1 at c.before.before.before.before.before.before.before.judge.ensures) c.before.before.before.if1.false c.before.before.if2.false

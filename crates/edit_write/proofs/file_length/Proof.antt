@@ -1,7 +1,7 @@
 -- Shown: `file_length` answers the length of the file, capped.
 -- How: each way through it is a law of proofs/Counting.antt.
 use borrow.Author.Rules.{rules}
-use Rattle.edit_write.proofs.Counting.{file-sum}
+use Rattle.edit_write.proofs.Counting.{file_sum}
 use native.Mathlib.Omega.{arith}
 use mathlib.Core.Path.{refl}
 use Rattle.edit_write.proofs.file_length.Statement.{statement}
@@ -35,7 +35,7 @@ plus-requires-5 : tie.Need-plus-requires-5
 plus-requires-5 c κs = omega (arith, c.before.plus4.ensures)
 
 returns : tie.Need-returns
-returns c = λ t e. file-sum _ t _ _ refl c.before.before.before.before.before.before.before.before.line-length.ensures c.before.before.before.before.before.before.before.plus.ensures c.before.before.before.before.before.before.line-length2.ensures c.before.before.before.before.before.plus2.ensures c.before.before.before.before.line-length3.ensures c.before.before.before.plus3.ensures e c.before.before.plus4.ensures c.before.line-length4.ensures c.plus5.ensures
+returns c = λ t e. file_sum _ t _ _ refl c.before.before.before.before.before.before.before.before.line-length.ensures c.before.before.before.before.before.before.before.plus.ensures c.before.before.before.before.before.before.line-length2.ensures c.before.before.before.before.before.plus2.ensures c.before.before.before.before.line-length3.ensures c.before.before.before.plus3.ensures e c.before.before.plus4.ensures c.before.line-length4.ensures c.plus5.ensures
 
 pub file-length-spec : {M : Type 1} → statement M
 file-length-spec =

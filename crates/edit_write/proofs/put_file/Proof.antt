@@ -1,7 +1,7 @@
 -- Shown: `put_file` meets its contract.
 -- How: each way through it is a law of proofs/Finishing.antt.
 use borrow.Author.Rules.{rules}
-use Rattle.edit_write.proofs.Finishing.{form_in, original-in, result-in, count-in, items-in, end-in, file-put, file-long}
+use Rattle.edit_write.proofs.Finishing.{form_in, original_in, result_in, count_in, items_in, end_in, file_put, file_long}
 use Rattle.edit_write.proofs.put_file.Statement.{statement}
 use Rattle.edit_write.proofs.put_file.Tie as tie
 
@@ -15,34 +15,34 @@ slice-aggregate-put-line-2 : tie.Need-slice-aggregate-put-line-2
 slice-aggregate-put-line-2 c = search rules
 
 put-line-requires-2 : tie.Need-put-line-requires-2
-put-line-requires-2 c κs = original-in _ _ _ _ _ c.before.before.before.before.before.before.before.before.before.requires c.before.before.before.before.put-line.ensures
+put-line-requires-2 c κs = original_in _ _ _ _ _ c.before.before.before.before.before.before.before.before.before.requires c.before.before.before.before.put-line.ensures
 
 slice-aggregate-put-line-3 : tie.Need-slice-aggregate-put-line-3
 slice-aggregate-put-line-3 c = search rules
 
 put-line-requires-3 : tie.Need-put-line-requires-3
-put-line-requires-3 c κs = result-in _ _ _ _ _ c.before.before.before.before.before.before.before.before.before.before.before.before.before.before.requires c.before.before.before.before.before.before.before.before.before.put-line.ensures c.before.before.before.before.put-line2.ensures
+put-line-requires-3 c κs = result_in _ _ _ _ _ c.before.before.before.before.before.before.before.before.before.before.before.before.before.before.requires c.before.before.before.before.before.before.before.before.before.put-line.ensures c.before.before.before.before.put-line2.ensures
 
 slice-aggregate-put-line-4 : tie.Need-slice-aggregate-put-line-4
 slice-aggregate-put-line-4 c = search rules
 
 put-line-requires-4 : tie.Need-put-line-requires-4
-put-line-requires-4 c κs = count-in _ _ _ _ _ c.before.before.before.before.before.before.before.before.before.before.before.before.before.before.before.before.before.before.before.requires c.before.before.before.before.before.before.before.before.before.before.before.before.before.before.put-line.ensures c.before.before.before.before.before.before.before.before.before.put-line2.ensures c.before.before.before.before.put-line3.ensures
+put-line-requires-4 c κs = count_in _ _ _ _ _ c.before.before.before.before.before.before.before.before.before.before.before.before.before.before.before.before.before.before.before.requires c.before.before.before.before.before.before.before.before.before.before.before.before.before.before.put-line.ensures c.before.before.before.before.before.before.before.before.before.put-line2.ensures c.before.before.before.before.put-line3.ensures
 
 put-items-requires : tie.Need-put-items-requires
-put-items-requires c κs = items-in _ _ _ _ _ c.before.before.before.before.before.before.before.before.before.before.before.before.before.before.before.before.before.before.before.before.before.before.before.requires c.before.before.before.before.before.before.before.before.before.before.before.before.before.before.before.before.before.before.put-line.ensures c.before.before.before.before.before.before.before.before.before.before.before.before.before.put-line2.ensures c.before.before.before.before.before.before.before.before.put-line3.ensures c.before.before.before.put-line4.ensures
+put-items-requires c κs = items_in _ _ _ _ _ c.before.before.before.before.before.before.before.before.before.before.before.before.before.before.before.before.before.before.before.before.before.before.before.requires c.before.before.before.before.before.before.before.before.before.before.before.before.before.before.before.before.before.before.put-line.ensures c.before.before.before.before.before.before.before.before.before.before.before.before.before.put-line2.ensures c.before.before.before.before.before.before.before.before.put-line3.ensures c.before.before.before.put-line4.ensures
 
 slice-aggregate-put-line-5 : tie.Need-slice-aggregate-put-line-5
 slice-aggregate-put-line-5 c = search rules
 
 put-line-requires-5 : tie.Need-put-line-requires-5
-put-line-requires-5 c κs = end-in _ _ _ _ _ c.before.before.before.before.before.before.before.before.before.before.before.before.before.before.before.before.before.before.before.before.before.before.before.before.before.before.before.before.requires c.before.before.before.before.before.before.before.before.before.before.before.before.before.before.before.before.before.before.before.before.before.before.before.put-line.ensures c.before.before.before.before.before.before.before.before.before.before.before.before.before.before.before.before.before.before.put-line2.ensures c.before.before.before.before.before.before.before.before.before.before.before.before.before.put-line3.ensures c.before.before.before.before.before.before.before.before.put-line4.ensures c.before.before.before.before.put-items.ensures
+put-line-requires-5 c κs = end_in _ _ _ _ _ c.before.before.before.before.before.before.before.before.before.before.before.before.before.before.before.before.before.before.before.before.before.before.before.before.before.before.before.before.requires c.before.before.before.before.before.before.before.before.before.before.before.before.before.before.before.before.before.before.before.before.before.before.before.put-line.ensures c.before.before.before.before.before.before.before.before.before.before.before.before.before.before.before.before.before.before.put-line2.ensures c.before.before.before.before.before.before.before.before.before.before.before.before.before.put-line3.ensures c.before.before.before.before.before.before.before.before.put-line4.ensures c.before.before.before.before.put-items.ensures
 
 same_length : tie.Need-same-length
-same_length c = file-long _ _ _ _ _ c.before.before.before.before.before.before.before.before.before.before.before.before.before.before.before.before.before.before.before.before.before.before.before.before.before.before.before.before.before.before.before.requires c.before.before.before.before.before.before.before.before.before.before.before.before.before.before.before.before.before.before.before.before.before.before.before.before.before.before.put-line.ensures c.before.before.before.before.before.before.before.before.before.before.before.before.before.before.before.before.before.before.before.before.before.put-line2.ensures c.before.before.before.before.before.before.before.before.before.before.before.before.before.before.before.before.put-line3.ensures c.before.before.before.before.before.before.before.before.before.before.before.put-line4.ensures c.before.before.before.before.before.before.before.put-items.ensures c.before.before.put-line5.ensures
+same_length c = file_long _ _ _ _ _ c.before.before.before.before.before.before.before.before.before.before.before.before.before.before.before.before.before.before.before.before.before.before.before.before.before.before.before.before.before.before.before.requires c.before.before.before.before.before.before.before.before.before.before.before.before.before.before.before.before.before.before.before.before.before.before.before.before.before.before.put-line.ensures c.before.before.before.before.before.before.before.before.before.before.before.before.before.before.before.before.before.before.before.before.before.put-line2.ensures c.before.before.before.before.before.before.before.before.before.before.before.before.before.before.before.before.put-line3.ensures c.before.before.before.before.before.before.before.before.before.before.before.put-line4.ensures c.before.before.before.before.before.before.before.put-items.ensures c.before.before.put-line5.ensures
 
 returns : tie.Need-returns
-returns c = file-put _ _ _ _ _ c.before.before.before.before.before.before.before.before.before.before.before.before.before.before.before.before.before.before.before.before.before.before.before.before.before.before.before.before.before.before.before.requires c.before.before.before.before.before.before.before.before.before.before.before.before.before.before.before.before.before.before.before.before.before.before.before.before.before.before.put-line.ensures c.before.before.before.before.before.before.before.before.before.before.before.before.before.before.before.before.before.before.before.before.before.put-line2.ensures c.before.before.before.before.before.before.before.before.before.before.before.before.before.before.before.before.put-line3.ensures c.before.before.before.before.before.before.before.before.before.before.before.put-line4.ensures c.before.before.before.before.before.before.before.put-items.ensures c.before.before.put-line5.ensures
+returns c = file_put _ _ _ _ _ c.before.before.before.before.before.before.before.before.before.before.before.before.before.before.before.before.before.before.before.before.before.before.before.before.before.before.before.before.before.before.before.requires c.before.before.before.before.before.before.before.before.before.before.before.before.before.before.before.before.before.before.before.before.before.before.before.before.before.before.put-line.ensures c.before.before.before.before.before.before.before.before.before.before.before.before.before.before.before.before.before.before.before.before.before.put-line2.ensures c.before.before.before.before.before.before.before.before.before.before.before.before.before.before.before.before.put-line3.ensures c.before.before.before.before.before.before.before.before.before.before.before.put-line4.ensures c.before.before.before.before.before.before.before.put-items.ensures c.before.before.put-line5.ensures
 
 pub put-file-spec : {M : Type 1} → statement M
 put-file-spec =

@@ -1,7 +1,7 @@
 -- Shown: `write` meets its contract.
 -- How: each way through it is a law of proofs/Finishing.antt.
 use borrow.Author.Rules.{rules}
-use Rattle.edit_write.proofs.Finishing.{small, lines_are, lines-most, no_room, fits_in, whole, write-refused}
+use Rattle.edit_write.proofs.Finishing.{small, lines_are, lines_most, no_room, fits_in, whole, write_refused}
 use native.Mathlib.Omega.{arith}
 use mathlib.Core.Path.{sym, ◌∙◌}
 use Rattle.edit_write.proofs.write.Statement.{statement}
@@ -17,7 +17,7 @@ add-result : tie.Need-overflow-add-result
 add-result c = let w = small _ _ (sym c.before.before.sums.given.1 ∙ c.before.before.before.before.check.ensures) in omega (arith, w.0, w.1)
 
 file-length-requires : tie.Need-file-length-requires
-file-length-requires c κs = lines-most _ _ (sym c.before.before.sums.given.1 ∙ c.before.before.before.before.check.ensures)
+file-length-requires c κs = lines_most _ _ (sym c.before.before.sums.given.1 ∙ c.before.before.before.before.check.ensures)
 
 returns : tie.Need-returns
 returns c = let e = sym c.before.before.before.before.sums.given.1 ∙ c.before.before.before.before.before.before.check.ensures in no_room _ _ e _ (c.before.file-length.ensures _ (lines_are _ _ e)) c.if1.true
@@ -35,7 +35,7 @@ returns-2 : tie.Need-returns-2
 returns-2 c = let e = sym c.before.before.before.before.before.before.before.before.sums.given.1 ∙ c.before.before.before.before.before.before.before.before.before.before.check.ensures in whole _ _ e _ (c.before.before.before.before.before.file-length.ensures _ (lines_are _ _ e)) c.before.before.before.before.if1.false c.before.before.put-file.ensures
 
 returns-3 : tie.Need-returns-3
-returns-3 c = write-refused _ _ (sym c.before.refusal.given.1 ∙ c.before.before.before.check.ensures) _
+returns-3 c = write_refused _ _ (sym c.before.refusal.given.1 ∙ c.before.before.before.check.ensures) _
 
 pub write_spec : {M : Type 1} → statement M
 write_spec =

@@ -4,8 +4,8 @@ use borrow.Author.Rules.{rules}
 use borrow.Author.Tests.{not-true, not-false}
 use mathlib.Core.Path.{sym, ◌∙◌}
 use native.Mathlib.Omega.{arith}
-use Rattle.sizes.proofs.Fits.{merging-small}
-use Rattle.edited_text.proofs.Answering.{refused, half-small, no_room, mergeable, answers}
+use Rattle.sizes.proofs.Fits.{merging_small}
+use Rattle.edited_text.proofs.Answering.{refused, half_small, no_room, mergeable, answers}
 use Rattle.edited_text.proofs.merge.Statement.{statement}
 use Rattle.edited_text.proofs.merge.Tie as tie
 
@@ -13,7 +13,7 @@ merging-limits-requires : tie.Need-merging-limits-requires
 merging-limits-requires c κs = search rules
 
 sum-lists-requires : tie.Need-sum-lists-requires
-sum-lists-requires c κs = merging-small c.merging-limits.ensures
+sum-lists-requires c κs = merging_small c.merging-limits.ensures
 
 enum-known-refusal : tie.Need-enum-known-refusal
 enum-known-refusal c = search rules
@@ -25,7 +25,7 @@ add_half : tie.Need-overflow-add-half
 add_half c =
     let c3 = c.before.before.before in
     let a = c3.before.before.before.before.before.before.before.before.before.before.before.before.before.args in
-    omega (arith, half-small a.original.now a.text.now a.spans.now a.keys.now a.left.now a.right.now a.left-cursors.now a.right-cursors.now a.operations.now a.cursors.now a.work.now _ c3.before.merging-limits.ensures _ c3.sum-lists.ensures _ _ c.before.mid.given.1)
+    omega (arith, half_small a.original.now a.text.now a.spans.now a.keys.now a.left.now a.right.now a.left-cursors.now a.right-cursors.now a.operations.now a.cursors.now a.work.now _ c3.before.merging-limits.ensures _ c3.sum-lists.ensures _ _ c.before.mid.given.1)
 
 add-rooms-fit : tie.Need-overflow-add-rooms-fit
 add-rooms-fit c = search rules

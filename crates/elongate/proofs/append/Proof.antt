@@ -1,6 +1,6 @@
 -- `append` puts the tokens of a raw operation into their rooms.
 -- The parts that are copied are the tokens' numbers, by Pieces. Assumes nothing.
-use Rattle.raw_lists.proofs.Pieces.{spans-part, keys-part, joins_part}
+use Rattle.raw_lists.proofs.Pieces.{spans_part, keys_part, joins_part}
 use mathlib.Core.Path.{◌∙◌}
 use borrow.Author.Rules.{rules}
 use Rattle.elongate.proofs.append.Statement.{statement}
@@ -76,12 +76,12 @@ returns c =
     let c12 = c7.before.before.before.before.before in
     let c22 = c12.before.before.before.before.before.before.before.before.before.before in
     let b = c22 in record {
-      in-spans = c12.put-u32.ensures.stands ∙ rw
-          (spans-part b.args.spans.now b.args.keys.now b.args.joins.now b.args.r.first b.args.r.count
+      in_spans = c12.put-u32.ensures.stands ∙ rw
+          (spans_part b.args.spans.now b.args.keys.now b.args.joins.now b.args.r.first b.args.r.count
           b.requires.lent);
-      in-keys = c7.put-u322.ensures.stands ∙ rw (keys-part b.args.spans.now b.args.keys.now
+      in_keys = c7.put-u322.ensures.stands ∙ rw (keys_part b.args.spans.now b.args.keys.now
           b.args.joins.now b.args.r.first b.args.r.count b.requires.lent);
-      in-joins = c2.put-u8.ensures.stands ∙ rw
+      in_joins = c2.put-u8.ensures.stands ∙ rw
           (joins_part b.args.spans.now b.args.keys.now b.args.joins.now b.args.r.first b.args.r.count
           b.requires.lent);
     }

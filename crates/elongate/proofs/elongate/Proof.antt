@@ -1,8 +1,8 @@
 -- `elongate` answers and leaves its rooms as the definition says.
 -- Each way is a law of Answering. Assumes nothing.
 use Rattle.elongate.proofs.Answering.{ready, accepts, no_room, writes, refuses}
-use Rattle.elongate.specs.Verdicts.{rawVerdict}
-use Rattle.verdict.proofs.Chains.{stops, goes_on, too-big, fits}
+use Rattle.elongate.specs.Verdicts.{raw_verdict}
+use Rattle.verdict.proofs.Chains.{stops, goes_on, too_big, fits}
 use borrow.Author.Tests.{not-true, not-false}
 use mathlib.Core.Path.{sym, ◌∙◌}
 use borrow.Author.Rules.{rules}
@@ -13,12 +13,12 @@ raw-fits-requires : tie.Need-raw-fits-requires
 raw-fits-requires c κs = search rules
 
 returns : tie.Need-returns
-unfolding rawVerdict
+unfolding raw_verdict
 returns c =
     let c11 = c.before.before.before.before.before.before.before.before.before.before.before in
     refuses c11.args.raw.now c11.args.spans.now c11.args.keys.now c11.args.joins.now c11.args.text.now
     c11.args.operations.now c11.args.spanned.now c11.args.keyed.now c11.args.joined.now _ _
-    (sym (too-big _ _ (sym c.before.raw-fits.ensures ∙ not-true _ c.if1.true)))
+    (sym (too_big _ _ (sym c.before.raw-fits.ensures ∙ not-true _ c.if1.true)))
 
 check-text-requires : tie.Need-check-text-requires
 check-text-requires c κs = search rules
@@ -78,7 +78,7 @@ write-requires c κs =
     c6.claimed.result c6.claimed.ensures (sym c5.rooms-fit.ensures ∙ not-false _ c4.if2.false)
 
 returns-3 : tie.Need-returns-3
-unfolding rawVerdict
+unfolding raw_verdict
 returns-3 c =
     let c3 = c.before.before.before in
     let c4 = c3.before in
@@ -90,7 +90,7 @@ returns-3 c =
     (stops _ _ _ (sym c3.check-text.ensures ∙ c.before.refusal.given.1))))
 
 returns-4 : tie.Need-returns-4
-unfolding rawVerdict
+unfolding raw_verdict
 returns-4 c =
     let c3 = c.before.before.before in
     let c4 = c3.before in

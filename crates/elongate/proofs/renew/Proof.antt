@@ -1,6 +1,6 @@
 -- `renew` makes the next current operation.
 -- What the last consumed is at most its length, so the sums fit. Assumes nothing.
-use Rattle.elongate.proofs.Cooking.{consumes-most}
+use Rattle.elongate.proofs.Cooking.{consumes_most}
 use native.Mathlib.Omega.{arith}
 use borrow.Author.Rules.{rules}
 use Rattle.elongate.proofs.renew.Statement.{statement}
@@ -10,7 +10,7 @@ consumed-requires : tie.Need-consumed-requires
 consumed-requires c κs = search rules
 
 add-t7 : tie.Need-overflow-add-t7
-add-t7 c = omega (arith, c.before.consumed.ensures, consumes-most c.before.before.args.current.kind c.before.before.args.current.length)
+add-t7 c = omega (arith, c.before.consumed.ensures, consumes_most c.before.before.args.current.kind c.before.before.args.current.length)
 
 add-t8 : tie.Need-overflow-add-t8
 add-t8 c = search rules

@@ -1,6 +1,6 @@
 -- `step_inserts` steps through a stretch for its inserts and the retain behind them.
 -- One law of Walks for each answer. Assumes nothing.
-use Rattle.elongate.proofs.Walks.{skips-delete, takes-insert, takes-retain, gives_none}
+use Rattle.elongate.proofs.Walks.{skips_delete, takes_insert, takes_retain, gives_none}
 use borrow.Author.Rules.{rules}
 use Rattle.elongate.proofs.step_inserts.Statement.{statement}
 use Rattle.elongate.proofs.step_inserts.Tie as tie
@@ -16,7 +16,7 @@ returns c =
     let c2 = c.before.before in
     let c3 = c2.before in
     let c5 = c3.before.before in
-    skips-delete c5.args.raw.now c5.args.at c5.args.end c5.requires.1 c2.raw_at.result c3.if1.true c2.raw_at.ensures c.if2.true
+    skips_delete c5.args.raw.now c5.args.at c5.args.end c5.requires.1 c2.raw_at.result c3.if1.true c2.raw_at.ensures c.if2.true
 
 add-t9 : tie.Need-overflow-add-t9
 add-t9 c = search rules
@@ -26,7 +26,7 @@ returns-2 c =
     let c2 = c.before.before in
     let c3 = c2.before in
     let c5 = c3.before.before in
-    takes-insert c5.args.raw.now c5.args.at c5.args.end c5.requires.1 c2.raw_at.result c3.if1.true c2.raw_at.ensures c.if2.false
+    takes_insert c5.args.raw.now c5.args.at c5.args.end c5.requires.1 c2.raw_at.result c3.if1.true c2.raw_at.ensures c.if2.false
 
 add-t13 : tie.Need-overflow-add-t13
 add-t13 c = search rules
@@ -37,7 +37,7 @@ add-t14 c = search rules
 returns-3 : tie.Need-returns-3
 returns-3 c =
     let c3 = c.before.before.before in
-    takes-retain c3.args.raw.now c3.args.at c3.args.end c3.requires.1 c.before.if1.false c3.requires.0 c.if3.true
+    takes_retain c3.args.raw.now c3.args.at c3.args.end c3.requires.1 c.before.if1.false c3.requires.0 c.if3.true
 
 returns-4 : tie.Need-returns-4
 returns-4 c =

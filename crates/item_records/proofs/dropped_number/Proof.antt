@@ -1,6 +1,6 @@
 -- Shown: `dropped_number` answers a delete's number, negative.
 -- How: it is far above the smallest, so its negation fits.
-use Rattle.item_records.proofs.Signs.{minus-fits, as-minus}
+use Rattle.item_records.proofs.Signs.{minus_fits, as_minus}
 use native.Mathlib.Omega.{arith}
 use borrow.Author.Rules.{rules}
 use Rattle.item_records.proofs.dropped_number.Statement.{statement}
@@ -10,10 +10,10 @@ cast-result : tie.Need-overflow-cast-result
 cast-result c = search rules
 
 sub-result : tie.Need-overflow-sub-result
-sub-result c = minus-fits c.args.n (omega arith)
+sub-result c = minus_fits c.args.n (omega arith)
 
 returns : tie.Need-returns
-returns c = as-minus c.args.n (omega arith)
+returns c = as_minus c.args.n (omega arith)
 
 pub dropped-number-spec : {M : Type 1} → statement M
 dropped-number-spec = tie.close (tie.spec cast-result sub-result returns)

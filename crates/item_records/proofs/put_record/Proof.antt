@@ -3,7 +3,7 @@
 use native.Mathlib.Omega.{arith}
 use mir.Facts.{to_z-of_z}
 use lib.ListN.{length-set}
-use Rattle.item_records.proofs.Storing.{three-stores}
+use Rattle.item_records.proofs.Storing.{three_stores}
 use borrow.Author.Rules.{rules}
 use Rattle.item_records.proofs.put_record.Statement.{statement}
 use Rattle.item_records.proofs.put_record.Tie as tie
@@ -36,7 +36,7 @@ same_length : tie.Need-same-length
 same_length c = search rules
 
 returns : tie.Need-returns
-returns c = rw (to_z-of_z c.ranges.kind, to_z-of_z c.ranges.number, to_z-of_z c.ranges.size) (three-stores _ _ _ _ _ c.requires)
+returns c = rw (to_z-of_z c.ranges.kind, to_z-of_z c.ranges.number, to_z-of_z c.ranges.size) (three_stores _ _ _ _ _ c.requires)
 
 pub put-record-spec : {M : Type 1} → statement M
 put-record-spec =

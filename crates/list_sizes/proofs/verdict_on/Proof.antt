@@ -2,7 +2,7 @@
 -- Assumes nothing.
 use lib.Seq.{length-take-le}
 use mathlib.Core.Path.{sym}
-use Rattle.sizes.proofs.Fits.{merging-small, other-small}
+use Rattle.sizes.proofs.Fits.{merging_small, other_small}
 use borrow.Author.Rules.{rules}
 use Rattle.list_sizes.proofs.verdict_on.Statement.{statement}
 use Rattle.list_sizes.proofs.verdict_on.Tie as tie
@@ -17,7 +17,7 @@ other-limits-requires : tie.Need-other-limits-requires
 other-limits-requires c κs = search rules
 
 check-list-requires : tie.Need-check-list-requires
-check-list-requires c κs = other-small c.other-limits.ensures
+check-list-requires c κs = other_small c.other-limits.ensures
 
 enum-told-2 : tie.Need-enum-told-2
 enum-told-2 c = search rules
@@ -26,7 +26,7 @@ merging-limits-requires : tie.Need-merging-limits-requires
 merging-limits-requires c κs = search rules
 
 check-lists-requires : tie.Need-check-lists-requires
-check-lists-requires c κs = merging-small c.merging-limits.ensures
+check-lists-requires c κs = merging_small c.merging-limits.ensures
 
 enum-told-3 : tie.Need-enum-told-3
 enum-told-3 c = search rules
@@ -44,7 +44,7 @@ slice-aggregate-check-lists-2 : tie.Need-slice-aggregate-check-lists-2
 slice-aggregate-check-lists-2 c = search rules
 
 check-lists-requires-2 : tie.Need-check-lists-requires-2
-check-lists-requires-2 c κs = merging-small c.before.before.merging-limits2.ensures
+check-lists-requires-2 c κs = merging_small c.before.before.merging-limits2.ensures
 
 enum-told-4 : tie.Need-enum-told-4
 enum-told-4 c = search rules
@@ -62,7 +62,7 @@ slice-aggregate-check-lists-4 : tie.Need-slice-aggregate-check-lists-4
 slice-aggregate-check-lists-4 c = search rules
 
 check-lists-requires-3 : tie.Need-check-lists-requires-3
-check-lists-requires-3 c κs = merging-small c.before.before.merging-limits3.ensures
+check-lists-requires-3 c κs = merging_small c.before.before.merging-limits3.ensures
 
 returns : tie.Need-returns
 returns c = search rules

@@ -1,8 +1,8 @@
 -- Shown: `choose` answers `choice_of`.
 -- How: each way through it is a law of proofs/Choosing.antt.
-use Rattle.merge.proofs.Choosing.{taken-less, taken-equal, taken-greater}
+use Rattle.merge.proofs.Choosing.{taken_less, taken_equal, taken_greater}
 use Rattle.merge.specs.Choosing.{NextReadable, choice_of}
-use Rattle.merging.specs.OrderRule.{thenBy}
+use Rattle.merging.specs.OrderRule.{then_by}
 use Rattle.merging.specs.declared.Order.{Order}
 use mathlib.Core.Path.{◌≡◌, sym, ap, ◌∙◌, subst}
 use borrow.Author.Rules.{rules}
@@ -28,8 +28,8 @@ enum-known-right-2 : tie.Need-enum-known-right-2
 enum-known-right-2 c = search rules
 
 -- the order rule, then the streams' priority, came out so
-first-is : (priority : Order) {rule rule' first which : Order} → rule ≡ rule' → first ≡ thenBy rule priority → first ≡ which → thenBy rule' priority ≡ which
-first-is priority {rule} {rule'} {first} {which} e f g = ap (λ (o : Order). thenBy o priority) (sym e) ∙ sym f ∙ g
+first-is : (priority : Order) {rule rule' first which : Order} → rule ≡ rule' → first ≡ then_by rule priority → first ≡ which → then_by rule' priority ≡ which
+first-is priority {rule} {rule'} {first} {which} e f g = ap (λ (o : Order). then_by o priority) (sym e) ∙ sym f ∙ g
 
 cmp-priority-requires : tie.Need-cmp-priority-requires
 cmp-priority-requires c κs = (subst (NextReadable _ _ _) c.before.before.before.before.left.given.1 c.before.before.before.before.before.before.before.before.before.requires.0, subst (NextReadable _ _ _) c.before.right2.given.1 c.before.before.before.before.before.before.before.before.before.requires.1)
@@ -59,13 +59,13 @@ unfolding choice_of
 returns-3 c = rw (c.before.before.before.left.given.1, c.enum-told3.given.1)
 
 returns-4 : tie.Need-returns-4
-returns-4 c = rw (c.before.before.before.before.before.before.before.before.left.given.1, c.before.before.before.before.before.right2.given.1) (sym (taken-less _ _ _ _ (first-is c.before.before.before.before.before.before.before.before.before.before.before.before.before.args.priority c.before.before.before.cmp-priority.ensures c.before.before.then.ensures c.enum-told4.given.1)))
+returns-4 c = rw (c.before.before.before.before.before.before.before.before.left.given.1, c.before.before.before.before.before.right2.given.1) (sym (taken_less _ _ _ _ (first-is c.before.before.before.before.before.before.before.before.before.before.before.before.before.args.priority c.before.before.before.cmp-priority.ensures c.before.before.then.ensures c.enum-told4.given.1)))
 
 returns-5 : tie.Need-returns-5
-returns-5 c = rw (c.before.before.before.before.before.before.before.before.left.given.1, c.before.before.before.before.before.right2.given.1) (sym (taken-equal _ _ _ _ (first-is c.before.before.before.before.before.before.before.before.before.before.before.before.before.args.priority c.before.before.before.cmp-priority.ensures c.before.before.then.ensures c.enum-told5.given.1)))
+returns-5 c = rw (c.before.before.before.before.before.before.before.before.left.given.1, c.before.before.before.before.before.right2.given.1) (sym (taken_equal _ _ _ _ (first-is c.before.before.before.before.before.before.before.before.before.before.before.before.before.args.priority c.before.before.before.cmp-priority.ensures c.before.before.then.ensures c.enum-told5.given.1)))
 
 returns-6 : tie.Need-returns-6
-returns-6 c = rw (c.before.before.before.before.before.before.before.before.left.given.1, c.before.before.before.before.before.right2.given.1) (sym (taken-greater _ _ _ _ (first-is c.before.before.before.before.before.before.before.before.before.before.before.before.before.args.priority c.before.before.before.cmp-priority.ensures c.before.before.then.ensures c.enum-told6.given.1)))
+returns-6 c = rw (c.before.before.before.before.before.before.before.before.left.given.1, c.before.before.before.before.before.right2.given.1) (sym (taken_greater _ _ _ _ (first-is c.before.before.before.before.before.before.before.before.before.before.before.before.before.args.priority c.before.before.before.cmp-priority.ensures c.before.before.then.ensures c.enum-told6.given.1)))
 
 pub choose_spec : {M : Type 1} → statement M
 choose_spec =

@@ -1,6 +1,6 @@
 -- Shown: `meet` meets its contract.
 -- How: each way through it is a law of proofs/Meetings.antt.
-use Rattle.merge.proofs.Meetings.{meetable, lost-most, reaches, placeable, meets}
+use Rattle.merge.proofs.Meetings.{meetable, lost_most, reaches, placeable, meets}
 use Rattle.operation.specs.Views.{Reaches, size}
 use Rattle.operation.specs.declared.Met.{Met}
 use mathlib.Core.Path.{sym, subst}
@@ -13,7 +13,7 @@ merge-operations-consuming-insert-requires : tie.Need-merge-operations-consuming
 merge-operations-consuming-insert-requires c κs = meetable _ _ c.before.before.before.before.requires.0
 
 shift-of-requires : tie.Need-shift-of-requires
-shift-of-requires c κs = let f = c.before.before.before.before.before.before.before.before.requires.0 in let m = c.before.before.before.merge-operations-consuming-insert.ensures in (f.lies, subst (λ (x : Met). x.lost ≤ size c.before.before.before.before.before.before.before.before.args.a) (sym m.0) (lost-most c.before.before.before.before.before.before.before.before.args.least _ _ _ c.before.before.before.before.before.before.before.before.args.a c.before.before.before.before.before.before.before.before.args.last f.keyed), placeable c.before.before.before.before.before.before.before.before.args.least c.before.before.before.before.before.before.before.before.args.a c.before.before.before.before.before.before.before.before.args.last f m.1 _ m.0)
+shift-of-requires c κs = let f = c.before.before.before.before.before.before.before.before.requires.0 in let m = c.before.before.before.merge-operations-consuming-insert.ensures in (f.lies, subst (λ (x : Met). x.lost ≤ size c.before.before.before.before.before.before.before.before.args.a) (sym m.0) (lost_most c.before.before.before.before.before.before.before.before.args.least _ _ _ c.before.before.before.before.before.before.before.before.args.a c.before.before.before.before.before.before.before.before.args.last f.keyed), placeable c.before.before.before.before.before.before.before.before.args.least c.before.before.before.before.before.before.before.before.args.a c.before.before.before.before.before.before.before.before.args.last f m.1 _ m.0)
 
 used-up-requires : tie.Need-used-up-requires
 used-up-requires c κs = let m = c.before.before.before.before.merge-operations-consuming-insert.ensures in subst (λ (x : Met). Reaches c.before.before.before.before.before.before.before.before.before.args.last x c.before.before.before.before.before.before.before.before.before.args.fill) (sym m.0) (reaches c.before.before.before.before.before.before.before.before.before.args.least c.before.before.before.before.before.before.before.before.before.args.a c.before.before.before.before.before.before.before.before.before.args.last c.before.before.before.before.before.before.before.before.before.requires.0)

@@ -3,7 +3,7 @@
 use mathlib.Core.Path.{sym, ◌∙◌}
 use borrow.Author.Tests.{eq-eqb, ne_eqb}
 use borrow.Author.Rules.{rules}
-use Rattle.cursor_position.proofs.Waiting.{went-idle}
+use Rattle.cursor_position.proofs.Waiting.{went_idle}
 use Rattle.merge.proofs.move_side.Statement.{statement}
 use Rattle.merge.proofs.move_side.Tie as tie
 
@@ -26,7 +26,7 @@ returns-2 : tie.Need-returns-2
 returns-2 c = rw (ne_eqb _ _ c.before.before.before.before.if2.false) c.before.before.move-with2.ensures
 
 returns-3 : tie.Need-returns-3
-returns-3 c = went-idle c.before.before.before.before.args.a c.before.before.before.before.args.t _ _ c.before.before.before.before.args.p (sym c.before.before.before.before.requires.2 ∙ c.if1.false)
+returns-3 c = went_idle c.before.before.before.before.args.a c.before.before.before.before.args.t _ _ c.before.before.before.before.args.p (sym c.before.before.before.before.requires.2 ∙ c.if1.false)
 
 pub move-side-spec : {M : Type 1} → statement M
 move-side-spec =

@@ -7,8 +7,8 @@ use borrow.Author.Rules.{rules}
 use Rattle.merging.specs.Merge.{work}
 use Rattle.turns.specs.Looking.{list_from, ahead_of}
 use Rattle.merge.proofs.Running.{frame, Going}
-use Rattle.merge.proofs.Ends.{first_fits, next-readable, started, finished}
-use Rattle.merge.proofs.Taking.{none-taken, seat-turnable, seat-less, seat-step}
+use Rattle.merge.proofs.Ends.{first_fits, next_readable, started, finished}
+use Rattle.merge.proofs.Taking.{none_taken, seat_turnable, seat_less, seat_step}
 use Rattle.merge.proofs.run.Statement.{statement}
 use Rattle.merge.proofs.run.Tie as tie
 
@@ -33,8 +33,8 @@ turns-holds c = started c.before.before.before.before.before.before.before.befor
 
 choose-requires : tie.Need-choose-requires invariant-turns decreases-turns
 choose-requires c κs = (
-  next-readable _ _ _ c.before.before.turns.left.ahead.next (list_from c.before.before.before.before.before.before.before.before.before.before.before.before.before.before.before.before.args.left-operations.now c.before.before.turns.left.ahead.behind c.before.before.turns.left.ahead.at) c.before.before.turns.invariant.sound.inserts-left,
-  next-readable _ _ _ c.before.before.turns.right.ahead.next (list_from c.before.before.before.before.before.before.before.before.before.before.before.before.before.before.before.before.args.right-operations.now c.before.before.turns.right.ahead.behind c.before.before.turns.right.ahead.at) c.before.before.turns.invariant.sound.inserts-right,
+  next_readable _ _ _ c.before.before.turns.left.ahead.next (list_from c.before.before.before.before.before.before.before.before.before.before.before.before.before.before.before.before.args.left-operations.now c.before.before.turns.left.ahead.behind c.before.before.turns.left.ahead.at) c.before.before.turns.invariant.sound.inserts-left,
+  next_readable _ _ _ c.before.before.turns.right.ahead.next (list_from c.before.before.before.before.before.before.before.before.before.before.before.before.before.before.before.before.args.right-operations.now c.before.before.turns.right.ahead.behind c.before.before.turns.right.ahead.at) c.before.before.turns.invariant.sound.inserts-right,
 )
 
 is-none-requires : tie.Need-is-none-requires invariant-turns decreases-turns
@@ -66,7 +66,7 @@ returns c =
     let c9 = c8.before in
     let c10 = c9.before in
     let t = c10.before.before.before.turns in
-    finished t.invariant (none-taken _ t.invariant _ c10.choose.ensures (sym c9.is_none.ensures ∙ c8.if1.true)) c.before.before.before.before.before.before.end-cursors.ensures c.before.before.end-cursors2.ensures
+    finished t.invariant (none_taken _ t.invariant _ c10.choose.ensures (sym c9.is_none.ensures ∙ c8.if1.true)) c.before.before.before.before.before.before.end-cursors.ensures c.before.before.end-cursors2.ensures
 
 taken-of-requires : tie.Need-taken-of-requires invariant-turns decreases-turns
 taken-of-requires c κs = search rules
@@ -90,12 +90,12 @@ turn-requires c κs =
     let c8 = c7.before in
     let c9 = c8.before in
     let t = c9.before.before.before.turns in
-    seat-turnable _ t.invariant _ c9.choose.ensures
+    seat_turnable _ t.invariant _ c9.choose.ensures
     (record {
       some = sym c8.is_none.ensures ∙ c7.if1.false;
-      a-is = c6.Taken-of.ensures;
+      a_is = c6.Taken-of.ensures;
       own_is = c5.side-of.ensures;
-      other-is = c4.side-of2.ensures;
+      other_is = c4.side-of2.ensures;
       number_is = c3.number_of_lem.ensures;
     })
 
@@ -116,12 +116,12 @@ turns-less c =
     let c20 = c19.before in
     let c21 = c20.before in
     let t = c21.before.before.before.turns in
-    seat-less _ t.invariant _ c21.choose.ensures
+    seat_less _ t.invariant _ c21.choose.ensures
     (record {
       some = sym c20.is_none.ensures ∙ c19.if1.false;
-      a-is = c18.Taken-of.ensures;
+      a_is = c18.Taken-of.ensures;
       own_is = c17.side-of.ensures;
-      other-is = c16.side-of2.ensures;
+      other_is = c16.side-of2.ensures;
       number_is = c15.number_of_lem.ensures;
     })
     c11.turn.ensures c.before.side-of3.ensures c.side-of4.ensures
@@ -137,12 +137,12 @@ turns-again c =
     let c20 = c19.before in
     let c21 = c20.before in
     let t = c21.before.before.before.turns in
-    seat-step _ t.invariant _ c21.choose.ensures
+    seat_step _ t.invariant _ c21.choose.ensures
     (record {
       some = sym c20.is_none.ensures ∙ c19.if1.false;
-      a-is = c18.Taken-of.ensures;
+      a_is = c18.Taken-of.ensures;
       own_is = c17.side-of.ensures;
-      other-is = c16.side-of2.ensures;
+      other_is = c16.side-of2.ensures;
       number_is = c15.number_of_lem.ensures;
     })
     c11.turn.ensures c.before.side-of3.ensures c.side-of4.ensures

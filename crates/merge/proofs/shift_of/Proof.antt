@@ -12,10 +12,10 @@ place-of-requires : tie.Need-place-of-requires
 place-of-requires c κs = search rules
 
 returns : tie.Need-returns
-returns c = rw c.before.if1.true (record { seen-is = refl; length-is = refl; removed-is = c.before.before.removed-of.ensures; start_is = c.place_of.ensures.start; shared-is = c.place_of.ensures.shared; merged-is = refl })
+returns c = rw c.before.if1.true (record { seen_is = refl; length_is = refl; removed_is = c.before.before.removed-of.ensures; start_is = c.place_of.ensures.start; shared_is = c.place_of.ensures.shared; merged_is = refl })
 
 returns-2 : tie.Need-returns-2
-returns-2 c = rw c.if1.false (record { seen-is = refl; length-is = refl; removed-is = c.before.removed-of.ensures; start_is = refl; shared-is = refl; merged-is = refl })
+returns-2 c = rw c.if1.false (record { seen_is = refl; length_is = refl; removed_is = c.before.removed-of.ensures; start_is = refl; shared_is = refl; merged_is = refl })
 
 pub shift-of-spec : {M : Type 1} → statement M
 shift-of-spec = tie.close (tie.spec removed-of-requires place-of-requires returns returns-2)

@@ -1,6 +1,6 @@
 -- `side_of` gives the side that a choice takes.
 -- By the choice. Assumes nothing.
-use Rattle.merge.specs.Choosing.{ofSide}
+use Rattle.merge.specs.Choosing.{of_side}
 use borrow.Author.Rules.{rules}
 use Rattle.merge.proofs.side_of.Statement.{statement}
 use Rattle.merge.proofs.side_of.Tie as tie
@@ -24,15 +24,15 @@ fresh-requires-3 : tie.Need-fresh-requires-3
 fresh-requires-3 c κs = search rules
 
 returns : tie.Need-returns
-unfolding ofSide
+unfolding of_side
 returns c = rw c.before.enum_told.given.1 c.fresh.ensures
 
 returns-2 : tie.Need-returns-2
-unfolding ofSide
+unfolding of_side
 returns-2 c = rw c.before.before.choice.given.1 c.fresh2.ensures
 
 returns-3 : tie.Need-returns-3
-unfolding ofSide
+unfolding of_side
 returns-3 c = rw c.before.before.choice2.given.1 c.fresh3.ensures
 
 pub side-of-spec : {M : Type 1} → statement M

@@ -1,6 +1,6 @@
 -- `taken_of` gives the operation that a choice takes.
 -- By the choice. Assumes nothing.
-use Rattle.merge.specs.Choosing.{takenBy}
+use Rattle.merge.specs.Choosing.{taken_by}
 use borrow.Author.Rules.{rules}
 use Rattle.merge.proofs.taken_of.Statement.{statement}
 use Rattle.merge.proofs.taken_of.Tie as tie
@@ -15,15 +15,15 @@ enum-known-choice-2 : tie.Need-enum-known-choice-2
 enum-known-choice-2 c = search rules
 
 returns : tie.Need-returns
-unfolding takenBy
+unfolding taken_by
 returns c = rw c.enum_told.given.1
 
 returns-2 : tie.Need-returns-2
-unfolding takenBy
+unfolding taken_by
 returns-2 c = rw c.before.choice.given.1
 
 returns-3 : tie.Need-returns-3
-unfolding takenBy
+unfolding taken_by
 returns-3 c = rw c.before.choice2.given.1
 
 pub taken-of-spec : {M : Type 1} → statement M

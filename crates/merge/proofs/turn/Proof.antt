@@ -1,6 +1,6 @@
 -- Shown: `turn` meets its contract.
 -- How: each way through it is a law of proofs/Turning.antt.
-use Rattle.merge.proofs.Turning.{Parts, facing, taken-sound, end-most, removed-most, length_most, awaits-shift, shift_fits, rememberable, emittable, span-most, assembled}
+use Rattle.merge.proofs.Turning.{Parts, facing, taken_sound, end_most, removed_most, length_most, awaits_shift, shift_fits, rememberable, emittable, span_most, assembled}
 use Rattle.merge.specs.Meetings.{Meets}
 use Rattle.merge.specs.declared.Totals.{Totals}
 use Rattle.merge.specs.declared.Side.{Side}
@@ -8,7 +8,7 @@ use Rattle.merge.specs.declared.Meeting.{Meeting}
 use Rattle.cursor_position.specs.declared.Progress.{Progress}
 use Rattle.turns.specs.declared.Memory.{Memory}
 use Rattle.turns.specs.declared.Ahead.{Ahead}
-use Rattle.operation.specs.Views.{ofSpans}
+use Rattle.operation.specs.Views.{of_spans}
 use Rattle.operation.specs.declared.Last.{Last}
 use Rattle.operation.specs.declared.Next.{Next}
 use Rattle.merging.specs.Operations.{length_of, span_of}
@@ -39,13 +39,13 @@ split-retain-before-requires : tie.Need-split-retain-before-requires
 split-retain-before-requires c κs = let k = c.before.before.before.before.before.before.before.before.before.before.before.before.before.requires in (k.sound.reaches, k.next)
 
 length-of-requires : tie.Need-length-of-requires
-length-of-requires c κs = rw c.split-retain-before.ensures.0 (taken-sound c.before.before.before.before.before.before.before.before.before.before.before.before.before.before.requires).lies
+length-of-requires c κs = rw c.split-retain-before.ensures.0 (taken_sound c.before.before.before.before.before.before.before.before.before.before.before.before.before.before.requires).lies
 
 add-is-side-awaited : tie.Need-overflow-add-is-side-awaited
 add-is-side-awaited c =
     let c2 = c.before.before in
     let c16 = c2.before.before.before.before.before.before.before.before.before.before.before.before.before.before in
-    omega (arith, c.before.length-of.ensures, ap (length_of (ofSpans c16.args.spans.now)) c2.split-retain-before.ensures.0, end-most c16.requires)
+    omega (arith, c.before.length-of.ensures, ap (length_of (of_spans c16.args.spans.now)) c2.split-retain-before.ensures.0, end_most c16.requires)
 
 is-side-awaited-requires : tie.Need-is-side-awaited-requires
 is-side-awaited-requires c κs = search rules
@@ -66,14 +66,14 @@ move-side-requires c κs =
     let c23 = c9.before.before.before.before.before.before.before.before.before.before.before.before.before.before in
     let e = c9.split-retain-before.ensures.0 in
     let m = of-taken e c4.meet.ensures in
-    (shift_fits c23.requires m, c23.requires.space, awaits-shift c23.requires m _ (c8.length-of.ensures ∙ ap (length_of (ofSpans c23.args.spans.now)) e) c6.is-side-awaited.ensures)
+    (shift_fits c23.requires m, c23.requires.space, awaits_shift c23.requires m _ (c8.length-of.ensures ∙ ap (length_of (of_spans c23.args.spans.now)) e) c6.is-side-awaited.ensures)
 
 shortened-requires : tie.Need-shortened-requires
 shortened-requires c κs =
     let c7 = c.before.before.before.before.before.before.before in
     let c12 = c7.before.before.before.before.before in
     let c26 = c12.before.before.before.before.before.before.before.before.before.before.before.before.before.before in
-    (rw c12.split-retain-before.ensures.0 (taken-sound c26.requires).reaches, c7.meet.ensures.most)
+    (rw c12.split-retain-before.ensures.0 (taken_sound c26.requires).reaches, c7.meet.ensures.most)
 
 remember-operation-requires : tie.Need-remember-operation-requires
 remember-operation-requires c κs =
@@ -89,7 +89,7 @@ sub-text c =
     let c13 = c.before.before.before.before.before.before.before.before.before.before.before.before.before in
     let c18 = c13.before.before.before.before.before in
     let c32 = c18.before.before.before.before.before.before.before.before.before.before.before.before.before.before in
-    removed-most c32.requires (of-taken c18.split-retain-before.ensures.0 c13.meet.ensures)
+    removed_most c32.requires (of-taken c18.split-retain-before.ensures.0 c13.meet.ensures)
 
 emit-requires : tie.Need-emit-requires
 emit-requires c κs =
@@ -129,7 +129,7 @@ add-consumed c =
     let c42 = c28.before.before.before.before.before.before.before.before.before.before.before.before.before.before in
     let e = c28.split-retain-before.ensures.0 in
     let m = of-taken e c23.meet.ensures in
-    omega (arith, c.before.Span-of.ensures, ap span_of (rw e at c15.shortened.ensures), span-most c42.requires m, c42.requires.consumed)
+    omega (arith, c.before.Span-of.ensures, ap span_of (rw e at c15.shortened.ensures), span_most c42.requires m, c42.requires.consumed)
 
 same_length : tie.Need-same-length
 same_length c = c.before.before.before.before.before.before.before.before.before.before.before.before.before.remember-operation.ensures.kept.same ∙ c.before.before.before.before.before.before.before.before.before.before.before.before.before.before.before.before.before.before.before.before.before.before.before.meet.ensures.scratched.same
@@ -163,7 +163,7 @@ returns c =
       remembers = c13.remember-operation.ensures;
       emits = c8.emit.ensures;
       looks = c5.advance-side.ensures;
-      spans-is = c1.Span-of.ensures;
+      spans_is = c1.Span-of.ensures;
     }))
     c28.split-retain-before.ensures.1
 

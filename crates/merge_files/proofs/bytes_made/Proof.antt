@@ -1,6 +1,6 @@
 -- `bytes_made` tells the bytes alone.
 -- By the cases of the answer. Assumes nothing.
-use Rattle.merge_files.specs.Steps.{toCounted}
+use Rattle.merge_files.specs.Steps.{to_counted}
 use borrow.Author.Rules.{rules}
 use Rattle.merge_files.proofs.bytes_made.Statement.{statement}
 use Rattle.merge_files.proofs.bytes_made.Tie as tie
@@ -12,12 +12,12 @@ enum-known-made-2 : tie.Need-enum-known-made-2
 enum-known-made-2 c = search rules
 
 returns : tie.Need-returns
-unfolding toCounted
+unfolding to_counted
 returns c =
     rw c.before.made.given.1
 
 returns-2 : tie.Need-returns-2
-unfolding toCounted
+unfolding to_counted
 returns-2 c =
     rw c.before.made2.given.1
 

@@ -1,7 +1,7 @@
 -- `check_files` is the first refusal of three files before the merge's own.
 -- Each check after those before it have passed. Assumes nothing.
 use mathlib.Core.Path.{sym, ◌∙◌}
-use Rattle.merge_files.proofs.Checking.{original-long, left-long, right-long, past-sizes, refuses, further}
+use Rattle.merge_files.proofs.Checking.{original_long, left_long, right_long, past_sizes, refuses, further}
 use borrow.Author.Rules.{rules}
 use Rattle.merge_files.proofs.check_files.Statement.{statement}
 use Rattle.merge_files.proofs.check_files.Tie as tie
@@ -9,20 +9,20 @@ use Rattle.merge_files.proofs.check_files.Tie as tie
 returns : tie.Need-returns
 returns c =
     let s = c.before.before.before.before in
-    original-long s.args.original.now s.args.left.now s.args.right.now c.if1.true
+    original_long s.args.original.now s.args.left.now s.args.right.now c.if1.true
 
 returns-2 : tie.Need-returns-2
 returns-2 c =
     let o1 = c.before in
     let s = o1.before.before.before.before in
-    left-long s.args.original.now s.args.left.now s.args.right.now o1.if1.false c.if2.true
+    left_long s.args.original.now s.args.left.now s.args.right.now o1.if1.false c.if2.true
 
 returns-3 : tie.Need-returns-3
 returns-3 c =
     let o2 = c.before in
     let o1 = o2.before in
     let s = o1.before.before.before.before in
-    right-long s.args.original.now s.args.left.now s.args.right.now o1.if1.false o2.if2.false c.if3.true
+    right_long s.args.original.now s.args.left.now s.args.right.now o1.if1.false o2.if2.false c.if3.true
 
 check-utf8-requires : tie.Need-check-utf8-requires
 check-utf8-requires c κs = search rules
@@ -71,7 +71,7 @@ returns-4 c =
     let o2 = o3.before in
     let o1 = o2.before in
     let s = o1.before.before.before.before in
-    refuses s.args.original.now s.args.left.now s.args.right.now o1.if1.false o2.if2.false o3.if3.false _ _ (sym q.refusal.given.1 ∙ u0.check-utf8.ensures) (past-sizes s.args.original.now s.args.left.now s.args.right.now o1.if1.false o2.if2.false o3.if3.false)
+    refuses s.args.original.now s.args.left.now s.args.right.now o1.if1.false o2.if2.false o3.if3.false _ _ (sym q.refusal.given.1 ∙ u0.check-utf8.ensures) (past_sizes s.args.original.now s.args.left.now s.args.right.now o1.if1.false o2.if2.false o3.if3.false)
 
 returns-5 : tie.Need-returns-5
 returns-5 c =
@@ -83,7 +83,7 @@ returns-5 c =
     let o2 = o3.before in
     let o1 = o2.before in
     let s = o1.before.before.before.before in
-    refuses s.args.original.now s.args.left.now s.args.right.now o1.if1.false o2.if2.false o3.if3.false _ _ (sym q.refusal2.given.1 ∙ u1.check-utf82.ensures) (further s.args.original.now s.args.left.now s.args.right.now o1.if1.false o2.if2.false o3.if3.false _ _ (sym e0.enum_told.given.1 ∙ u0.check-utf8.ensures) (past-sizes s.args.original.now s.args.left.now s.args.right.now o1.if1.false o2.if2.false o3.if3.false))
+    refuses s.args.original.now s.args.left.now s.args.right.now o1.if1.false o2.if2.false o3.if3.false _ _ (sym q.refusal2.given.1 ∙ u1.check-utf82.ensures) (further s.args.original.now s.args.left.now s.args.right.now o1.if1.false o2.if2.false o3.if3.false _ _ (sym e0.enum_told.given.1 ∙ u0.check-utf8.ensures) (past_sizes s.args.original.now s.args.left.now s.args.right.now o1.if1.false o2.if2.false o3.if3.false))
 
 returns-6 : tie.Need-returns-6
 returns-6 c =
@@ -97,7 +97,7 @@ returns-6 c =
     let o2 = o3.before in
     let o1 = o2.before in
     let s = o1.before.before.before.before in
-    refuses s.args.original.now s.args.left.now s.args.right.now o1.if1.false o2.if2.false o3.if3.false _ _ (sym q.refusal3.given.1 ∙ u2.check-utf83.ensures) (further s.args.original.now s.args.left.now s.args.right.now o1.if1.false o2.if2.false o3.if3.false _ _ (sym e1.enum-told2.given.1 ∙ u1.check-utf82.ensures) (further s.args.original.now s.args.left.now s.args.right.now o1.if1.false o2.if2.false o3.if3.false _ _ (sym e0.enum_told.given.1 ∙ u0.check-utf8.ensures) (past-sizes s.args.original.now s.args.left.now s.args.right.now o1.if1.false o2.if2.false o3.if3.false)))
+    refuses s.args.original.now s.args.left.now s.args.right.now o1.if1.false o2.if2.false o3.if3.false _ _ (sym q.refusal3.given.1 ∙ u2.check-utf83.ensures) (further s.args.original.now s.args.left.now s.args.right.now o1.if1.false o2.if2.false o3.if3.false _ _ (sym e1.enum-told2.given.1 ∙ u1.check-utf82.ensures) (further s.args.original.now s.args.left.now s.args.right.now o1.if1.false o2.if2.false o3.if3.false _ _ (sym e0.enum_told.given.1 ∙ u0.check-utf8.ensures) (past_sizes s.args.original.now s.args.left.now s.args.right.now o1.if1.false o2.if2.false o3.if3.false)))
 
 returns-7 : tie.Need-returns-7
 returns-7 c =
@@ -113,7 +113,7 @@ returns-7 c =
     let o2 = o3.before in
     let o1 = o2.before in
     let s = o1.before.before.before.before in
-    refuses s.args.original.now s.args.left.now s.args.right.now o1.if1.false o2.if2.false o3.if3.false _ _ (sym q.refusal4.given.1 ∙ u3.check-edits.ensures) (further s.args.original.now s.args.left.now s.args.right.now o1.if1.false o2.if2.false o3.if3.false _ _ (sym e2.enum-told3.given.1 ∙ u2.check-utf83.ensures) (further s.args.original.now s.args.left.now s.args.right.now o1.if1.false o2.if2.false o3.if3.false _ _ (sym e1.enum-told2.given.1 ∙ u1.check-utf82.ensures) (further s.args.original.now s.args.left.now s.args.right.now o1.if1.false o2.if2.false o3.if3.false _ _ (sym e0.enum_told.given.1 ∙ u0.check-utf8.ensures) (past-sizes s.args.original.now s.args.left.now s.args.right.now o1.if1.false o2.if2.false o3.if3.false))))
+    refuses s.args.original.now s.args.left.now s.args.right.now o1.if1.false o2.if2.false o3.if3.false _ _ (sym q.refusal4.given.1 ∙ u3.check-edits.ensures) (further s.args.original.now s.args.left.now s.args.right.now o1.if1.false o2.if2.false o3.if3.false _ _ (sym e2.enum-told3.given.1 ∙ u2.check-utf83.ensures) (further s.args.original.now s.args.left.now s.args.right.now o1.if1.false o2.if2.false o3.if3.false _ _ (sym e1.enum-told2.given.1 ∙ u1.check-utf82.ensures) (further s.args.original.now s.args.left.now s.args.right.now o1.if1.false o2.if2.false o3.if3.false _ _ (sym e0.enum_told.given.1 ∙ u0.check-utf8.ensures) (past_sizes s.args.original.now s.args.left.now s.args.right.now o1.if1.false o2.if2.false o3.if3.false))))
 
 returns-8 : tie.Need-returns-8
 returns-8 c =
@@ -130,7 +130,7 @@ returns-8 c =
     let o2 = o3.before in
     let o1 = o2.before in
     let s = o1.before.before.before.before in
-    u4.check-edits2.ensures ∙ sym (further s.args.original.now s.args.left.now s.args.right.now o1.if1.false o2.if2.false o3.if3.false _ _ (sym e3.enum-told4.given.1 ∙ u3.check-edits.ensures) (further s.args.original.now s.args.left.now s.args.right.now o1.if1.false o2.if2.false o3.if3.false _ _ (sym e2.enum-told3.given.1 ∙ u2.check-utf83.ensures) (further s.args.original.now s.args.left.now s.args.right.now o1.if1.false o2.if2.false o3.if3.false _ _ (sym e1.enum-told2.given.1 ∙ u1.check-utf82.ensures) (further s.args.original.now s.args.left.now s.args.right.now o1.if1.false o2.if2.false o3.if3.false _ _ (sym e0.enum_told.given.1 ∙ u0.check-utf8.ensures) (past-sizes s.args.original.now s.args.left.now s.args.right.now o1.if1.false o2.if2.false o3.if3.false)))))
+    u4.check-edits2.ensures ∙ sym (further s.args.original.now s.args.left.now s.args.right.now o1.if1.false o2.if2.false o3.if3.false _ _ (sym e3.enum-told4.given.1 ∙ u3.check-edits.ensures) (further s.args.original.now s.args.left.now s.args.right.now o1.if1.false o2.if2.false o3.if3.false _ _ (sym e2.enum-told3.given.1 ∙ u2.check-utf83.ensures) (further s.args.original.now s.args.left.now s.args.right.now o1.if1.false o2.if2.false o3.if3.false _ _ (sym e1.enum-told2.given.1 ∙ u1.check-utf82.ensures) (further s.args.original.now s.args.left.now s.args.right.now o1.if1.false o2.if2.false o3.if3.false _ _ (sym e0.enum_told.given.1 ∙ u0.check-utf8.ensures) (past_sizes s.args.original.now s.args.left.now s.args.right.now o1.if1.false o2.if2.false o3.if3.false)))))
 
 pub check-files-spec : {M : Type 1} → statement M
 check-files-spec =

@@ -1,6 +1,6 @@
 -- `counted` tells how much was written.
 -- By the cases of the answer. Assumes nothing.
-use Rattle.merge_files.specs.Steps.{fromCounted}
+use Rattle.merge_files.specs.Steps.{from_counted}
 use borrow.Author.Rules.{rules}
 use Rattle.merge_files.proofs.counted.Statement.{statement}
 use Rattle.merge_files.proofs.counted.Tie as tie
@@ -12,12 +12,12 @@ enum-known-bytes-2 : tie.Need-enum-known-bytes-2
 enum-known-bytes-2 c = search rules
 
 returns : tie.Need-returns
-unfolding fromCounted
+unfolding from_counted
 returns c =
     rw c.before.bytes.given.1
 
 returns-2 : tie.Need-returns-2
-unfolding fromCounted
+unfolding from_counted
 returns-2 c =
     rw c.before.bytes2.given.1
 

@@ -1,6 +1,6 @@
 -- `history_made` tells spans and code points.
 -- By the cases of the answer. Assumes nothing.
-use Rattle.merge_files.specs.Steps.{toHistory}
+use Rattle.merge_files.specs.Steps.{to_history}
 use borrow.Author.Rules.{rules}
 use Rattle.merge_files.proofs.history_made.Statement.{statement}
 use Rattle.merge_files.proofs.history_made.Tie as tie
@@ -12,12 +12,12 @@ enum-known-made-2 : tie.Need-enum-known-made-2
 enum-known-made-2 c = search rules
 
 returns : tie.Need-returns
-unfolding toHistory
+unfolding to_history
 returns c =
     rw c.before.made.given.1
 
 returns-2 : tie.Need-returns-2
-unfolding toHistory
+unfolding to_history
 returns-2 c =
     rw c.before.made2.given.1
 

@@ -1,6 +1,6 @@
 -- `make` makes what is asked of three files.
 -- Each way is a law of Files. Assumes nothing.
-use Rattle.merge_files.proofs.Files.{refuses, not-refused, points-in, files, result}
+use Rattle.merge_files.proofs.Files.{refuses, not_refused, points_in, files, result}
 use mathlib.Core.Path.{refl, sym}
 use lib.Seq.{length-take-le}
 use borrow.Author.Rules.{rules}
@@ -35,7 +35,7 @@ array-share-prefix-sheet c =
     let e = r.before.before in
     let f = e.before.before in
     let s = f.before.before.before.before.before.before.before in
-    points-in s.args.view s.args.original.now s.args.left.now s.args.right.now f.check-files.ensures e.enum_told.given.1 _ _ refl r.read.ensures k.count.given.1
+    points_in s.args.view s.args.original.now s.args.left.now s.args.right.now f.check-files.ensures e.enum_told.given.1 _ _ refl r.read.ensures k.count.given.1
 
 slice-aggregate-merge-edits : tie.Need-slice-aggregate-merge-edits
 slice-aggregate-merge-edits c =
@@ -44,7 +44,7 @@ slice-aggregate-merge-edits c =
     let e = r.before.before in
     let f = e.before.before in
     let s = f.before.before.before.before.before.before.before in
-    sym (length-take-le _ _ (points-in s.args.view s.args.original.now s.args.left.now s.args.right.now f.check-files.ensures e.enum_told.given.1 _ _ refl r.read.ensures k.count.given.1))
+    sym (length-take-le _ _ (points_in s.args.view s.args.original.now s.args.left.now s.args.right.now f.check-files.ensures e.enum_told.given.1 _ _ refl r.read.ensures k.count.given.1))
 
 merge-edits-requires : tie.Need-merge-edits-requires
 merge-edits-requires c κs =
@@ -69,7 +69,7 @@ returns-2 c =
     let e = r.before.before in
     let f = e.before.before in
     let s = f.before.before.before.before.before.before.before in
-    not-refused s.args.view s.args.original.now s.args.left.now s.args.right.now f.check-files.ensures e.enum_told.given.1 _ _ refl r.read.ensures k.refusal2.given.1
+    not_refused s.args.view s.args.original.now s.args.left.now s.args.right.now f.check-files.ensures e.enum_told.given.1 _ _ refl r.read.ensures k.refusal2.given.1
 
 same_length : tie.Need-same-length
 same_length c = search rules

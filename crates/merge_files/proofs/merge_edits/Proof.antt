@@ -1,6 +1,6 @@
 -- `merge_edits` merges two accepted edit files.
 -- Each way is a law of Edits. Assumes nothing.
-use Rattle.merge_files.proofs.Edits.{rooms, left-listable, right-listable, text_in, spans-in, keys_in, left_in, right-in, mergeable, result}
+use Rattle.merge_files.proofs.Edits.{rooms, left_listable, right_listable, text_in, spans_in, keys_in, left_in, right_in, mergeable, result}
 use mathlib.Core.Path.{refl, sym}
 use native.Mathlib.Omega.{arith}
 use lib.ListN.{replicate}
@@ -24,7 +24,7 @@ slice-aggregate-list-of-4 c = search rules
 list-of-requires : tie.Need-list-of-requires
 list-of-requires c κs =
     let s = c.before.before.before.before.before.before.before.before.before.before in
-    left-listable s.args.original.now s.args.left.now s.args.right.now s.requires _ _ (replicate 2046 0) _ _ (rooms _ _ (replicate 2046 0) _ _ refl refl refl refl refl)
+    left_listable s.args.original.now s.args.left.now s.args.right.now s.requires _ _ (replicate 2046 0) _ _ (rooms _ _ (replicate 2046 0) _ _ refl refl refl refl refl)
 
 slice-aggregate-list-of-5 : tie.Need-slice-aggregate-list-of-5
 slice-aggregate-list-of-5 c = search rules
@@ -42,7 +42,7 @@ list-of-requires-2 : tie.Need-list-of-requires-2
 list-of-requires-2 c κs =
     let b = c.before.before.before.before.before.before.before.before in
     let s = b.before.before.before.before.before.before.before.before.before.before.before in
-    right-listable s.args.original.now s.args.left.now s.args.right.now s.requires _ _ _ _ _ (rooms _ _ _ _ _ refl refl refl refl refl) b.list_of.ensures
+    right_listable s.args.original.now s.args.left.now s.args.right.now s.requires _ _ _ _ _ (rooms _ _ _ _ _ refl refl refl refl refl) b.list_of.ensures
 
 add-added : tie.Need-overflow-add-added
 add-added c =
@@ -81,14 +81,14 @@ array-share-prefix-spans c =
     let d = c.before.before.before.before.before.before.before.before.before in
     let b = d.before.before.before.before.before.before.before.before.before in
     let s = b.before.before.before.before.before.before.before.before.before.before.before in
-    spans-in s.args.original.now s.args.left.now s.args.right.now s.requires _ _ _ _ _ (rooms _ _ _ _ _ refl refl refl refl refl) b.list_of.ensures d.list-of2.ensures
+    spans_in s.args.original.now s.args.left.now s.args.right.now s.requires _ _ _ _ _ (rooms _ _ _ _ _ refl refl refl refl refl) b.list_of.ensures d.list-of2.ensures
 
 slice-aggregate-merge-lists-2 : tie.Need-slice-aggregate-merge-lists-2
 slice-aggregate-merge-lists-2 c =
     let d = c.before.before.before.before.before.before.before.before.before.before in
     let b = d.before.before.before.before.before.before.before.before.before in
     let s = b.before.before.before.before.before.before.before.before.before.before.before in
-    sym (length-take-le _ _ (spans-in s.args.original.now s.args.left.now s.args.right.now s.requires _ _ _ _ _ (rooms _ _ _ _ _ refl refl refl refl refl) b.list_of.ensures d.list-of2.ensures))
+    sym (length-take-le _ _ (spans_in s.args.original.now s.args.left.now s.args.right.now s.requires _ _ _ _ _ (rooms _ _ _ _ _ refl refl refl refl refl) b.list_of.ensures d.list-of2.ensures))
 
 array-share-prefix-keys : tie.Need-array-share-prefix-keys
 array-share-prefix-keys c =
@@ -134,14 +134,14 @@ array-share-prefix-rights c =
     let d = c.before.before.before.before.before.before.before.before.before.before.before.before.before.before in
     let b = d.before.before.before.before.before.before.before.before.before in
     let s = b.before.before.before.before.before.before.before.before.before.before.before in
-    right-in s.args.original.now s.args.left.now s.args.right.now s.requires _ _ _ _ _ (rooms _ _ _ _ _ refl refl refl refl refl) b.list_of.ensures d.list-of2.ensures
+    right_in s.args.original.now s.args.left.now s.args.right.now s.requires _ _ _ _ _ (rooms _ _ _ _ _ refl refl refl refl refl) b.list_of.ensures d.list-of2.ensures
 
 slice-aggregate-merge-lists-5 : tie.Need-slice-aggregate-merge-lists-5
 slice-aggregate-merge-lists-5 c =
     let d = c.before.before.before.before.before.before.before.before.before.before.before.before.before.before.before in
     let b = d.before.before.before.before.before.before.before.before.before in
     let s = b.before.before.before.before.before.before.before.before.before.before.before in
-    sym (length-take-le _ _ (right-in s.args.original.now s.args.left.now s.args.right.now s.requires _ _ _ _ _ (rooms _ _ _ _ _ refl refl refl refl refl) b.list_of.ensures d.list-of2.ensures))
+    sym (length-take-le _ _ (right_in s.args.original.now s.args.left.now s.args.right.now s.requires _ _ _ _ _ (rooms _ _ _ _ _ refl refl refl refl refl) b.list_of.ensures d.list-of2.ensures))
 
 merge-lists-requires : tie.Need-merge-lists-requires
 merge-lists-requires c κs =

@@ -1,6 +1,6 @@
 -- `merge_files` makes bytes alone.
 -- A law of Calls. Assumes nothing.
-use Rattle.merge_files.proofs.Calls.{file-made}
+use Rattle.merge_files.proofs.Calls.{file_made}
 use borrow.Author.Rules.{rules}
 use Rattle.merge_files.proofs.merge_files.Statement.{statement}
 use Rattle.merge_files.proofs.merge_files.Tie as tie
@@ -24,7 +24,7 @@ returns : tie.Need-returns
 returns c =
     let m = c.before.before.before.before.before in
     let s = m.before.before.before.before.before.before.before.before in
-    rw c.bytes-made.ensures (file-made s.args.original.now s.args.left.now s.args.right.now _ _ _ m.make.ensures)
+    rw c.bytes-made.ensures (file_made s.args.original.now s.args.left.now s.args.right.now _ _ _ m.make.ensures)
 
 pub merge-files-spec : {M : Type 1} → statement M
 merge-files-spec =

@@ -1,6 +1,6 @@
 -- `merge_files_history` makes a history alone.
 -- A law of Calls. Assumes nothing.
-use Rattle.merge_files.proofs.Calls.{history-made}
+use Rattle.merge_files.proofs.Calls.{history_made}
 use borrow.Author.Rules.{rules}
 use Rattle.merge_files.proofs.merge_files_history.Statement.{statement}
 use Rattle.merge_files.proofs.merge_files_history.Tie as tie
@@ -24,7 +24,7 @@ returns : tie.Need-returns
 returns c =
     let m = c.before.before.before.before.before.before in
     let s = m.before.before.before.before.before.before.before.before.before in
-    rw c.history-made.ensures (history-made s.args.original.now s.args.left.now s.args.right.now _ _ _ m.make.ensures)
+    rw c.history-made.ensures (history_made s.args.original.now s.args.left.now s.args.right.now _ _ _ m.make.ensures)
 
 pub merge-files-history-spec : {M : Type 1} → statement M
 merge-files-history-spec =

@@ -1,6 +1,6 @@
 -- `merge_files_text` makes bytes alone.
 -- A law of Calls. Assumes nothing.
-use Rattle.merge_files.proofs.Calls.{text-made}
+use Rattle.merge_files.proofs.Calls.{text_made}
 use borrow.Author.Rules.{rules}
 use Rattle.merge_files.proofs.merge_files_text.Statement.{statement}
 use Rattle.merge_files.proofs.merge_files_text.Tie as tie
@@ -24,7 +24,7 @@ returns : tie.Need-returns
 returns c =
     let m = c.before.before.before.before.before in
     let s = m.before.before.before.before.before.before.before.before in
-    rw c.bytes-made.ensures (text-made s.args.original.now s.args.left.now s.args.right.now _ _ _ m.make.ensures)
+    rw c.bytes-made.ensures (text_made s.args.original.now s.args.left.now s.args.right.now _ _ _ m.make.ensures)
 
 pub merge-files-text-spec : {M : Type 1} → statement M
 merge-files-text-spec =

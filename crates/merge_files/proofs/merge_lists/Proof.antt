@@ -1,6 +1,6 @@
 -- `merge_lists` merges two lists and shows the merge, or refuses as the merge does.
 -- Each way is a law of Merging. Assumes nothing.
-use Rattle.merge_files.proofs.Merging.{small, in-room, viewable, refuses, shows}
+use Rattle.merge_files.proofs.Merging.{small, in_room, viewable, refuses, shows}
 use mathlib.Core.Path.{refl, sym}
 use native.Mathlib.Omega.{arith}
 use lib.Seq.{length-take-le}
@@ -44,14 +44,14 @@ array-share-prefix-merged c =
     let k = c.before.before in
     let m = k.before.before.before.before.before in
     let s = m.before.before.before.before.before.before.before.before.before.before.before.before.before.before.before in
-    in-room s.args.view s.args.original.now s.args.text.now s.args.spans.now s.args.keys.now s.args.left.now s.args.right.now s.requires _ _ _ _ _ _ refl refl _ m.merge.ensures k.counts.given.1
+    in_room s.args.view s.args.original.now s.args.text.now s.args.spans.now s.args.keys.now s.args.left.now s.args.right.now s.requires _ _ _ _ _ _ refl refl _ m.merge.ensures k.counts.given.1
 
 slice-aggregate-show : tie.Need-slice-aggregate-show
 slice-aggregate-show c =
     let k = c.before.before.before in
     let m = k.before.before.before.before.before in
     let s = m.before.before.before.before.before.before.before.before.before.before.before.before.before.before.before in
-    sym (length-take-le _ _ (in-room s.args.view s.args.original.now s.args.text.now s.args.spans.now s.args.keys.now s.args.left.now s.args.right.now s.requires _ _ _ _ _ _ refl refl _ m.merge.ensures k.counts.given.1))
+    sym (length-take-le _ _ (in_room s.args.view s.args.original.now s.args.text.now s.args.spans.now s.args.keys.now s.args.left.now s.args.right.now s.requires _ _ _ _ _ _ refl refl _ m.merge.ensures k.counts.given.1))
 
 show-requires : tie.Need-show-requires
 show-requires c κs =

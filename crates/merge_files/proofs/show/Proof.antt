@@ -1,8 +1,8 @@
 -- `show` makes what is asked of a merged list.
 -- By the view that is asked. Assumes nothing.
-use Rattle.merge_files.proofs.Showing.{file-view, text-view, tells}
+use Rattle.merge_files.proofs.Showing.{file_view, text_view, tells}
 use Rattle.merging.specs.Lent.{lent_of}
-use Rattle.records.specs.Operations.{operationsOf}
+use Rattle.records.specs.Operations.{operations_of}
 use borrow.Author.Rules.{rules}
 use Rattle.merge_files.proofs.show.Statement.{statement}
 use Rattle.merge_files.proofs.show.Tie as tie
@@ -42,7 +42,7 @@ returns c =
     let w = c.before.before.before in
     let e = w.before.before in
     let s = e.before.before.before.before.before.before.before.before.before.before in
-    rw (e.enum_told.given.1, c.counted.ensures) (file-view (lent_of s.args.original.now s.args.text.now s.args.spans.now s.args.keys.now) (operationsOf s.args.operations.now) s.requires s.args.history.now s.args.points.now w.show-file.ensures)
+    rw (e.enum_told.given.1, c.counted.ensures) (file_view (lent_of s.args.original.now s.args.text.now s.args.spans.now s.args.keys.now) (operations_of s.args.operations.now) s.requires s.args.history.now s.args.points.now w.show-file.ensures)
 
 same-length-2 : tie.Need-same-length-2
 same-length-2 c = search rules
@@ -52,7 +52,7 @@ returns-2 c =
     let w = c.before.before.before in
     let e = w.before.before in
     let s = e.before.before.before.before.before.before.before.before.before.before in
-    rw (e.enum-told2.given.1, c.counted2.ensures) (text-view (lent_of s.args.original.now s.args.text.now s.args.spans.now s.args.keys.now) (operationsOf s.args.operations.now) s.requires s.args.history.now s.args.points.now w.show-text.ensures)
+    rw (e.enum-told2.given.1, c.counted2.ensures) (text_view (lent_of s.args.original.now s.args.text.now s.args.spans.now s.args.keys.now) (operations_of s.args.operations.now) s.requires s.args.history.now s.args.points.now w.show-text.ensures)
 
 same-length-3 : tie.Need-same-length-3
 same-length-3 c = search rules
@@ -65,7 +65,7 @@ returns-3 c =
     let w = c.before.before.before.before.before in
     let e = w.before.before.before in
     let s = e.before.before.before.before.before.before.before.before.before.before in
-    rw (e.enum-told3.given.1, c.told.ensures) (tells (lent_of s.args.original.now s.args.text.now s.args.spans.now s.args.keys.now) (operationsOf s.args.operations.now) s.requires s.args.history.now s.args.points.now s.args.bytes.now w.apply-with-history.ensures)
+    rw (e.enum-told3.given.1, c.told.ensures) (tells (lent_of s.args.original.now s.args.text.now s.args.spans.now s.args.keys.now) (operations_of s.args.operations.now) s.requires s.args.history.now s.args.points.now s.args.bytes.now w.apply-with-history.ensures)
 
 pub show-spec : {M : Type 1} → statement M
 show-spec =

@@ -1,8 +1,8 @@
 -- `show_file` writes the edit file of a merged list.
 -- Each way is a law of Showing. Assumes nothing.
-use Rattle.merge_files.proofs.Showing.{not-refused, items-small, items-in, text_in, writes}
+use Rattle.merge_files.proofs.Showing.{not_refused, items_small, items_in, text_in, writes}
 use Rattle.merging.specs.Lent.{lent_of}
-use Rattle.records.specs.Operations.{operationsOf}
+use Rattle.records.specs.Operations.{operations_of}
 use mathlib.Core.Path.{refl, sym}
 use native.Mathlib.Omega.{arith}
 use lib.Seq.{length-take-le}
@@ -30,35 +30,35 @@ mul-items c =
     let k = c.before in
     let t = k.before.before.before.before in
     let s = t.before.before.before.before.before.before.before.before.before in
-    record { fits = omega (arith, items-small (lent_of s.args.original.now s.args.text.now s.args.spans.now s.args.keys.now) (operationsOf s.args.operations.now) s.requires _ _ refl refl t.to-diff.ensures k.count.given.1) }
+    record { fits = omega (arith, items_small (lent_of s.args.original.now s.args.text.now s.args.spans.now s.args.keys.now) (operations_of s.args.operations.now) s.requires _ _ refl refl t.to-diff.ensures k.count.given.1) }
 
 array-share-prefix-items : tie.Need-array-share-prefix-items
 array-share-prefix-items c =
     let k = c.before in
     let t = k.before.before.before.before in
     let s = t.before.before.before.before.before.before.before.before.before in
-    items-in (lent_of s.args.original.now s.args.text.now s.args.spans.now s.args.keys.now) (operationsOf s.args.operations.now) s.requires _ _ refl refl t.to-diff.ensures k.count.given.1
+    items_in (lent_of s.args.original.now s.args.text.now s.args.spans.now s.args.keys.now) (operations_of s.args.operations.now) s.requires _ _ refl refl t.to-diff.ensures k.count.given.1
 
 slice-aggregate-write : tie.Need-slice-aggregate-write
 slice-aggregate-write c =
     let k = c.before.before in
     let t = k.before.before.before.before in
     let s = t.before.before.before.before.before.before.before.before.before in
-    sym (length-take-le _ _ (items-in (lent_of s.args.original.now s.args.text.now s.args.spans.now s.args.keys.now) (operationsOf s.args.operations.now) s.requires _ _ refl refl t.to-diff.ensures k.count.given.1))
+    sym (length-take-le _ _ (items_in (lent_of s.args.original.now s.args.text.now s.args.spans.now s.args.keys.now) (operations_of s.args.operations.now) s.requires _ _ refl refl t.to-diff.ensures k.count.given.1))
 
 array-share-prefix-added : tie.Need-array-share-prefix-added
 array-share-prefix-added c =
     let k = c.before.before in
     let t = k.before.before.before.before in
     let s = t.before.before.before.before.before.before.before.before.before in
-    text_in (lent_of s.args.original.now s.args.text.now s.args.spans.now s.args.keys.now) (operationsOf s.args.operations.now) s.requires _ _ refl refl t.to-diff.ensures k.count.given.1
+    text_in (lent_of s.args.original.now s.args.text.now s.args.spans.now s.args.keys.now) (operations_of s.args.operations.now) s.requires _ _ refl refl t.to-diff.ensures k.count.given.1
 
 slice-aggregate-write-2 : tie.Need-slice-aggregate-write-2
 slice-aggregate-write-2 c =
     let k = c.before.before.before in
     let t = k.before.before.before.before in
     let s = t.before.before.before.before.before.before.before.before.before in
-    sym (length-take-le _ _ (text_in (lent_of s.args.original.now s.args.text.now s.args.spans.now s.args.keys.now) (operationsOf s.args.operations.now) s.requires _ _ refl refl t.to-diff.ensures k.count.given.1))
+    sym (length-take-le _ _ (text_in (lent_of s.args.original.now s.args.text.now s.args.spans.now s.args.keys.now) (operations_of s.args.operations.now) s.requires _ _ refl refl t.to-diff.ensures k.count.given.1))
 
 write-requires : tie.Need-write-requires
 write-requires c κs = search rules
@@ -68,7 +68,7 @@ returns c =
     let k = c.before in
     let t = k.before.before.before.before in
     let s = t.before.before.before.before.before.before.before.before.before in
-    not-refused (lent_of s.args.original.now s.args.text.now s.args.spans.now s.args.keys.now) (operationsOf s.args.operations.now) s.requires _ _ refl refl t.to-diff.ensures k.refusal.given.1
+    not_refused (lent_of s.args.original.now s.args.text.now s.args.spans.now s.args.keys.now) (operations_of s.args.operations.now) s.requires _ _ refl refl t.to-diff.ensures k.refusal.given.1
 
 same_length : tie.Need-same-length
 same_length c = search rules
@@ -79,7 +79,7 @@ returns-2 c =
     let k = w.before.before.before.before.before in
     let t = k.before.before.before.before in
     let s = t.before.before.before.before.before.before.before.before.before in
-    writes (lent_of s.args.original.now s.args.text.now s.args.spans.now s.args.keys.now) (operationsOf s.args.operations.now) s.requires _ _ refl refl t.to-diff.ensures k.count.given.1 s.args.out.now _ w.write.ensures
+    writes (lent_of s.args.original.now s.args.text.now s.args.spans.now s.args.keys.now) (operations_of s.args.operations.now) s.requires _ _ refl refl t.to-diff.ensures k.count.given.1 s.args.out.now _ w.write.ensures
 
 pub show-file-spec : {M : Type 1} → statement M
 show-file-spec =

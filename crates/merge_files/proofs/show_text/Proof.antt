@@ -1,8 +1,8 @@
 -- `show_text` writes the text of a merged list in UTF-8.
 -- Each way is a law of Showing. Assumes nothing.
-use Rattle.merge_files.proofs.Showing.{applied, points-in, encodes}
+use Rattle.merge_files.proofs.Showing.{applied, points_in, encodes}
 use Rattle.merging.specs.Lent.{lent_of}
-use Rattle.records.specs.Operations.{operationsOf}
+use Rattle.records.specs.Operations.{operations_of}
 use mathlib.Core.Path.{refl, sym}
 use lib.Seq.{length-take-le}
 use borrow.Author.Rules.{rules}
@@ -32,14 +32,14 @@ array-share-prefix-points c =
     let k = c.before in
     let t = k.before.before.before.before in
     let s = t.before.before.before.before.before.before.before.before.before.before in
-    points-in (lent_of s.args.original.now s.args.text.now s.args.spans.now s.args.keys.now) (operationsOf s.args.operations.now) s.requires _ _ refl t.apply.ensures k.length.given.1
+    points_in (lent_of s.args.original.now s.args.text.now s.args.spans.now s.args.keys.now) (operations_of s.args.operations.now) s.requires _ _ refl t.apply.ensures k.length.given.1
 
 slice-aggregate-write : tie.Need-slice-aggregate-write
 slice-aggregate-write c =
     let k = c.before.before in
     let t = k.before.before.before.before in
     let s = t.before.before.before.before.before.before.before.before.before.before in
-    sym (length-take-le _ _ (points-in (lent_of s.args.original.now s.args.text.now s.args.spans.now s.args.keys.now) (operationsOf s.args.operations.now) s.requires _ _ refl t.apply.ensures k.length.given.1))
+    sym (length-take-le _ _ (points_in (lent_of s.args.original.now s.args.text.now s.args.spans.now s.args.keys.now) (operations_of s.args.operations.now) s.requires _ _ refl t.apply.ensures k.length.given.1))
 
 write-requires : tie.Need-write-requires
 write-requires c κs = search rules
@@ -49,7 +49,7 @@ returns c =
     let k = c.before in
     let t = k.before.before.before.before in
     let s = t.before.before.before.before.before.before.before.before.before.before in
-    applied (lent_of s.args.original.now s.args.text.now s.args.spans.now s.args.keys.now) (operationsOf s.args.operations.now) s.requires _ _ refl t.apply.ensures k.refusal.given.1
+    applied (lent_of s.args.original.now s.args.text.now s.args.spans.now s.args.keys.now) (operations_of s.args.operations.now) s.requires _ _ refl t.apply.ensures k.refusal.given.1
 
 same_length : tie.Need-same-length
 same_length c = search rules
@@ -60,7 +60,7 @@ returns-2 c =
     let k = w.before.before.before.before in
     let t = k.before.before.before.before in
     let s = t.before.before.before.before.before.before.before.before.before.before in
-    encodes (lent_of s.args.original.now s.args.text.now s.args.spans.now s.args.keys.now) (operationsOf s.args.operations.now) s.requires _ _ refl t.apply.ensures k.length.given.1 s.args.out.now _ w.write.ensures
+    encodes (lent_of s.args.original.now s.args.text.now s.args.spans.now s.args.keys.now) (operations_of s.args.operations.now) s.requires _ _ refl t.apply.ensures k.length.given.1 s.args.out.now _ w.write.ensures
 
 pub show-text-spec : {M : Type 1} → statement M
 show-text-spec =

@@ -1,6 +1,6 @@
 -- `told` tells how much of a history was written.
 -- By the cases of the answer. Assumes nothing.
-use Rattle.merge_files.specs.Steps.{fromHistory}
+use Rattle.merge_files.specs.Steps.{from_history}
 use borrow.Author.Rules.{rules}
 use Rattle.merge_files.proofs.told.Statement.{statement}
 use Rattle.merge_files.proofs.told.Tie as tie
@@ -12,12 +12,12 @@ enum-known-history-2 : tie.Need-enum-known-history-2
 enum-known-history-2 c = search rules
 
 returns : tie.Need-returns
-unfolding fromHistory
+unfolding from_history
 returns c =
     rw c.before.history.given.1
 
 returns-2 : tie.Need-returns-2
-unfolding fromHistory
+unfolding from_history
 returns-2 c =
     rw c.before.history2.given.1
 

@@ -28,8 +28,8 @@ add-sum c = search rules
 add-i : tie.Need-overflow-add-i invariant-numbers decreases-numbers
 add-i c = search rules
 
-numbers-less : tie.Need-numbers-smaller invariant-numbers decreases-numbers
-numbers-less c = search rules
+numbers_less : tie.Need-numbers-smaller invariant-numbers decreases-numbers
+numbers_less c = search rules
 
 numbers-again : tie.Need-numbers-preserved invariant-numbers decreases-numbers
 numbers-again c = search rules
@@ -49,6 +49,6 @@ sum-of-spec =
     shared-slice-read-sum
     add-sum
     add-i
-    numbers-less
+    numbers_less
     numbers-again
     returns)

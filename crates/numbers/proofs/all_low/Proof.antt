@@ -1,8 +1,8 @@
 -- `all_low` tells that a block's numbers are code points.
 -- While the bits of all together are below the surrogates, so is every number passed. Assumes nothing.
-use Rattle.numbers.specs.Points.{scalarsFrom}
+use Rattle.numbers.specs.Points.{scalars_from}
 use Rattle.numbers.proofs.Scalar.{by_one, to_end, below_both}
-use Rattle.numbers.proofs.Points.{point-low}
+use Rattle.numbers.proofs.Points.{point_low}
 use Prim.Native.Nat.{◌-◌, ◌≤◌, ◌<◌}
 use mathlib.Core.Path.{◌≡◌, refl, ◌∙◌}
 use native.Mathlib.Omega.{arith}
@@ -12,7 +12,7 @@ use Rattle.numbers.proofs.all_low.Statement.{statement}
 use Rattle.numbers.proofs.all_low.Tie as tie
 
 abbrev invariant-block : tie.invariant-block
-invariant-block text at end bits₀ i₀ bits i = (i ≤ end) × (bits < 55296 → scalarsFrom text i ≡ scalarsFrom text at)
+invariant-block text at end bits₀ i₀ bits i = (i ≤ end) × (bits < 55296 → scalars_from text i ≡ scalars_from text at)
 
 abbrev decreases-block : tie.decreases-block
 decreases-block text at end bits₀ i₀ bits i = end - i
@@ -36,7 +36,7 @@ block-again : tie.Need-block-preserved invariant-block decreases-block
 block-again c =
     let c2 = c.before.before in (
       omega arith,
-      λ h. let o = below_both _ _ _ h in by_one _ _ (omega (arith, c2.before.requires.1)) (point-low _ o.1) ∙ c2.block.invariant.1 o.0,
+      λ h. let o = below_both _ _ _ h in by_one _ _ (omega (arith, c2.before.requires.1)) (point_low _ o.1) ∙ c2.block.invariant.1 o.0,
     )
 
 returns : tie.Need-returns invariant-block decreases-block

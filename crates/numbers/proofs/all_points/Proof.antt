@@ -1,8 +1,8 @@
 -- `all_points` tells that a block's numbers are code points.
 -- While the flag stands and the bits of all together are at most 10FFFF, so is every number passed. Assumes nothing.
-use Rattle.numbers.specs.Points.{scalarsFrom}
+use Rattle.numbers.specs.Points.{scalars_from}
 use Rattle.numbers.proofs.Scalar.{by_one, to_end, below_both}
-use Rattle.numbers.proofs.Points.{point-but}
+use Rattle.numbers.proofs.Points.{point_but}
 use Rattle.room.proofs.Bools.{and_left, and_right}
 use Prim.Native.Nat.{◌-◌, ◌≤◌, ◌<◌}
 use mathlib.Core.Path.{◌≡◌, refl, ◌∙◌}
@@ -14,7 +14,7 @@ use Rattle.numbers.proofs.all_points.Statement.{statement}
 use Rattle.numbers.proofs.all_points.Tie as tie
 
 abbrev invariant-block : tie.invariant-block
-invariant-block text at end points₀ bits₀ i₀ points bits i = (i ≤ end) × (points ≡ true → bits < 0x110000 → scalarsFrom text i ≡ scalarsFrom text at)
+invariant-block text at end points₀ bits₀ i₀ points bits i = (i ≤ end) × (points ≡ true → bits < 0x110000 → scalars_from text i ≡ scalars_from text at)
 
 abbrev decreases-block : tie.decreases-block
 decreases-block text at end points₀ bits₀ i₀ points bits i = end - i
@@ -40,7 +40,7 @@ block-again c =
       omega arith,
       λ t h.
           let b = below_both _ _ _ h in
-          by_one _ _ (omega (arith, c2.before.requires.1)) (point-but _ (eqb-false _ _ (not-true _ (and_right c2.block.points _ t))) (omega (arith, b.1))) ∙ c2.block.invariant.1 (and_left c2.block.points _ t) b.0,
+          by_one _ _ (omega (arith, c2.before.requires.1)) (point_but _ (eqb-false _ _ (not-true _ (and_right c2.block.points _ t))) (omega (arith, b.1))) ∙ c2.block.invariant.1 (and_left c2.block.points _ t) b.0,
     )
 
 returns : tie.Need-returns invariant-block decreases-block

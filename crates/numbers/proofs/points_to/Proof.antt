@@ -1,7 +1,7 @@
 -- `points_to` finds the first number that is no code point.
 -- What is left of the text gives the answer of what was left at the start. Assumes nothing.
-use Rattle.numbers.specs.Points.{scalarsFrom}
-use Rattle.numbers.proofs.Scalar.{by_one, at-bad}
+use Rattle.numbers.specs.Points.{scalars_from}
+use Rattle.numbers.proofs.Scalar.{by_one, at_bad}
 use Prim.Native.Nat.{◌-◌, ◌≤◌}
 use mathlib.Core.Path.{◌≡◌, refl, sym, ◌∙◌}
 use native.Mathlib.Omega.{arith}
@@ -10,7 +10,7 @@ use Rattle.numbers.proofs.points_to.Statement.{statement}
 use Rattle.numbers.proofs.points_to.Tie as tie
 
 abbrev invariant-points : tie.invariant-points
-invariant-points text at end i₀ i = (i ≤ end) × (scalarsFrom text i ≡ scalarsFrom text at)
+invariant-points text at end i₀ i = (i ≤ end) × (scalars_from text i ≡ scalars_from text at)
 
 abbrev decreases-points : tie.decreases-points
 decreases-points text at end i₀ i = end - i
@@ -41,7 +41,7 @@ points-again c =
 returns : tie.Need-returns invariant-points decreases-points
 returns c =
     let c3 = c.before.before.before in
-    (c3.before.points.invariant.0, c3.before.points.invariant.1, λ l. at-bad _ _ (omega (arith, c3.points-test.true, c3.before.before.before.requires.1)) (sym c.before.is-point.ensures ∙ c.if1.false) ∙ c3.before.points.invariant.1)
+    (c3.before.points.invariant.0, c3.before.points.invariant.1, λ l. at_bad _ _ (omega (arith, c3.points-test.true, c3.before.before.before.requires.1)) (sym c.before.is-point.ensures ∙ c.if1.false) ∙ c3.before.points.invariant.1)
 
 returns-2 : tie.Need-returns-2 invariant-points decreases-points
 returns-2 c = (c.before.points.invariant.0, c.before.points.invariant.1, λ l. absurd (omega arith))

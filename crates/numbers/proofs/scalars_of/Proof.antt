@@ -1,7 +1,7 @@
 -- `scalars_of` is the index of the first number that is no code point.
 -- Blocks of code points first; what is left of the text gives the answer of the whole. Assumes nothing.
-use Rattle.numbers.specs.Points.{scalars, scalarsFrom}
-use Rattle.numbers.proofs.Scalar.{at-end}
+use Rattle.numbers.specs.Points.{scalars, scalars_from}
+use Rattle.numbers.proofs.Scalar.{at_end}
 use lib.ListN.{length}
 use Prim.Native.Nat.{◌-◌, ◌≤◌}
 use mathlib.Core.Path.{◌≡◌, ◌∙◌}
@@ -11,7 +11,7 @@ use Rattle.numbers.proofs.scalars_of.Statement.{statement}
 use Rattle.numbers.proofs.scalars_of.Tie as tie
 
 abbrev invariant-parts : tie.invariant-parts
-invariant-parts text i₀ i = (i ≤ length text) × (scalarsFrom text i ≡ scalars text)
+invariant-parts text i₀ i = (i ≤ length text) × (scalars_from text i ≡ scalars text)
 
 abbrev decreases-parts : tie.decreases-parts
 decreases-parts text i₀ i = length text - i
@@ -60,7 +60,7 @@ parts-again-3 c =
     (omega (arith, p.0, c6.block-end.ensures.1), p.1 ∙ c6.before.before.parts.invariant.1)
 
 returns-2 : tie.Need-returns-2 invariant-parts decreases-parts
-returns-2 c = at-end _ _ c.parts-test.false ∙ c.before.parts.invariant.1
+returns-2 c = at_end _ _ c.parts-test.false ∙ c.before.parts.invariant.1
 
 pub scalars-of-spec : {M : Type 1} → statement M
 scalars-of-spec =

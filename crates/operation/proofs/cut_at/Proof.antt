@@ -1,6 +1,6 @@
 -- Shown: `cut_at` answers `cut_at`.
 -- How: each way through it is a law of proofs/Cuts.antt.
-use Rattle.merging.proofs.OneTurn.{cut_in, cut-past, cut-none}
+use Rattle.merging.proofs.OneTurn.{cut_in, cut_past, cut_none}
 use mathlib.Core.Path.{sym}
 use borrow.Author.Rules.{rules}
 use Rattle.operation.proofs.cut_at.Statement.{statement}
@@ -16,10 +16,10 @@ returns : tie.Need-returns
 returns c = sym (cut_in _ _ _ c.before.if1.true c.if2.true)
 
 returns-2 : tie.Need-returns-2
-returns-2 c = sym (cut-past _ _ _ c.before.if1.true c.if2.false)
+returns-2 c = sym (cut_past _ _ _ c.before.if1.true c.if2.false)
 
 returns-3 : tie.Need-returns-3
-returns-3 c = sym (cut-none _ _ _ c.if1.false)
+returns-3 c = sym (cut_none _ _ _ c.if1.false)
 
 pub cut-at-spec : {M : Type 1} → statement M
 cut-at-spec = tie.close (tie.spec add-if2 sub-result returns returns-2 returns-3)

@@ -1,4 +1,4 @@
--- Shown: `cut_at_end` answers `cutAtEnd`.
+-- Shown: `cut_at_end` answers `cut_at_end`.
 -- How: its steps are those of the definition.
 use Rattle.operation.specs.Views.{reach}
 use mathlib.Core.Path.{ap}

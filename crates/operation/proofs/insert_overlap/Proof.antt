@@ -1,6 +1,6 @@
--- Shown: `insert_overlap` answers `overlapAt`.
+-- Shown: `insert_overlap` answers `overlap_at`.
 -- How: each way through it is a law of proofs/Scratch.antt.
-use Rattle.operation.proofs.Scratch.{part-is, scratched, rest-is, untouched}
+use Rattle.operation.proofs.Scratch.{part_is, scratched, rest_is, untouched}
 use Rattle.overlap.specs.Table.{Table, Filled}
 use Rattle.overlap.specs.declared.Range.{Range}
 use Rattle.overlap.proofs.Overlaps.{overlaps, counted_is}
@@ -21,7 +21,7 @@ scan-fits :
     → Table new (take (length (put_mid at (length w - at) w t) - at) (drop at (put_mid at (length w - at) w t))) (length new)
     × (length new ≤ length (take (length (put_mid at (length w - at) w t) - at) (drop at (put_mid at (length w - at) w t))))
 scan-fits w t at new h l f =
-    let e = rest-is w t at (omega arith) l in
+    let e = rest_is w t at (omega arith) l in
     let lm : length (mid_of at (length w - at) w) ≡ length w - at = mid_len at (length w) w (omega arith) in
     (subst (λ (x : List ℕ). Table new x (length new)) (sym e) f.table, subst (λ (x : List ℕ). length new ≤ length x) (sym e) (omega (arith, l, lm)))
 
@@ -115,9 +115,9 @@ returns c =
     let m = mid_of b.table (length w - b.table) w in
     let s = scratched w t b.table b.count r.2 c.before.before.before.before.before.before.before.before.fill.auto.1.0 (subst (λ (k : ℕ). drop k t ≡ drop k m) e c.before.before.before.before.before.before.before.before.fill.ensures.kept) in
     let u : mid_of b.from (b.fill - b.from) (put_mid b.table (length w - b.table) w t) ≡ slice b.from b.fill w =
-    part-is b.from b.fill _ r.3 (omega (arith, s.same, r.3, r.4)) ∙ untouched s b.from b.fill r.3 r.4 r.5 in
+    part_is b.from b.fill _ r.3 (omega (arith, s.same, r.3, r.4)) ∙ untouched s b.from b.fill r.3 r.4 r.5 in
     let q : mid_of b.first (b.first + b.count - b.first) b.keys.now ≡ slice b.first (b.first + b.count) b.keys.now =
-    part-is b.first (b.first + b.count) b.keys.now (omega arith) (omega (arith, r.0)) in
+    part_is b.first (b.first + b.count) b.keys.now (omega arith) (omega (arith, r.0)) in
     (c.count-from.ensures ∙ counted_is b.least _ _ (sym e ∙ ap length q) (c.before.scan.ensures ∙ cc (u, q)), s)
 
 pub insert-overlap-spec : {M : Type 1} → statement M

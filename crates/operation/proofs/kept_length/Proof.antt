@@ -1,7 +1,7 @@
--- Shown: `kept_length` answers `keptLength`.
+-- Shown: `kept_length` answers `kept_length`.
 -- How: each way through it is a law of proofs/Cuts.antt.
-use Rattle.operation.proofs.Cuts.{kept-beyond, kept_here}
-use Rattle.merging.specs.Meeting.{cutAt, keptLength}
+use Rattle.operation.proofs.Cuts.{kept_beyond, kept_here}
+use Rattle.merging.specs.Meeting.{cut_at, kept_length}
 use mathlib.Core.Path.{sym, ap, ◌∙◌}
 use native.Mathlib.Omega.{arith}
 use borrow.Author.Rules.{rules}
@@ -24,11 +24,11 @@ cut-at-end-requires : tie.Need-cut-at-end-requires
 cut-at-end-requires c κs = (c.before.before.before.before.before.requires.0, rw c.before.before.before.next.given.1 at c.before.before.before.before.before.requires.1)
 
 returns : tie.Need-returns
-unfolding keptLength
+unfolding kept_length
 returns c = rw c.enum_told.given.1
 
 returns-2 : tie.Need-returns-2
-returns-2 c = rw c.before.before.before.before.next.given.1 (c.cut_at.ensures ∙ ap (cutAt c.before.before.before.before.before.before.args.order c.before.before.before.before.before.before.args.length) c.before.before.order-of.ensures ∙ sym (kept-beyond _ _ _ _ (omega (arith, c.before.before.order-of.ensures))))
+returns-2 c = rw c.before.before.before.before.next.given.1 (c.cut_at.ensures ∙ ap (cut_at c.before.before.before.before.before.before.args.order c.before.before.before.before.before.before.args.length) c.before.before.order-of.ensures ∙ sym (kept_beyond _ _ _ _ (omega (arith, c.before.before.order-of.ensures))))
 
 returns-3 : tie.Need-returns-3
 returns-3 c = rw c.before.before.before.before.next.given.1 (c.cut-at-end.ensures ∙ sym (kept_here _ _ _ _ (omega (arith, c.before.before.order-of.ensures))))

@@ -1,9 +1,9 @@
--- Shown: `merge_operations` answers `lostBy`.
+-- Shown: `merge_operations` answers `lost_by`.
 -- How: its steps are those of the definition.
 use Rattle.operation.specs.Views.{LastFits}
 use Rattle.operation.specs.declared.Last.TheVariants.{Deleted, Retained}
 use native.Mathlib.Omega.{arith}
-use Rattle.operation.specs.Meets.{lostBy}
+use Rattle.operation.specs.Meets.{lost_by}
 use borrow.Author.Rules.{rules}
 use Rattle.operation.proofs.merge_operations.Statement.{statement}
 use Rattle.operation.proofs.merge_operations.Tie as tie
@@ -69,39 +69,39 @@ enum-known-last-6 : tie.Need-enum-known-last-6
 enum-known-last-6 c = search rules
 
 returns : tie.Need-returns
-unfolding lostBy
+unfolding lost_by
 returns c = rw (c.before.before.before.a.given.1, c.enum_told.given.1)
 
 returns-2 : tie.Need-returns-2
-unfolding lostBy
+unfolding lost_by
 returns-2 c = rw (c.before.before.before.before.before.before.a.given.1, c.before.before.before.last.given.1) (rw (c.smaller.ensures, c.before.past.ensures))
 
 returns-3 : tie.Need-returns-3
-unfolding lostBy
+unfolding lost_by
 returns-3 c = rw (c.before.before.before.before.a.given.1, c.before.last2.given.1)
 
 returns-4 : tie.Need-returns-4
-unfolding lostBy
+unfolding lost_by
 returns-4 c = rw (c.before.before.before.before.a.given.1, c.before.last3.given.1)
 
 returns-5 : tie.Need-returns-5
-unfolding lostBy
+unfolding lost_by
 returns-5 c = rw c.before.a2.given.1
 
 returns-6 : tie.Need-returns-6
-unfolding lostBy
+unfolding lost_by
 returns-6 c = rw (c.before.before.before.a3.given.1, c.enum-told2.given.1)
 
 returns-7 : tie.Need-returns-7
-unfolding lostBy
+unfolding lost_by
 returns-7 c = rw (c.before.before.before.before.before.before.a3.given.1, c.before.before.before.last4.given.1) (rw (c.smaller2.ensures, c.before.past2.ensures))
 
 returns-8 : tie.Need-returns-8
-unfolding lostBy
+unfolding lost_by
 returns-8 c = rw (c.before.before.before.before.before.before.a3.given.1, c.before.before.before.last5.given.1) (rw (c.smaller3.ensures, c.before.past3.ensures))
 
 returns-9 : tie.Need-returns-9
-unfolding lostBy
+unfolding lost_by
 returns-9 c = rw (c.before.before.before.before.a3.given.1, c.before.last6.given.1)
 
 pub merge-operations-spec : {M : Type 1} → statement M

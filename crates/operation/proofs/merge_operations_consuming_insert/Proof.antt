@@ -1,10 +1,10 @@
--- Shown: `merge_operations_consuming_insert` answers `metBy`.
+-- Shown: `merge_operations_consuming_insert` answers `met_by`.
 -- How: each way through it is a law of proofs/Pairs.antt and proofs/Scratch.antt.
 use lib.Seq.{slice}
 use Prim.Native.Nat.{◌+◌}
 use Rattle.operation.proofs.Pairs.{met-inserts}
 use Rattle.operation.proofs.Scratch.{unscratched}
-use Rattle.operation.specs.Meets.{met, metIn, metBy}
+use Rattle.operation.specs.Meets.{met, met_in, met_by}
 use Rattle.operation.specs.Views.{Meetable}
 use Rattle.operation.specs.declared.Last.TheVariants.{Inserted}
 use Rattle.merging.specs.declared.Op.TheVariants.{Insert}
@@ -66,29 +66,29 @@ not-inserts-requires-5 : tie.Need-not-inserts-requires-5
 not-inserts-requires-5 c κs = search rules
 
 returns : tie.Need-returns
-unfolding metBy
+unfolding met_by
 returns c = (rw c.before.before.before.a.given.1 (c.not-inserts.ensures ∙ ap (λ (z : ℕ). met z 0 0) c.before.merge-operations.ensures), unscratched _ _ _)
 
 returns-2 : tie.Need-returns-2
-unfolding metBy
+unfolding met_by
 returns-2 c = (rw (c.before.before.before.before.a2.given.1, c.before.enum_told.given.1) c.not-inserts2.ensures, unscratched _ _ _)
 
 returns-3 : tie.Need-returns-3
-unfolding metBy
+unfolding met_by
 returns-3 c = (rw (c.before.before.before.before.before.a2.given.1, c.before.before.last.given.1) c.not-inserts3.ensures, unscratched _ _ _)
 
 returns-4 : tie.Need-returns-4
-unfolding metBy
+unfolding met_by
 returns-4 c = (rw (c.before.before.before.before.before.a2.given.1, c.before.before.last2.given.1) c.not-inserts4.ensures, unscratched _ _ _)
 
 same_length : tie.Need-same-length
 same_length c = search rules
 
 returns-5 : tie.Need-returns-5
-returns-5 c = (ap metIn c.before.before.before.insert-overlap.ensures.0 ∙ sym (met-inserts _ _ _ _ _ _ _ _ _ _ _ c.before.before.before.before.before.before.before.before.before.a2.given.1 c.before.before.before.before.before.before.last3.given.1), rw c.before.before.before.before.before.before.before.before.before.a2.given.1 c.before.before.before.insert-overlap.ensures.1)
+returns-5 c = (ap met_in c.before.before.before.insert-overlap.ensures.0 ∙ sym (met-inserts _ _ _ _ _ _ _ _ _ _ _ c.before.before.before.before.before.before.before.before.before.a2.given.1 c.before.before.before.before.before.before.last3.given.1), rw c.before.before.before.before.before.before.before.before.before.a2.given.1 c.before.before.before.insert-overlap.ensures.1)
 
 returns-6 : tie.Need-returns-6
-unfolding metBy
+unfolding met_by
 returns-6 c = (rw c.before.before.before.a3.given.1 (c.not-inserts5.ensures ∙ ap (λ (z : ℕ). met z 0 0) c.before.merge-operations2.ensures), unscratched _ _ _)
 
 pub merge-operations-consuming-insert-spec : {M : Type 1} → statement M

@@ -1,6 +1,6 @@
 -- Shown: `overlap_place` meets its contract.
 -- How: each way through it is a law of proofs/Places.antt.
-use Rattle.operation.proofs.Places.{place_none, placed-as, rest_part, found}
+use Rattle.operation.proofs.Places.{place_none, placed_as, rest_part, found}
 use borrow.Rule.Slice.PartMut.{mid_len}
 use lib.ListN.{length, length-drop}
 use mathlib.Core.Path.{refl, ap}
@@ -10,7 +10,7 @@ use Rattle.operation.proofs.overlap_place.Statement.{statement}
 use Rattle.operation.proofs.overlap_place.Tie as tie
 
 returns : tie.Need-returns
-returns c = placed-as (place_none _ _ _ _ c.if1.true) refl refl
+returns c = placed_as (place_none _ _ _ _ c.if1.true) refl refl
 
 mul-sum-of : tie.Need-overflow-mul-sum-of
 mul-sum-of c = search rules

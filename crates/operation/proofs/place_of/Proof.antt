@@ -1,7 +1,7 @@
 -- Shown: `place_of` meets its contract.
 -- How: each way through it is a law of proofs/Scratch.antt.
-use Rattle.operation.proofs.Scratch.{part-is}
-use Rattle.operation.specs.Meets.{placeBy}
+use Rattle.operation.proofs.Scratch.{part_is}
+use Rattle.operation.specs.Meets.{place_by}
 use Rattle.operation.specs.Views.{Placeable}
 use Rattle.operation.specs.declared.Met.{Met}
 use Rattle.operation.specs.declared.Last.{Last}
@@ -76,39 +76,39 @@ enum-known-last-6 : tie.Need-enum-known-last-6
 enum-known-last-6 c = search rules
 
 returns : tie.Need-returns
-unfolding placeBy
+unfolding place_by
 returns c = rw c.before.a.given.1 (record { start = refl; shared = refl })
 
 returns-2 : tie.Need-returns-2
-unfolding placeBy
+unfolding place_by
 returns-2 c = rw (c.before.before.before.a2.given.1, c.enum_told.given.1) (record { start = refl; shared = refl })
 
 returns-3 : tie.Need-returns-3
-unfolding placeBy
+unfolding place_by
 returns-3 c = rw (c.before.before.before.before.a2.given.1, c.before.last.given.1) (record { start = refl; shared = refl })
 
 returns-4 : tie.Need-returns-4
-unfolding placeBy
+unfolding place_by
 returns-4 c = rw (c.before.before.before.before.a2.given.1, c.before.last2.given.1) (record { start = refl; shared = refl })
 
 returns-5 : tie.Need-returns-5
-unfolding placeBy
-returns-5 c = let n = near c.before.before.before.last3.given.1 c.before.before.before.before.before.before.before.before.before.requires in let h = c.before.before.before.before.before.before.before.before.before.args.half in let f = c.before.before.before.last3.given.0.1.0 in rw (c.before.before.before.before.before.before.a2.given.1, c.before.before.before.last3.given.1, sym (part-is (h + f) (h + c.before.before.before.before.before.before.before.before.before.args.fill) c.before.before.before.before.before.before.before.before.before.args.work.now (omega (arith, n.reaches)) (omega (arith, n.reaches, n.within)))) c.overlap-place.ensures
+unfolding place_by
+returns-5 c = let n = near c.before.before.before.last3.given.1 c.before.before.before.before.before.before.before.before.before.requires in let h = c.before.before.before.before.before.before.before.before.before.args.half in let f = c.before.before.before.last3.given.0.1.0 in rw (c.before.before.before.before.before.before.a2.given.1, c.before.before.before.last3.given.1, sym (part_is (h + f) (h + c.before.before.before.before.before.before.before.before.before.args.fill) c.before.before.before.before.before.before.before.before.before.args.work.now (omega (arith, n.reaches)) (omega (arith, n.reaches, n.within)))) c.overlap-place.ensures
 
 returns-6 : tie.Need-returns-6
-unfolding placeBy
+unfolding place_by
 returns-6 c = rw (c.before.before.before.a3.given.1, c.enum-told2.given.1) (record { start = refl; shared = refl })
 
 returns-7 : tie.Need-returns-7
-unfolding placeBy
+unfolding place_by
 returns-7 c = rw (c.before.before.before.before.a3.given.1, c.before.last4.given.1) (record { start = refl; shared = refl })
 
 returns-8 : tie.Need-returns-8
-unfolding placeBy
+unfolding place_by
 returns-8 c = rw (c.before.before.before.before.before.a3.given.1, c.before.before.last5.given.1) (record { start = c.past.ensures; shared = refl })
 
 returns-9 : tie.Need-returns-9
-unfolding placeBy
+unfolding place_by
 returns-9 c = rw (c.before.before.before.before.a3.given.1, c.before.last6.given.1) (record { start = refl; shared = refl })
 
 pub place-of-spec : {M : Type 1} → statement M

@@ -1,4 +1,4 @@
--- Shown: `removed_of` answers `removedOf`.
+-- Shown: `removed_of` answers `removed_of`.
 -- How: its steps are those of the definition.
 use Rattle.operation.specs.Views.{Lies, size}
 use Rattle.merging.specs.declared.Op.TheVariants.{Insert}

@@ -1,7 +1,7 @@
 -- Shown: `split_retain_before` meets its contract.
 -- How: each way through it is a law of proofs/Cuts.antt.
-use Rattle.operation.proofs.Cuts.{tail-cut, tail-whole}
-use Rattle.operation.specs.Meets.{tailBy}
+use Rattle.operation.proofs.Cuts.{tail_cut, tail_whole}
+use Rattle.operation.specs.Meets.{tail_by}
 use Rattle.operation.specs.Views.{reach}
 use Rattle.merging.specs.declared.Op.TheVariants.{Retain}
 use mathlib.Core.Path.{refl, sym, ap}
@@ -29,18 +29,18 @@ sub-t18 : tie.Need-overflow-sub-t18
 sub-t18 c = search rules
 
 returns : tie.Need-returns
-unfolding tailBy
+unfolding tail_by
 returns c = rw c.before.a.given.1 (refl, refl)
 
 returns-2 : tie.Need-returns-2
-unfolding tailBy
+unfolding tail_by
 returns-2 c = rw c.before.a2.given.1 (refl, refl)
 
 returns-3 : tie.Need-returns-3
-returns-3 c = rw c.before.before.before.a3.given.1 (ap (Retain c.before.before.before.a3.given.0.0) c.before.kept-length.ensures, sym (tail-cut _ _ _ _ c.before.kept-length.ensures c.if1.true))
+returns-3 c = rw c.before.before.before.a3.given.1 (ap (Retain c.before.before.before.a3.given.0.0) c.before.kept-length.ensures, sym (tail_cut _ _ _ _ c.before.kept-length.ensures c.if1.true))
 
 returns-4 : tie.Need-returns-4
-returns-4 c = rw c.before.before.before.a3.given.1 (ap (Retain c.before.before.before.a3.given.0.0) c.before.kept-length.ensures, sym (tail-whole _ _ _ _ c.before.kept-length.ensures c.if1.false))
+returns-4 c = rw c.before.before.before.a3.given.1 (ap (Retain c.before.before.before.a3.given.0.0) c.before.kept-length.ensures, sym (tail_whole _ _ _ _ c.before.kept-length.ensures c.if1.false))
 
 pub split-retain-before-spec : {M : Type 1} → statement M
 split-retain-before-spec =

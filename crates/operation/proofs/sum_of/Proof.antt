@@ -1,6 +1,6 @@
 -- Shown: `sum_of` answers the sum of lengths.
 -- How: loop `sum` keeps `Summing`, and each way through it is a law of proofs/Sums.antt.
-use Rattle.operation.proofs.Sums.{Summing, summing, summed, all-summed}
+use Rattle.operation.proofs.Sums.{Summing, summing, summed, all_summed}
 use lib.ListN.{length}
 use Prim.Native.Nat.{◌-◌}
 use native.Mathlib.Omega.{arith}
@@ -39,7 +39,7 @@ sum-again : tie.Need-sum-preserved invariant-sum decreases-sum
 sum-again c = rw c.wide.ensures (summed _ _ _ c.before.before.before.sum.invariant c.before.before.sum-test.true (omega (arith, c.before.shared-slice-known2.given c.before.before.before.sum.i)))
 
 returns : tie.Need-returns invariant-sum decreases-sum
-returns c = all-summed _ _ _ c.before.sum.invariant (omega arith)
+returns c = all_summed _ _ _ c.before.sum.invariant (omega arith)
 
 pub sum-of-spec : {M : Type 1} → statement M
 sum-of-spec =

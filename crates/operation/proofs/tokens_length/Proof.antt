@@ -1,8 +1,8 @@
 -- Shown: `tokens_length` answers the sum of the tokens' lengths.
 -- How: loop `sum` keeps `Counting`, and each way through it is a law of proofs/Sums.antt.
 use Prim.Native.Nat.{◌+◌, ◌*◌}
-use Rattle.operation.proofs.Sums.{Counting, counting, counted, all-counted}
-use Rattle.operation.specs.Views.{ofSpans}
+use Rattle.operation.proofs.Sums.{Counting, counting, counted, all_counted}
+use Rattle.operation.specs.Views.{of_spans}
 use Prim.Native.Nat.{◌-◌}
 use native.Mathlib.Omega.{arith}
 use borrow.Author.Rules.{rules}
@@ -10,7 +10,7 @@ use Rattle.operation.proofs.tokens_length.Statement.{statement}
 use Rattle.operation.proofs.tokens_length.Tie as tie
 
 abbrev invariant-sum : tie.invariant-sum
-invariant-sum spans first count total₀ i₀ total i = Counting (ofSpans spans) first count total i
+invariant-sum spans first count total₀ i₀ total i = Counting (of_spans spans) first count total i
 
 abbrev decreases-sum : tie.decreases-sum
 decreases-sum spans first count total₀ i₀ total i = count - i
@@ -49,7 +49,7 @@ sum-again : tie.Need-sum-preserved invariant-sum decreases-sum
 sum-again c = rw c.wide.ensures (counted _ _ _ _ _ c.before.before.before.sum.invariant c.before.before.sum-test.true (omega (arith, c.before.shared-slice-known2.given ((c.before.before.before.before.before.args.first + c.before.before.before.sum.i) * 2 + 1))))
 
 returns : tie.Need-returns invariant-sum decreases-sum
-returns c = all-counted _ _ _ _ _ c.before.sum.invariant (omega arith)
+returns c = all_counted _ _ _ _ _ c.before.sum.invariant (omega arith)
 
 pub tokens-length-spec : {M : Type 1} → statement M
 tokens-length-spec =

@@ -1,10 +1,10 @@
--- Shown: `used_up` answers `usedBy`.
+-- Shown: `used_up` answers `used_by`.
 -- How: each way through its tests is a case of the definition's tests.
 use Rattle.operation.specs.Views.{Reaches}
 use Rattle.operation.specs.declared.Last.TheVariants.{Inserted}
 use borrow.Author.Tests.{eq-eqb, ne_eqb}
 use native.Mathlib.Omega.{arith}
-use Rattle.operation.specs.Meets.{usedBy}
+use Rattle.operation.specs.Meets.{used_by}
 use borrow.Author.Rules.{rules}
 use Rattle.operation.proofs.used_up.Statement.{statement}
 use Rattle.operation.proofs.used_up.Tie as tie
@@ -34,31 +34,31 @@ enum-known-a-3 : tie.Need-enum-known-a-3
 enum-known-a-3 c = search rules
 
 returns : tie.Need-returns
-unfolding usedBy
+unfolding used_by
 returns c = rw c.before.a.given.1
 
 returns-2 : tie.Need-returns-2
-unfolding usedBy
+unfolding used_by
 returns-2 c = rw (c.before.before.before.a2.given.1, c.enum_told.given.1)
 
 returns-3 : tie.Need-returns-3
-unfolding usedBy
+unfolding used_by
 returns-3 c = rw (c.before.before.before.before.a2.given.1, c.before.last.given.1)
 
 returns-4 : tie.Need-returns-4
-unfolding usedBy
+unfolding used_by
 returns-4 c = rw (c.before.before.before.before.a2.given.1, c.before.last2.given.1)
 
 returns-5 : tie.Need-returns-5
-unfolding usedBy
+unfolding used_by
 returns-5 c = rw (c.before.before.before.before.before.before.before.a2.given.1, c.before.before.before.before.last3.given.1, eq-eqb _ _ c.before.if1.true)
 
 returns-6 : tie.Need-returns-6
-unfolding usedBy
+unfolding used_by
 returns-6 c = rw (c.before.before.before.before.before.before.a2.given.1, c.before.before.before.last3.given.1, ne_eqb _ _ c.if1.false)
 
 returns-7 : tie.Need-returns-7
-unfolding usedBy
+unfolding used_by
 returns-7 c = rw c.before.a3.given.1
 
 pub used-up-spec : {M : Type 1} → statement M

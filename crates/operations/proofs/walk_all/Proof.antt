@@ -55,7 +55,7 @@ use Rattle.records.specs.declared.Operation.{Operation}
 use Rattle.records.specs.contracts.Operation as O
 use Rattle.records.proofs.Operation.TheLaws as O'
 use Rattle.operations.specs.declared.Walk.{Walk}
-use Rattle.operations.specs.Folds.{noOperation, walkFrom, walkStep, walkAll}
+use Rattle.operations.specs.Folds.{no_operation, walk_from, walk_step, walk_all}
 use Rattle.operations.proofs.Walks.{walk_more}
 use Rattle.operations.specs.contracts.Walk as S
 use Rattle.operations.proofs.Walk.TheLaws as S'
@@ -171,13 +171,13 @@ module _ {M : Type 1} {𝓤 : Ura M} (𝓛 : Logic 𝓤) (mem : Memory → SProp
 
   -- what w holds at the start, and after i turns
   abbrev begins : Walk
-  begins = walkFrom k m
+  begins = walk_from k m
 
   abbrev after : ℕ → Walk
-  after i = walkAll x₀.now x₁.now (take i ys) begins
+  after i = walk_all x₀.now x₁.now (take i ys) begins
 
   abbrev elem : ℕ → Operation
-  elem i = get_or ys i noOperation
+  elem i = get_or ys i no_operation
 
   -- the call before the loop
   abbrev to_start : (Start 𝓛 mem run).Ghost
@@ -193,7 +193,7 @@ module _ {M : Type 1} {𝓤 : Ura M} (𝓛 : Logic 𝓤) (mem : Memory → SProp
 
   -- the call of a turn
   abbrev Said : Walk → Operation → Walk → Type 0
-  Said s p r = r ≡ walkStep x₀.now x₁.now s p
+  Said s p r = r ≡ walk_step x₀.now x₁.now s p
 
   abbrev two : Lfts 2
   two = (κ₀, (κ₁, tt))
@@ -226,7 +226,7 @@ module _ {M : Type 1} {𝓤 : Ura M} (𝓛 : Logic 𝓤) (mem : Memory → SProp
   exits f =
       qed 𝓛 (‵ (flft κ₂ q₂) ∷ ‵ Own ∷ Rest ∷ []) ∵
       suffices ! _ (ends_at 𝓛 all'.ended stayed (all'.clauses 𝓛 mem run) ((κs, (q₀, (q₁, (q₂, tt))), tt, args, at), tt) (sval (after n)) (after n) (tt, (tt, (tt, (tt, (tt, tt))))) (tt, (tt, (tt, (tt, (tt, tt)))))) $
-      says ! (ap (λ (l : List Operation). walkAll x₀.now x₁.now l begins) (take-length ys)) $
+      says ! (ap (λ (l : List Operation). walk_all x₀.now x₁.now l begins) (take-length ys)) $
       move ! (2 ∷ []) $ split ! $ split ! $ move ! (1 ∷ []) $ split ! $ move ! (4 ∷ 1 ∷ []) $ join ! $ move ! (1 ∷ 0 ∷ []) $ join ! $ move ! (1 ∷ 0 ∷ []) $ join ! $
       -- [the tokens; the spans and the keys; what the operations own]
       frame ! $ nothing ! $ move ! (2 ∷ 0 ∷ []) $ fjoin ! $ move ! (1 ∷ []) $ split ! $ move ! (1 ∷ 2 ∷ []) $ fjoin ! $ move ! (1 ∷ 0 ∷ []) $ fjoin ! $
@@ -244,7 +244,7 @@ module _ {M : Type 1} {𝓤 : Ura M} (𝓛 : Logic 𝓤) (mem : Memory → SProp
   Nearer-wf = InvImage.wf (λ (i : Upto). n - i.0) lt-wf_rel.wf
 
   begun : IsT begins (sval begins) → IsT (after 0) (sval (after 0))
-  unfolding walkAll
+  unfolding walk_all
   begun g = g
 
   -- a result that is a value of the definition, machine value and all
@@ -289,10 +289,10 @@ module _ {M : Type 1} {𝓤 : Ura M} (𝓛 : Logic 𝓤) (mem : Memory → SProp
         -- [the token; what the operations own; …]
         move ! (1 ∷ []) $ fsplit ! $ move ! (1 ∷ []) $ fsplit ! $ move ! (1 ∷ 3 ∷ []) $
         looks_slice ! tt O.the_row (Is O.the_row) (shows 𝓛 O.the_row) (LL.vals O.the_type O'.the_laws) (LL.tells O.the_type O'.the_laws) (LL.copy O.the_type O'.the_copy 𝓛) ys b o (λ q'.
-        elem_out ! O.the_row (Is O.the_row) (shows 𝓛 O.the_row) (LL.vals O.the_type O'.the_laws) (LL.tells O.the_type O'.the_laws) q' ys i.0 noOperation b o l (λ g.
+        elem_out ! O.the_row (Is O.the_row) (shows 𝓛 O.the_row) (LL.vals O.the_type O'.the_laws) (LL.tells O.the_type O'.the_laws) q' ys i.0 no_operation b o l (λ g.
         -- [the operation; what it owns; the others; what shuts; the fractured borrow; res; the operations' fact; _11; …]
         assigns ! (of_opd ! (load ! (from ! (hop ! (look ! 9 refl) (stop !))) (look_raw ! 0 refl))) (from ! (stop !)) (init ! 7 refl ((LL.lawful O.the_type O'.the_laws 𝓛).typed (elem i.0) _ g).0) $
-        elem_back ! O.the_row q' ys i.0 noOperation (oval (elem i.0) ∷ []) b o l $ shuts_slice ! tt O.the_row q' ys b o $
+        elem_back ! O.the_row q' ys i.0 no_operation (oval (elem i.0) ∷ []) b o l $ shuts_slice ! tt O.the_row q' ys b o $
         -- [the token; the fractured borrow; res; the operations' fact; _11; …]
         move ! (2 ∷ 1 ∷ []) $ fjoin ! $ move ! (2 ∷ 0 ∷ []) $ fjoin ! $ move ! (1 ∷ 0 ∷ []) $
         move ! (26 ∷ []) $ use1 𝓛 (raw ((Step 𝓛 mem run).pre (to (after i.0) (elem i.0))) ⊛ (‵ Spans ⊛ ‵ Keys)) (apart (after i.0) (elem i.0) i.2 g) $ split ! $
@@ -343,7 +343,7 @@ module _ {M : Type 1} {𝓤 : Ura M} (𝓛 : Logic 𝓤) (mem : Memory → SProp
 
   walk : (𝓣 : Tables 𝓤 H) → FmC 𝓤 H 𝓛.laws 𝓣.C → Triple 𝓤 (𝓣.C #walk-start) (Start 𝓛 mem run) → Triple 𝓤 (𝓣.C #walk-step) (Step 𝓛 mem run)
       → ent 𝓤 (on_entry 𝓛 all'.signature κs (q₀, (q₁, (q₂, tt))) args at) (WpFn 𝓤 H 𝓣.C 𝓣.Λ plainly (vint w64 k ∷ vint w64 m ∷ v₀ ∷ v₁ ∷ slice_val (b, o) n ∷ []) Post)
-  unfolding walkAll
+  unfolding walk_all
   walk 𝓣 fm Known-start known =
       qed 𝓛 ((‵ (flft κ₀ q₀) ⊛ ‵ (flft κ₁ q₁) ⊛ ‵ (flft κ₂ q₂) ⊛ ‵ ftrue) ∷ ‵ (owns (usize ∷ usize ∷ ShrSlice (named 0) κ₀ u32 ∷ ShrSlice (named 1) κ₁ u32 ∷ ShrSlice (named 2) κ₂ O.the_row ∷ []) args at) ∷ []) ∵
       enter ! 𝓣.C 𝓣.Λ plainly (vint w64 k ∷ vint w64 m ∷ v₀ ∷ v₁ ∷ slice_val (b, o) n ∷ []) _ $

@@ -54,7 +54,7 @@ use Rattle.refusal.specs.contracts.Counted as R
 use Rattle.refusal.proofs.Counted.TheLaws as R'
 use Rattle.merging.specs.Lent.{lent_of}
 use Rattle.replay.specs.Answers.{counted}
-use Rattle.apply.specs.Answers.{verdictOn, textOn}
+use Rattle.apply.specs.Answers.{verdict_on, text_on}
 use Rattle.reconcile.specs.contracts.structs.text_length as callee
 use Rattle.reconcile.proofs.structs.text_length.Symbol as callee-def
 use Rattle.reconcile.proofs.structs.text_length.Symbol.{name as #callee}
@@ -206,10 +206,10 @@ module _ {M : Type 1} {𝓤 : Ura M} (𝓛 : Logic 𝓤) (mem : Memory → SProp
         nothing ! $ move ! (7 ∷ 0 ∷ []) $ fjoin ! $ move ! (5 ∷ 0 ∷ []) $ fjoin ! $ move ! (4 ∷ 0 ∷ []) $ fjoin ! $ move ! (3 ∷ 0 ∷ []) $ fjoin ! $ move ! (2 ∷ 0 ∷ []) $ fjoin ! $
         move ! (2 ∷ 0 ∷ []) $ use2 𝓛 (raw ((Call 𝓛 mem run).pre to)) asked $ frame ! $ done !
 
-    said : (t : Counted) → ent 𝓤 (ensured 𝓛 callee.ended (callee.clauses 𝓛 mem run) five handed tt t) (fact 𝓤 (t ≡ counted (verdictOn (lent_of x₀.now x₁.now x₂.now x₃.now) xs []) (length (textOn (lent_of x₀.now x₁.now x₂.now x₃.now) xs))))
-    said t = ex_e 𝓤 _ (λ ws. snd∗ 𝓤 (sem 𝓛 (lasts callee.ended five handed ws)) (fact 𝓤 (t ≡ counted (verdictOn (lent_of x₀.now x₁.now x₂.now x₃.now) xs []) (length (textOn (lent_of x₀.now x₁.now x₂.now x₃.now) xs)))))
+    said : (t : Counted) → ent 𝓤 (ensured 𝓛 callee.ended (callee.clauses 𝓛 mem run) five handed tt t) (fact 𝓤 (t ≡ counted (verdict_on (lent_of x₀.now x₁.now x₂.now x₃.now) xs []) (length (text_on (lent_of x₀.now x₁.now x₂.now x₃.now) xs))))
+    said t = ex_e 𝓤 _ (λ ws. snd∗ 𝓤 (sem 𝓛 (lasts callee.ended five handed ws)) (fact 𝓤 (t ≡ counted (verdict_on (lent_of x₀.now x₁.now x₂.now x₃.now) xs []) (length (text_on (lent_of x₀.now x₁.now x₂.now x₃.now) xs)))))
 
-  exits : (t : Counted) (w : Val) → t ≡ counted (verdictOn (lent_of x₀.now x₁.now x₂.now x₃.now) xs []) (length (textOn (lent_of x₀.now x₁.now x₂.now x₃.now) xs)) → ent 𝓤 (⋆ 𝓛 (Tokens ∷ ‵ ((R.the_row).own_val t (w ∷ [])) ∷ Kept ∷ [])) (Post w)
+  exits : (t : Counted) (w : Val) → t ≡ counted (verdict_on (lent_of x₀.now x₁.now x₂.now x₃.now) xs []) (length (text_on (lent_of x₀.now x₁.now x₂.now x₃.now) xs)) → ent 𝓤 (⋆ 𝓛 (Tokens ∷ ‵ ((R.the_row).own_val t (w ∷ [])) ∷ Kept ∷ [])) (Post w)
   exits t w e =
       qed 𝓛 (Tokens ∷ ‵ ((R.the_row).own_val t (w ∷ [])) ∷ Kept ∷ []) ∵
       suffices ! _ (ends_at 𝓛 call.ended stayed (call.clauses 𝓛 mem run) ((κs, (q₀, (q₁, (q₂, (q₃, tt)))), tt, args, at), tt) w t (tt, (tt, (tt, (tt, (tt, (tt, (tt, tt))))))) (tt, (tt, (tt, (tt, (tt, (tt, (tt, tt)))))))) $ says ! e $
@@ -241,7 +241,7 @@ module _ {M : Type 1} {𝓤 : Ura M} (𝓛 : Logic 𝓤) (mem : Memory → SProp
         calls_at ! fm (Call 𝓛 mem run) known (to α γ l₈)
         (and_then ! (load ! (from ! (stop !)) (look ! 20 refl)) (and_then ! (load ! (from ! (stop !)) (look ! 18 refl)) (and_then ! (load ! (from ! (stop !)) (look ! 16 refl)) (and_then ! (load ! (from ! (stop !)) (look ! 14 refl)) (and_then ! (load ! (from ! (stop !)) (look ! 3 refl)) (no_more !)))))) (λ w.
         use1 𝓛 (later (some (λ (t : Counted). (All α γ l₈ ⊛ ‵ ((R.the_row).own_val t (w ∷ []))) ⊛ raw (ensured 𝓛 callee.ended (callee.clauses 𝓛 mem run) (five α γ l₈) (handed α γ l₈) tt t)))) (id⊢ 𝓤 _) $ await ! tt $ pick ! (λ t.
-        split ! $ move ! (1 ∷ []) $ use1 𝓛 (raw (fact 𝓤 (t ≡ counted (verdictOn (lent_of x₀.now x₁.now x₂.now x₃.now) xs []) (length (textOn (lent_of x₀.now x₁.now x₂.now x₃.now) xs))))) (said α γ l₈ t) $ heard ! (t ≡ counted (verdictOn (lent_of x₀.now x₁.now x₂.now x₃.now) xs []) (length (textOn (lent_of x₀.now x₁.now x₂.now x₃.now) xs))) (λ e. split ! $ move ! (1 ∷ []) $
+        split ! $ move ! (1 ∷ []) $ use1 𝓛 (raw (fact 𝓤 (t ≡ counted (verdict_on (lent_of x₀.now x₁.now x₂.now x₃.now) xs []) (length (text_on (lent_of x₀.now x₁.now x₂.now x₃.now) xs))))) (said α γ l₈ t) $ heard ! (t ≡ counted (verdict_on (lent_of x₀.now x₁.now x₂.now x₃.now) xs []) (length (text_on (lent_of x₀.now x₁.now x₂.now x₃.now) xs))) (λ e. split ! $ move ! (1 ∷ []) $
         peeks ! R.the_row (Is R.the_row) (shows 𝓛 R.the_row) t (w ∷ []) (λ is'.
         -- [the answer; the tokens; what stays; the way back; _10; …]
         land ! (from ! (stop !)) (init ! 23 refl ((EL.lawful R.the_type R'.the_laws 𝓛 tt).typed t _ is').0) $
@@ -292,4 +292,4 @@ length-of-spec 𝓤 𝓛 𝓜 𝓡 =
     entered 𝓤 𝓛.H (triple_of 𝓛 call.signature (call.spec 𝓛 𝓜.mem 𝓡.run))
     (tables 𝓤 𝓛.H 𝓜 𝓡 code.env).C (tables 𝓤 𝓛.H 𝓜 𝓡 code.env).Λ #own code.function (code.unfolded 𝓤 𝓛.H 𝓜 𝓡)
     (meets 𝓛 𝓜.mem 𝓡.run (tables_of 𝓤 𝓛.H 𝓜 (tables 𝓤 𝓛.H 𝓜 𝓡 code.env))
-    (cited 𝓤 𝓛.H (Call 𝓛 𝓜.mem 𝓡.run) 𝓜 𝓡 code.env #callee callee-def.routine code.calls-reconcile::structs::text-length (callee-thm.met 𝓤 𝓛 𝓜 𝓡)))
+    (cited 𝓤 𝓛.H (Call 𝓛 𝓜.mem 𝓡.run) 𝓜 𝓡 code.env #callee callee-def.routine code.calls-reconcile::structs::text_length (callee-thm.met 𝓤 𝓛 𝓜 𝓡)))

@@ -1,7 +1,7 @@
 -- `deterministic_content_cmp` is the order rule's part on content. Each arm is the definition's clause for it.
 -- Assumes nothing.
-use Rattle.order.proofs.Comparing.{by-case, run_of}
-use Rattle.merging.specs.OrderRule.{contentRule}
+use Rattle.order.proofs.Comparing.{by_case, run_of}
+use Rattle.merging.specs.OrderRule.{content_rule}
 use mathlib.Core.Path.{refl}
 use borrow.Author.Rules.{rules}
 use Rattle.order.proofs.deterministic_content_cmp.Statement.{statement}
@@ -56,40 +56,40 @@ compare-requires-2 : tie.Need-compare-requires-2
 compare-requires-2 c κs = search rules
 
 returns : tie.Need-returns
-unfolding contentRule
-returns c = by-case _ c.before.before.before.before.before.a.given.1 c.before.before.b.given.1 c.compare.ensures
+unfolding content_rule
+returns c = by_case _ c.before.before.before.before.before.a.given.1 c.before.before.b.given.1 c.compare.ensures
 
 returns-2 : tie.Need-returns-2
-unfolding contentRule
-returns-2 c = by-case _ c.before.before.before.before.a.given.1 c.before.b2.given.1 refl
+unfolding content_rule
+returns-2 c = by_case _ c.before.before.before.before.a.given.1 c.before.b2.given.1 refl
 
 returns-3 : tie.Need-returns-3
-unfolding contentRule
-returns-3 c = by-case _ c.before.before.before.before.a.given.1 c.before.b3.given.1 refl
+unfolding content_rule
+returns-3 c = by_case _ c.before.before.before.before.a.given.1 c.before.b3.given.1 refl
 
 returns-4 : tie.Need-returns-4
-unfolding contentRule
-returns-4 c = by-case _ c.before.before.before.before.a2.given.1 c.before.b4.given.1 refl
+unfolding content_rule
+returns-4 c = by_case _ c.before.before.before.before.a2.given.1 c.before.b4.given.1 refl
 
 returns-5 : tie.Need-returns-5
-unfolding contentRule
-returns-5 c = by-case _ c.before.before.before.before.before.a2.given.1 c.before.before.b5.given.1 c.compare-spelling.ensures
+unfolding content_rule
+returns-5 c = by_case _ c.before.before.before.before.before.a2.given.1 c.before.before.b5.given.1 c.compare-spelling.ensures
 
 returns-6 : tie.Need-returns-6
-unfolding contentRule
-returns-6 c = by-case _ c.before.before.before.before.a2.given.1 c.before.b6.given.1 refl
+unfolding content_rule
+returns-6 c = by_case _ c.before.before.before.before.a2.given.1 c.before.b6.given.1 refl
 
 returns-7 : tie.Need-returns-7
-unfolding contentRule
-returns-7 c = by-case _ c.before.before.before.before.a3.given.1 c.before.b7.given.1 refl
+unfolding content_rule
+returns-7 c = by_case _ c.before.before.before.before.a3.given.1 c.before.b7.given.1 refl
 
 returns-8 : tie.Need-returns-8
-unfolding contentRule
-returns-8 c = by-case _ c.before.before.before.before.a3.given.1 c.before.b8.given.1 refl
+unfolding content_rule
+returns-8 c = by_case _ c.before.before.before.before.a3.given.1 c.before.b8.given.1 refl
 
 returns-9 : tie.Need-returns-9
-unfolding contentRule
-returns-9 c = by-case _ c.before.before.before.before.before.a3.given.1 c.before.before.b9.given.1 c.compare2.ensures
+unfolding content_rule
+returns-9 c = by_case _ c.before.before.before.before.before.a3.given.1 c.before.before.b9.given.1 c.compare2.ensures
 
 pub deterministic-content-cmp-spec : {M : Type 1} → statement M
 deterministic-content-cmp-spec =

@@ -3,7 +3,7 @@
 use Prim.Native.Nat.{◌-◌, ◌/◌}
 use native.Mathlib.Omega.{arith}
 use lib.ListN.{length}
-use Rattle.order.proofs.Pairs.{Paired, paired-starts, both_end, left-ends, right-ends, left-reads, right-reads, pair-less, pair-greater, pair-equal, pair_same, left-fits, right-fits}
+use Rattle.order.proofs.Pairs.{Paired, paired_starts, both_end, left_ends, right_ends, left_reads, right_reads, pair_less, pair_greater, pair_equal, pair_same, left_fits, right_fits}
 use borrow.Author.Rules.{rules}
 use Rattle.order.proofs.stream_priority.Statement.{statement}
 use Rattle.order.proofs.stream_priority.Tie as tie
@@ -15,16 +15,16 @@ abbrev decreases-pairs : tie.decreases-pairs
 decreases-pairs text spans keys left right lefts rights left-at₀ right-at₀ i₀ left_at right-at i = length left / 6 - i
 
 pairs-holds : tie.Need-pairs-init invariant-pairs decreases-pairs
-pairs-holds c = paired-starts c.before.before.before.before.before.requires.0 c.before.before.before.before.before.requires.1
+pairs-holds c = paired_starts c.before.before.before.before.before.requires.0 c.before.before.before.before.before.requires.1
 
 returns : tie.Need-returns invariant-pairs decreases-pairs
 returns c = both_end c.before.before.pairs.invariant c.before.if1.true c.if2.true
 
 returns-2 : tie.Need-returns-2 invariant-pairs decreases-pairs
-returns-2 c = left-ends c.before.before.pairs.invariant c.before.if1.true c.if2.false
+returns-2 c = left_ends c.before.before.pairs.invariant c.before.if1.true c.if2.false
 
 returns-3 : tie.Need-returns-3 invariant-pairs decreases-pairs
-returns-3 c = right-ends c.before.before.pairs.invariant c.before.if1.false c.if3.true
+returns-3 c = right_ends c.before.before.pairs.invariant c.before.if1.false c.if3.true
 
 add-next : tie.Need-overflow-add-next invariant-pairs decreases-pairs
 add-next c = search rules
@@ -48,7 +48,7 @@ add-left-at c =
     let c7 = c6.before in
     omega (
       arith,
-      left-fits c7.pairs.invariant c6.if1.false c5.if3.false c4.operation-at.ensures c3.operation-at2.ensures
+      left_fits c7.pairs.invariant c6.if1.false c5.if3.false c4.operation-at.ensures c3.operation-at2.ensures
           (c2.same-part.ensures c.before.if4.true),
     )
 
@@ -63,7 +63,7 @@ add-right-at c =
     let c8 = c7.before in
     omega (
       arith,
-      right-fits c8.pairs.invariant c7.if1.false c6.if3.false c5.operation-at.ensures c4.operation-at2.ensures
+      right_fits c8.pairs.invariant c7.if1.false c6.if3.false c5.operation-at.ensures c4.operation-at2.ensures
           (c3.same-part.ensures c2.if4.true),
     )
 
@@ -94,9 +94,9 @@ cmp-priority-requires c κs =
     let c6 = c5.before in
     let c7 = c6.before in
     let c8 = c7.before in (
-      (left-reads c8.pairs.invariant c7.if1.false c6.if3.false c5.operation-at.ensures c.before.op-of.ensures c4.operation-at2.ensures
+      (left_reads c8.pairs.invariant c7.if1.false c6.if3.false c5.operation-at.ensures c.before.op-of.ensures c4.operation-at2.ensures
           c.op-of2.ensures).0,
-      (right-reads c8.pairs.invariant c7.if1.false c6.if3.false c5.operation-at.ensures c.before.op-of.ensures
+      (right_reads c8.pairs.invariant c7.if1.false c6.if3.false c5.operation-at.ensures c.before.op-of.ensures
           c4.operation-at2.ensures c.op-of2.ensures).0,
     )
 
@@ -113,7 +113,7 @@ returns-4 c =
     let c9 = c8.before in
     let c10 = c9.before in
     let c11 = c10.before in
-    pair-less c11.pairs.invariant c10.if1.false c9.if3.false c8.operation-at.ensures c4.op-of.ensures c7.operation-at2.ensures
+    pair_less c11.pairs.invariant c10.if1.false c9.if3.false c8.operation-at.ensures c4.op-of.ensures c7.operation-at2.ensures
     c3.op-of2.ensures c2.cmp-priority.ensures c.enum_told.given.1
 
 enum-told-2 : tie.Need-enum-told-2 invariant-pairs decreases-pairs
@@ -133,7 +133,7 @@ add-left-at-2 c =
     let c12 = c11.before in
     omega (
       arith,
-      (left-reads c12.pairs.invariant c11.if1.false c10.if3.false c9.operation-at.ensures c5.op-of.ensures
+      (left_reads c12.pairs.invariant c11.if1.false c10.if3.false c9.operation-at.ensures c5.op-of.ensures
           c8.operation-at2.ensures c4.op-of2.ensures).1,
     )
 
@@ -151,7 +151,7 @@ add-right-at-2 c =
     let c13 = c12.before in
     omega (
       arith,
-      (right-reads c13.pairs.invariant c12.if1.false c11.if3.false c10.operation-at.ensures c6.op-of.ensures
+      (right_reads c13.pairs.invariant c12.if1.false c11.if3.false c10.operation-at.ensures c6.op-of.ensures
           c9.operation-at2.ensures c5.op-of2.ensures).1,
     )
 
@@ -169,7 +169,7 @@ pairs-again-2 c =
     let c11 = c10.before in
     let c12 = c11.before in
     let c13 = c12.before in
-    pair-equal c13.pairs.invariant c12.if1.false c11.if3.false c10.operation-at.ensures c6.op-of.ensures c9.operation-at2.ensures
+    pair_equal c13.pairs.invariant c12.if1.false c11.if3.false c10.operation-at.ensures c6.op-of.ensures c9.operation-at2.ensures
     c5.op-of2.ensures c4.cmp-priority.ensures c2.enum-told2.given.1 c.before.Span-of.ensures c.span-of2.ensures
 
 enum-told-3 : tie.Need-enum-told-3 invariant-pairs decreases-pairs
@@ -185,7 +185,7 @@ returns-5 c =
     let c9 = c8.before in
     let c10 = c9.before in
     let c11 = c10.before in
-    pair-greater c11.pairs.invariant c10.if1.false c9.if3.false c8.operation-at.ensures c4.op-of.ensures c7.operation-at2.ensures
+    pair_greater c11.pairs.invariant c10.if1.false c9.if3.false c8.operation-at.ensures c4.op-of.ensures c7.operation-at2.ensures
     c3.op-of2.ensures c2.cmp-priority.ensures c.enum-told3.given.1
 
 pub stream-priority-spec : {M : Type 1} → statement M

@@ -1,6 +1,6 @@
 -- `answer_to` writes what the program writes for three files as they were read.
 -- By what could be read, and by what the merge answers. Assumes nothing.
-use Rattle.program.proofs.Lines.{no-original, no-left, no-right, all_read, merges, refuses}
+use Rattle.program.proofs.Lines.{no_original, no_left, no_right, all_read, merges, refuses}
 use borrow.Author.Rules.{rules}
 use Rattle.program.proofs.answer_to.Statement.{statement}
 use Rattle.program.proofs.answer_to.Tie as tie
@@ -16,7 +16,7 @@ returns c =
     let p = c.before.before in
     let i = p.before.before in
     let s = i.before.before.before.before.before in
-    rw (no-original s.args.original.now s.args.left.now s.args.right.now s.args.original-read s.args.left-read s.args.right-read i.if1.true) p.put-unreadable.ensures
+    rw (no_original s.args.original.now s.args.left.now s.args.right.now s.args.original-read s.args.left-read s.args.right-read i.if1.true) p.put-unreadable.ensures
 
 put-unreadable-requires-2 : tie.Need-put-unreadable-requires-2
 put-unreadable-requires-2 c κs = search rules
@@ -30,7 +30,7 @@ returns-2 c =
     let j = p.before.before in
     let i = j.before in
     let s = i.before.before.before.before.before in
-    rw (no-left s.args.original.now s.args.left.now s.args.right.now s.args.original-read s.args.left-read s.args.right-read i.if1.false j.if2.true) p.put-unreadable2.ensures
+    rw (no_left s.args.original.now s.args.left.now s.args.right.now s.args.original-read s.args.left-read s.args.right-read i.if1.false j.if2.true) p.put-unreadable2.ensures
 
 put-unreadable-requires-3 : tie.Need-put-unreadable-requires-3
 put-unreadable-requires-3 c κs = search rules
@@ -45,7 +45,7 @@ returns-3 c =
     let j = k.before in
     let i = j.before in
     let s = i.before.before.before.before.before in
-    rw (no-right s.args.original.now s.args.left.now s.args.right.now s.args.original-read s.args.left-read s.args.right-read i.if1.false j.if2.false k.if3.true) p.put-unreadable3.ensures
+    rw (no_right s.args.original.now s.args.left.now s.args.right.now s.args.original-read s.args.left-read s.args.right-read i.if1.false j.if2.false k.if3.true) p.put-unreadable3.ensures
 
 merge-files-requires : tie.Need-merge-files-requires
 merge-files-requires c κs = search rules

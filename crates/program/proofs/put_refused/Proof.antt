@@ -1,6 +1,6 @@
 -- `put_refused` writes the line of a refusal.
 -- A law of Lines. Assumes nothing.
-use Rattle.program.proofs.Lines.{line-short, puts-refused}
+use Rattle.program.proofs.Lines.{line_short, puts_refused}
 use native.Mathlib.Omega.{arith}
 use borrow.Author.Rules.{rules}
 use Rattle.program.proofs.put_refused.Statement.{statement}
@@ -16,7 +16,7 @@ put-line-requires : tie.Need-put-line-requires
 put-line-requires c κs =
     let n = c.before.before in
     let s = n.before.before in
-    omega (arith, s.requires, line-short s.args.refusal _ n.number_of_lem.ensures)
+    omega (arith, s.requires, line_short s.args.refusal _ n.number_of_lem.ensures)
 
 same_length : tie.Need-same-length
 same_length c = search rules
@@ -26,7 +26,7 @@ returns c =
     let p = c.before.before in
     let n = p.before.before.before in
     let s = n.before.before in
-    puts-refused s.args.refusal _ s.args.out.now _ _ n.number_of_lem.ensures p.put-line.ensures
+    puts_refused s.args.refusal _ s.args.out.now _ _ n.number_of_lem.ensures p.put-line.ensures
 
 pub put-refused-spec : {M : Type 1} → statement M
 put-refused-spec =

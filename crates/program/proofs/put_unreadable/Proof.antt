@@ -1,6 +1,6 @@
 -- `put_unreadable` writes the line of a file that could not be read.
 -- A law of Lines. Assumes nothing.
-use Rattle.program.proofs.Lines.{puts-unreadable}
+use Rattle.program.proofs.Lines.{puts_unreadable}
 use borrow.Author.Rules.{rules}
 use Rattle.program.proofs.put_unreadable.Statement.{statement}
 use Rattle.program.proofs.put_unreadable.Tie as tie
@@ -18,7 +18,7 @@ returns : tie.Need-returns
 returns c =
     let p = c.before.before in
     let s = p.before.before.before.before in
-    puts-unreadable s.args.out.now _ _ p.put-u8.ensures
+    puts_unreadable s.args.out.now _ _ p.put-u8.ensures
 
 pub put-unreadable-spec : {M : Type 1} → statement M
 put-unreadable-spec =

@@ -1,7 +1,7 @@
 -- `claimed` sums the tokens that a raw list claims, up to the cap.
 -- The loop keeps `Totals`, whose ways are in Checking. Assumes nothing.
-use Rattle.raw_lists.proofs.Checking.{Totals, totals-begin, totals-on, totals-end}
-use Rattle.raw_lists.specs.Checks.{claimedBy}
+use Rattle.raw_lists.proofs.Checking.{Totals, totals_begin, totals_on, totals_end}
+use Rattle.raw_lists.specs.Checks.{claimed_by}
 use mathlib.Core.Path.{refl}
 use Prim.Native.Nat.{◌-◌}
 use borrow.Author.Rules.{rules}
@@ -9,13 +9,13 @@ use Rattle.raw_lists.proofs.claimed.Statement.{statement}
 use Rattle.raw_lists.proofs.claimed.Tie as tie
 
 abbrev invariant-sum : tie.invariant-sum
-invariant-sum raw count i₀ sum₀ i sum = Totals claimedBy raw count i sum
+invariant-sum raw count i₀ sum₀ i sum = Totals claimed_by raw count i sum
 
 abbrev decreases-sum : tie.decreases-sum
 decreases-sum raw count i₀ sum₀ i sum = count - i
 
 sum-holds : tie.Need-sum-init invariant-sum decreases-sum
-sum-holds c = totals-begin _ _ _ refl
+sum-holds c = totals_begin _ _ _ refl
 
 raw-at-requires : tie.Need-raw-at-requires invariant-sum decreases-sum
 raw-at-requires c κs = search rules
@@ -37,11 +37,11 @@ sum-again c =
     let c2 = c.before.before in
     let c3 = c2.before in
     let c4 = c3.before in
-    totals-on c4.sum.invariant c2.raw_at.result c.before.claimed-by.result _ c3.sum-test.true c2.raw_at.ensures
+    totals_on c4.sum.invariant c2.raw_at.result c.before.claimed-by.result _ c3.sum-test.true c2.raw_at.ensures
     (rw c.before.claimed-by.ensures) c.capped.ensures
 
 returns : tie.Need-returns invariant-sum decreases-sum
-returns c = totals-end c.before.sum.invariant c.sum-test.false
+returns c = totals_end c.before.sum.invariant c.sum-test.false
 
 pub claimed-spec : {M : Type 1} → statement M
 claimed-spec =

@@ -1,6 +1,6 @@
 -- `text_by` gives the text of a raw operation's tokens, up to the cap.
 -- By its kind and whether its range is lent. Assumes nothing.
-use Rattle.raw_lists.proofs.Checking.{text-unknown, text_out, text-run, run_fits}
+use Rattle.raw_lists.proofs.Checking.{text_unknown, text_out, text_run, run_fits}
 use mathlib.Core.Path.{sym, ◌∙◌}
 use borrow.Author.Rules.{rules}
 use Rattle.raw_lists.proofs.text_by.Statement.{statement}
@@ -9,7 +9,7 @@ use Rattle.raw_lists.proofs.text_by.Tie as tie
 returns : tie.Need-returns
 returns c =
     let c5 = c.before.before.before.before.before in
-    text-unknown c5.args.n c5.args.spans.now c5.args.keys.now c5.args.joins.now c5.args.r c.if1.true
+    text_unknown c5.args.n c5.args.spans.now c5.args.keys.now c5.args.joins.now c5.args.r c.if1.true
 
 pieces-lent-requires : tie.Need-pieces-lent-requires
 pieces-lent-requires c κs = search rules
@@ -30,7 +30,7 @@ returns-2 c =
     let c3 = c2.before in
     let c4 = c3.before in
     let c9 = c4.before.before.before.before.before in
-    text-run c9.args.n c9.args.spans.now c9.args.keys.now c9.args.joins.now c9.args.r _ c4.if1.false
+    text_run c9.args.n c9.args.spans.now c9.args.keys.now c9.args.joins.now c9.args.r _ c4.if1.false
     c3.pieces-lent.result c3.pieces-lent.ensures (sym c2.run_lent.ensures ∙ c.before.if2.true) c.run-text.ensures
 
 returns-3 : tie.Need-returns-3

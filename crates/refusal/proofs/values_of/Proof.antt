@@ -9,8 +9,8 @@ use Rattle.refusal.proofs.values_of.Statement.{statement}
 use Rattle.refusal.proofs.values_of.Tie as tie
 
 -- an answer for the case that a refusal was found to be is the answer for the refusal
-by-case : {r : Values} {x y : Refusal} → r ≡ padded (values y) → x ≡ y → r ≡ padded (values x)
-by-case {r} {x} {y} e m = e ∙ ap (λ (z : Refusal). padded (values z)) (sym m)
+by_case : {r : Values} {x y : Refusal} → r ≡ padded (values y) → x ≡ y → r ≡ padded (values x)
+by_case {r} {x} {y} e m = e ∙ ap (λ (z : Refusal). padded (values z)) (sym m)
 
 enum-known-refusal : tie.Need-enum-known-refusal
 enum-known-refusal c = search rules
@@ -70,34 +70,34 @@ one-requires-7 : tie.Need-one-requires-7
 one-requires-7 c κs = search rules
 
 returns : tie.Need-returns
-returns c = by-case c.one.ensures c.before.before.refusal.given.1
+returns c = by_case c.one.ensures c.before.before.refusal.given.1
 
 returns-2 : tie.Need-returns-2
-returns-2 c = by-case c.one2.ensures c.before.before.refusal2.given.1
+returns-2 c = by_case c.one2.ensures c.before.before.refusal2.given.1
 
 returns-3 : tie.Need-returns-3
-returns-3 c = by-case c.none.ensures c.before.enum_told.given.1
+returns-3 c = by_case c.none.ensures c.before.enum_told.given.1
 
 returns-4 : tie.Need-returns-4
-returns-4 c = by-case c.one3.ensures c.before.before.refusal3.given.1
+returns-4 c = by_case c.one3.ensures c.before.before.refusal3.given.1
 
 returns-5 : tie.Need-returns-5
-returns-5 c = by-case c.one4.ensures c.before.before.refusal4.given.1
+returns-5 c = by_case c.one4.ensures c.before.before.refusal4.given.1
 
 returns-6 : tie.Need-returns-6
 returns-6 c = rw c.before.refusal5.given.1
 
 returns-7 : tie.Need-returns-7
-returns-7 c = by-case c.none2.ensures c.before.enum-told2.given.1
+returns-7 c = by_case c.none2.ensures c.before.enum-told2.given.1
 
 returns-8 : tie.Need-returns-8
-returns-8 c = by-case c.one5.ensures c.before.before.refusal6.given.1
+returns-8 c = by_case c.one5.ensures c.before.before.refusal6.given.1
 
 returns-9 : tie.Need-returns-9
-returns-9 c = by-case c.one6.ensures c.before.before.refusal7.given.1
+returns-9 c = by_case c.one6.ensures c.before.before.refusal7.given.1
 
 returns-10 : tie.Need-returns-10
-returns-10 c = by-case c.one7.ensures c.before.before.refusal8.given.1
+returns-10 c = by_case c.one7.ensures c.before.before.refusal8.given.1
 
 pub values-of-spec : {M : Type 1} → statement M
 values-of-spec =

@@ -64,15 +64,15 @@ use Rattle.string_builder.proofs.StringBuilder.TheLaws as T'
 use Rattle.diff.specs.declared.diff.Item.{Item}
 use Rattle.diff.specs.declared.diff.Item.TheVariants.{Retain, Delete, Insert, Neither}
 use Rattle.diff.specs.Items.{item_at, items_of}
-use Rattle.diff.specs.Replay.{editsOf, replayed}
-use Rattle.diff.proofs.Decoding.{insert-within}
+use Rattle.diff.specs.Replay.{edits_of, replayed}
+use Rattle.diff.proofs.Decoding.{insert_within}
 use Rattle.diff.specs.contracts.diff.Item as E
 use Rattle.diff.proofs.diff.Item.TheLaws as E'
 use Rattle.replay.specs.Answers.{diff, edits, text_of}
-use Rattle.replay.proofs.Building.{Building, build_ends, fits-retain, build-retain, step-retain, build-delete, fits-insert, build-insert, build-neither}
-use Rattle.replay.proofs.Turning.{Turn, begun, at_most, whole-record}
+use Rattle.replay.proofs.Building.{Building, build_ends, fits_retain, build-retain, step_retain, build_delete, fits_insert, build-insert, build_neither}
+use Rattle.replay.proofs.Turning.{Turn, begun, at_most, whole_record}
 use Rattle.replay.proofs.Again.{LentAgain, lends_again, comes_back}
-use Rattle.replay.proofs.Walking.{number, read, copies, asked, asked-nothing, pairs, first_of, rest_of, arm-of}
+use Rattle.replay.proofs.Walking.{number, read, copies, asked, asked_nothing, pairs, first_of, rest_of, arm_of}
 use Rattle.string_builder.specs.contracts.new as new
 use Rattle.string_builder.proofs.new.Symbol as new-def
 use Rattle.string_builder.proofs.new.Symbol.{name as #new}
@@ -161,13 +161,13 @@ abbrev matching : Body
 matching = first_of matched
 
 abbrev on-retain : Body
-on-retain = arm-of matching 0
+on-retain = arm_of matching 0
 
 abbrev on-delete : Body
-on-delete = arm-of matching 1
+on-delete = arm_of matching 1
 
 abbrev on-insert : Body
-on-insert = arm-of matching 2
+on-insert = arm_of matching 2
 
 abbrev onward : Body
 onward = rest_of matched
@@ -197,7 +197,7 @@ module _ {M : Type 1} {𝓤 : Ura M} (𝓛 : Logic 𝓤) (mem : Memory → SProp
   -- that the callees meet them
   record Known (C : Calls 𝓤 H) : Type 1 where
     made-new : Triple 𝓤 (C #new) New
-    item-read : Triple 𝓤 (C #item-at) ItemAt
+    item_read : Triple 𝓤 (C #item-at) ItemAt
     retains : Triple 𝓤 (C #retain) Retains
     deletes : Triple 𝓤 (C #delete) Deletes
     part-found : Triple 𝓤 (C #inserted) Inserted
@@ -206,7 +206,7 @@ module _ {M : Type 1} {𝓤 : Ura M} (𝓛 : Logic 𝓤) (mem : Memory → SProp
 module _ {M : Type 1} {𝓤 : Ura M} (𝓛 : Logic 𝓤) (mem : Memory → SProp 𝓤) (run : Routine → Fun 𝓤) (κ₀ κ₁ κ₂ κ₃ : Lft)
     (q₀ q₁ q₂ q₃ : Share) (x₀ : MutBor (List ℕ)) (x₁ : MutBor (List ℤ)) (x₂ : MutBor (List ℕ)) (b o : ℕ) (γ : GName) (ys : List ℕ)
     (g₀ : Room u32 (length x₀.now)) (g₁ : Room i64 (length x₁.now)) (g₂ : Room u32 (length x₂.now)) (g₃ : Room u32 (length ys))
-    (f : length (replayed x₀.now (editsOf x₂.now (items_of x₁.now (length x₂.now)))) ≤ length ys) where
+    (f : length (replayed x₀.now (edits_of x₂.now (items_of x₁.now (length x₂.now)))) ≤ length ys) where
   open 𝓛 use {H, A}
 
   abbrev κs : Lfts 4
@@ -322,7 +322,7 @@ module _ {M : Type 1} {𝓤 : Ura M} (𝓛 : Logic 𝓤) (mem : Memory → SProp
   ask-new =
       qed 𝓛 (‵ (flft κ₀ q₀) ∷ ‵ Orig ∷ []) ∵ move ! (1 ∷ []) $ use1 𝓛 (‵ Orig ⊛ ‵ Orig) ((shr_slice_copy 𝓛 (named 0) κ₀ u32).twice x₀ (v₀ ∷ [])) $ split ! $
       nothing ! $ move ! (1 ∷ 0 ∷ []) $ fjoin ! $ nothing ! $ move ! (3 ∷ 0 ∷ []) $ join ! $ use2 𝓛 (raw ((New 𝓛 mem run).pre to-new))
-      (asked-nothing 𝓛 (on_entry 𝓛 new.signature (κ₀, tt) (q₀, tt) (x₀, tt) (v₀ ∷ [], tt))) $ frame ! $ done !
+      (asked_nothing 𝓛 (on_entry 𝓛 new.signature (κ₀, tt) (q₀, tt) (x₀, tt) (v₀ ∷ [], tt))) $ frame ! $ done !
 
   abbrev Said-new : StringBuilder → Type 0
   Said-new r = (r.original ≡ x₀) × (r.position ≡ 0)
@@ -344,7 +344,7 @@ module _ {M : Type 1} {𝓤 : Ura M} (𝓛 : Logic 𝓤) (mem : Memory → SProp
       qed 𝓛 (‵ (flft κ₁ q₁) ∷ ‵ Items ∷ []) ∵ move ! (1 ∷ []) $ use1 𝓛 (‵ Items ⊛ ‵ Items) ((shr_slice_copy 𝓛 (named 1) κ₁ i64).twice x₁ (v₁ ∷ [])) $ split ! $
       nothing ! $ number ! i (count_fits (omega arith)) $ number ! size g₂.0 $
       move ! (1 ∷ 0 ∷ []) $ fjoin ! $ nothing ! $ move ! (3 ∷ 0 ∷ []) $ join ! $ use2 𝓛 (raw ((ItemAt 𝓛 mem run).pre (to_item i)))
-      (asked 𝓛 (on_entry 𝓛 item-at.signature (κ₁, tt) (q₁, tt) (item-args i) (item-vals i)) (whole-record x₁.now i l)) $ frame ! $ done !
+      (asked 𝓛 (on_entry 𝓛 item-at.signature (κ₁, tt) (q₁, tt) (item-args i) (item-vals i)) (whole_record x₁.now i l)) $ frame ! $ done !
 
   abbrev κν : ℕ → Lfts 2
   κν ν = (κ₀, (ν ∷ [], tt))
@@ -395,7 +395,7 @@ module _ {M : Type 1} {𝓤 : Ura M} (𝓛 : Logic 𝓤) (mem : Memory → SProp
       qed 𝓛 (‵ (flft κ₀ q₀) ∷ ‵ Orig ∷ []) ∵ move ! (1 ∷ []) $ use1 𝓛 (‵ (Own p) ⊛ ‵ Orig) (held p p-fits) $ split ! $
       nothing ! $ number ! n n-fits $ move ! (1 ∷ 0 ∷ []) $ fjoin ! $
       nothing ! $ move ! (3 ∷ 0 ∷ []) $ join ! $ use2 𝓛 (raw ((Deletes 𝓛 mem run).pre (to-delete p n)))
-      (asked-nothing 𝓛 (on_entry 𝓛 delete.signature (κ₀, tt) (q₀, tt) (delete-args p n) (delete-vals p n))) $ frame ! $ done !
+      (asked_nothing 𝓛 (on_entry 𝓛 delete.signature (κ₀, tt) (q₀, tt) (delete-args p n) (delete-vals p n))) $ frame ! $ done !
 
   abbrev part-args : ℕ → ℕ → Bor (List ℕ) × (ℕ × (ℕ × Unit {0}))
   part-args s n = (x₂, (s, (n, tt)))
@@ -522,7 +522,7 @@ module _ {M : Type 1} {𝓤 : Ura M} (𝓛 : Logic 𝓤) (mem : Memory → SProp
     armed : (t : State) → t.i < count → (r : Item) → item_at x₁.now size t.i ≡ r → WT (ival r) → Sq 𝓛 (With r t) (runs C Λ En matching (Then t))
     armed t l Neither e wt =
         switches_on ! (load ! (from ! (vrt ! refl (fld ! refl (stop !)))) (look_tag ! 34 (whole !))) $ exec ! C Λ En skip (Then t) $
-        skips ! $ exec ! C Λ En onward (any_q (Turned t)) $ forget ! 34 refl $ tail t l t.position t.at t.out (build-neither t.inv l f e)
+        skips ! $ exec ! C Λ En onward (any_q (Turned t)) $ forget ! 34 refl $ tail t l t.position t.at t.out (build_neither t.inv l f e)
     armed t l (Delete n) e wt =
         let n-fits : n < 2 ^ 64 = wt.1.0.fits in
         let p-ok : t.position < 2 ^ 64 = p-fits t.inv in
@@ -542,7 +542,7 @@ module _ {M : Type 1} {𝓤 : Ura M} (𝓛 : Logic 𝓤) (mem : Memory → SProp
         land_last ! (from ! (stop !)) (store ! 54 refl ((LL.lawful (T.the_type αᵉ) (T'.the_laws αᵉ) 𝓛).typed r _ is).0) $
         rewrite ! 54 (λ (w : Val). ‵ (fat full_share builder l₆ 0 w)) (came r u s.0 is ∙ ap mach s.1) refl $
         exec ! C Λ En onward (any_q (Turned t)) $ forget ! 44 refl $ forget ! 34 refl $ forget ! 18 refl $ forget ! 16 refl $
-        tail t l (stop_at (length x₀.now) t.position n) t.at t.out (build-delete t.inv l f e))))))
+        tail t l (stop_at (length x₀.now) t.position n) t.at t.out (build_delete t.inv l f e))))))
     armed t l (Retain n) e wt =
         let n-fits : n < 2 ^ 64 = wt.1.0.fits in
         let p-ok : t.position < 2 ^ 64 = p-fits t.inv in
@@ -558,7 +558,7 @@ module _ {M : Type 1} {𝓤 : Ura M} (𝓛 : Logic 𝓤) (mem : Memory → SProp
         use2 𝓛 (later (some (λ (δ : GName). ‵ (Lent 1 ν δ t.out) ⊛ ‵ (Kept ν δ t.out)))) (lends_again u32 κ₃ (ν ∷ []) q₃ γ b o 𝓛 (named 3) (named 1) t.out t.inv.same) $ await ! tt $ pick ! (λ δ. split ! $
         -- [the room lent; what is kept of it; ν; κ₀; κ₁; κ₂; the original; the items; the text; …]
         move ! (3 ∷ 2 ∷ 6 ∷ 0 ∷ []) $ join ! $ join ! $ join ! $
-        use1 𝓛 (raw ((Retains 𝓛 mem run).pre (to-retain ν t.position n δ t.out t.at)) ⊛ ‵ Orig) (ask-retain ν t.position n δ t.out t.at p-ok n-fits at_ok (fits-retain t.inv l f e)) $ split ! $
+        use1 𝓛 (raw ((Retains 𝓛 mem run).pre (to-retain ν t.position n δ t.out t.at)) ⊛ ‵ Orig) (ask-retain ν t.position n δ t.out t.at p-ok n-fits at_ok (fits_retain t.inv l f e)) $ split ! $
         -- [what the callee asks; the original; what is kept of the room; κ₁; κ₂; the items; the text; …]
         calls_at ! fm (Retains 𝓛 mem run) known.retains (to-retain ν t.position n δ t.out t.at) (and_then ! (read ! 29 refl) (and_then ! (read ! 27 refl) (and_then ! (read ! 23 refl) (and_then ! (read ! 51 refl) (no_more !))))) (λ u.
         use1 𝓛 (later (some (λ (r : StringBuilder). ((‵ (flft κ₀ q₀) ⊛ ‵ (flft (ν ∷ []) full_share) ⊛ ‵ ftrue) ⊛ ‵ (B.own r (u ∷ []))) ⊛ some (λ (ws : Lasts retain.ended (κν ν) (retain-args t.position n δ t.out t.at)).
@@ -573,7 +573,7 @@ module _ {M : Type 1} {𝓤 : Ura M} (𝓛 : Logic 𝓤) (mem : Memory → SProp
         move ! (2 ∷ []) $ drop ! $ move ! (3 ∷ []) $ drop ! $ move ! (2 ∷ 4 ∷ 5 ∷ 1 ∷ 3 ∷ 6 ∷ 7 ∷ 0 ∷ []) $
         let h : Inv (t.i + 1) r.position ws.1.1.0 (t.at + (r.position - t.position)) = build-retain t.inv l f e s.1 in
         let r-ok : r.position < 2 ^ 64 = p-fits h in
-        let w : (t.position ≤ r.position) × (t.at + (r.position - t.position) ≤ length t.out) = step-retain t.inv l f e s.1 in
+        let w : (t.position ≤ r.position) × (t.at + (r.position - t.position) ≤ length t.out) = step_retain t.inv l f e s.1 in
         let d-ok : r.position - t.position < 2 ^ 64 = omega (arith, r-ok) in
         land ! (from ! (stop !)) (init ! 46 refl ((LL.lawful (T.the_type αᵉ) (T'.the_laws αᵉ) 𝓛).typed r (u ∷ []) is).0) $
         rewrite ! 46 (λ (w : Val). ‵ (fat full_share builder l₁₀ 0 w)) (came r u s.0 is) refl $
@@ -593,12 +593,12 @@ module _ {M : Type 1} {𝓤 : Ura M} (𝓛 : Logic 𝓤) (mem : Memory → SProp
         assigns ! (of_opd ! (load ! (from ! (vrt ! refl (fld ! refl (stop !)))) (look_in ! 34 (in_variant ! 2 0 refl refl (whole !))))) (from ! (stop !)) (init ! 42 refl (tt, record { fits = s-fits })) $
         assigns ! (of_opd ! (load ! (from ! (vrt ! refl (fld ! refl (stop !)))) (look_in ! 34 (in_variant ! 2 1 refl refl (whole !))))) (from ! (stop !)) (init ! 40 refl (tt, record { fits = n-fits })) $
         copies ! 54 14 refl refl (typed t.position p-ok) $
-        move ! (2 ∷ 6 ∷ []) $ use2 𝓛 (raw ((Inserted 𝓛 mem run).pre (to_part s n)) ⊛ ‵ Text) (ask-part s n s-fits n-fits (insert-within x₁.now size t.i e)) $ split ! $
+        move ! (2 ∷ 6 ∷ []) $ use2 𝓛 (raw ((Inserted 𝓛 mem run).pre (to_part s n)) ⊛ ‵ Text) (ask-part s n s-fits n-fits (insert_within x₁.now size t.i e)) $ split ! $
         -- [what the callee asks; the text; κ₀; κ₁; κ₃; the original; the items; the room; …]
         calls_at ! fm (Inserted 𝓛 mem run) known.part-found (to_part s n) (and_then ! (read ! 60 refl) (and_then ! (read ! 42 refl) (and_then ! (read ! 40 refl) (no_more !)))) (λ w.
         use1 𝓛 (later (some (λ (r : Bor (List ℕ)). ((‵ (flft κ₂ q₂) ⊛ ‵ ftrue) ⊛ ‵ ((ShrSlice (named 0) κ₂ u32).own_val r (w ∷ []))) ⊛ some (λ (ws : Lasts inserted.ended (κ₂, tt) (part-args s n)).
         ‵ (lasts inserted.ended (κ₂, tt) (part-args s n) ws) ⊛ raw (fact 𝓤 (Said-part s n r)))))) (id⊢ 𝓤 _) $ await ! tt $ pick ! (λ r.
-        split ! $ move ! (1 ∷ []) $ pick ! (λ ws. split ! $ drop ! $ heard ! (Said-part s n r) (λ part-is.
+        split ! $ move ! (1 ∷ []) $ pick ! (λ ws. split ! $ drop ! $ heard ! (Said-part s n r) (λ part_is.
         split ! $ move ! (1 ∷ []) $ peeks ! (ShrSlice (named 0) κ₂ u32) (Is (ShrSlice (named 0) κ₂ u32)) (shows 𝓛 (ShrSlice (named 0) κ₂ u32)) r (w ∷ []) (λ is.
         -- [what the part owns; the token; the text; κ₀; κ₁; κ₃; the original; the items; the room; …]
         move ! (1 ∷ []) $ split ! $ move ! (1 ∷ []) $ drop ! $ move ! (1 ∷ 3 ∷ 4 ∷ 0 ∷ 5 ∷ 6 ∷ 7 ∷ 2 ∷ []) $
@@ -607,7 +607,7 @@ module _ {M : Type 1} {𝓤 : Ura M} (𝓛 : Logic 𝓤) (mem : Memory → SProp
         rewrite ! 13 (λ (u : Val). ‵ (fat full_share shared l₂₇ 0 u)) (ap only (shr_slice_Tells (named 0) κ₂ u32 r (w ∷ []) is)) refl $
         assigns ! (addr ! (from ! (fld ! refl (hop ! (look_in ! 59 (part ! 0 refl (whole !))) (stop !))))) (from ! (stop !)) (init ! 11 refl (tt, tt)) $
         assigns ! (agg ! (and_then ! (read ! 11 refl) (and_then ! (load ! (from ! (fld ! refl (stop !))) (look_in ! 59 (part ! 1 refl (whole !)))) (no_more !)))) (from ! (stop !)) (init ! 9 refl (tt, (tt, (record { fits = g₃.0 }, tt)))) $
-        let room-ok : t.at + length r.now ≤ length t.out = rw (part-is) (fits-insert t.inv l f e) in
+        let room-ok : t.at + length r.now ≤ length t.out = rw (part_is) (fits_insert t.inv l f e) in
         -- the room is lent again, for a lifetime ν of the call
         lft_new ! tt (λ ν. move ! (9 ∷ 5 ∷ []) $
         use2 𝓛 (later (some (λ (δ : GName). ‵ (Lent 2 ν δ t.out) ⊛ ‵ (Kept ν δ t.out)))) (lends_again u32 κ₃ (ν ∷ []) q₃ γ b o 𝓛 (named 3) (named 2) t.out t.inv.same) $ await ! tt $ pick ! (λ δ. split ! $
@@ -629,7 +629,7 @@ module _ {M : Type 1} {𝓤 : Ura M} (𝓛 : Logic 𝓤) (mem : Memory → SProp
         land_last ! (from ! (stop !)) (store ! 52 refl ((uint_Lawful 𝓛 w64).typed m (u ∷ []) is').0) $
         rewrite ! 52 (λ (w : Val). ‵ (fat full_share word l₇ 0 w)) (ap only is'.0) refl $
         exec ! C Λ En onward (any_q (Turned t)) $ forget ! 42 refl $ forget ! 40 refl $ forget ! 34 refl $ forget ! 14 refl $ forget ! 12 refl $ forget ! 10 refl $ forget ! 8 refl $
-        tail t l t.position m ws.1.1.0 (build-insert t.inv l f e (rw (part-is) at put)))))))))))))))
+        tail t l t.position m ws.1.1.0 (build-insert t.inv l f e (rw (part_is) at put)))))))))))))))
 
     more : (t : State) → t.i < count → Sq 𝓛 (At t) (runs C Λ En mirs.turn-1 (any_q (Turned t)))
     more t l =
@@ -736,7 +736,7 @@ build-spec 𝓤 𝓛 𝓜 𝓡 =
     (tables 𝓤 𝓛.H 𝓜 𝓡 code.env).C (tables 𝓤 𝓛.H 𝓜 𝓡 code.env).Λ #build code.function (code.unfolded 𝓤 𝓛.H 𝓜 𝓡)
     (build-meets 𝓛 𝓜.mem 𝓡.run (tables_of 𝓤 𝓛.H 𝓜 (tables 𝓤 𝓛.H 𝓜 𝓡 code.env)) (record {
       made-new = cited 𝓤 𝓛.H (New 𝓛 𝓜.mem 𝓡.run) 𝓜 𝓡 code.env #new new-def.routine code.calls-string-builder::new (new-thm.met 𝓤 𝓛 𝓜 𝓡);
-      item-read = cited 𝓤 𝓛.H (ItemAt 𝓛 𝓜.mem 𝓡.run) 𝓜 𝓡 code.env #item-at item-at-def.routine code.calls-diff::diff::item-at (item-at-thm.met 𝓤 𝓛 𝓜 𝓡);
+      item_read = cited 𝓤 𝓛.H (ItemAt 𝓛 𝓜.mem 𝓡.run) 𝓜 𝓡 code.env #item-at item-at-def.routine code.calls-diff::diff::item-at (item-at-thm.met 𝓤 𝓛 𝓜 𝓡);
       retains = cited 𝓤 𝓛.H (Retains 𝓛 𝓜.mem 𝓡.run) 𝓜 𝓡 code.env #retain retain-def.routine code.calls-string-builder::retain (retain-thm.met 𝓤 𝓛 𝓜 𝓡);
       deletes = cited 𝓤 𝓛.H (Deletes 𝓛 𝓜.mem 𝓡.run) 𝓜 𝓡 code.env #delete delete-def.routine code.calls-string-builder::delete (delete-thm.met 𝓤 𝓛 𝓜 𝓡);
       part-found = cited 𝓤 𝓛.H (Inserted 𝓛 𝓜.mem 𝓡.run) 𝓜 𝓡 code.env #inserted inserted-def.routine code.calls-replay::inserted (inserted-thm.met 𝓤 𝓛 𝓜 𝓡);

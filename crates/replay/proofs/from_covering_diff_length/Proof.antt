@@ -1,6 +1,6 @@
 -- `from_covering_diff_length` gives the length of a covering replay. What `judge` found decides, and then what is left (Answering).
 -- Assumes nothing.
-use Rattle.replay.proofs.Answering.{covering-stops, covering-leaves, covering-goes, as_long, length-stops, length-goes}
+use Rattle.replay.proofs.Answering.{covering_stops, covering_leaves, covering_goes, as_long, length_stops, length_goes}
 use Rattle.replay.specs.Answers.{covering}
 use mathlib.Core.Path.{sym, ◌∙◌}
 use borrow.Author.Rules.{rules}
@@ -17,14 +17,14 @@ enum-known-left : tie.Need-enum-known-left
 enum-known-left c = search rules
 
 returns : tie.Need-returns
-returns c = length-stops covering _ (covering-leaves _ (sym c.before.before.before.before.judge.ensures ∙ c.before.before.left.given.1) c.if1.true)
+returns c = length_stops covering _ (covering_leaves _ (sym c.before.before.before.before.judge.ensures ∙ c.before.before.left.given.1) c.if1.true)
 
 returns-2 : tie.Need-returns-2
-returns-2 c = length-stops covering _ (covering-stops _ (sym c.before.before.before.judge.ensures ∙ c.before.refusal.given.1))
+returns-2 c = length_stops covering _ (covering_stops _ (sym c.before.before.before.judge.ensures ∙ c.before.refusal.given.1))
 
 returns-3 : tie.Need-returns-3
-returns-3 c = let e = sym c.before.before.before.before.judge.ensures ∙ c.before.before.left.given.1 in length-goes covering _
-    (covering-goes _ e c.if1.false) (as_long _ e)
+returns-3 c = let e = sym c.before.before.before.before.judge.ensures ∙ c.before.before.left.given.1 in length_goes covering _
+    (covering_goes _ e c.if1.false) (as_long _ e)
 
 pub from-covering-diff-length-spec : {M : Type 1} → statement M
 from-covering-diff-length-spec =

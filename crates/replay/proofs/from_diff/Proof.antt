@@ -1,6 +1,6 @@
 -- `from_diff` meets the statement of a plain replay. What `judge` found decides, and then the room (Answering).
 -- Assumes nothing.
-use Rattle.replay.proofs.Answering.{plain-stops, plain-goes, as_long, replay-stops, replay-goes}
+use Rattle.replay.proofs.Answering.{plain_stops, plain_goes, as_long, replay_stops, replay_goes}
 use Rattle.replay.specs.Answers.{plain}
 use mathlib.Core.Path.{sym, ◌∙◌}
 use borrow.Author.Rules.{rules}
@@ -20,14 +20,14 @@ fill-requires : tie.Need-fill-requires
 fill-requires c κs = as_long _ (sym c.before.before.before.before.judge.ensures ∙ c.before.before.length.given.1)
 
 returns : tie.Need-returns
-returns c = replay-stops plain _ _ (plain-stops _ (sym c.before.before.before.judge.ensures ∙ c.before.refusal.given.1))
+returns c = replay_stops plain _ _ (plain_stops _ (sym c.before.before.before.judge.ensures ∙ c.before.refusal.given.1))
 
 same_length : tie.Need-same-length
 same_length c = search rules
 
 returns-2 : tie.Need-returns-2
-returns-2 c = replay-goes plain _
-    (plain-goes _ (sym c.before.before.before.before.before.before.before.judge.ensures
+returns-2 c = replay_goes plain _
+    (plain_goes _ (sym c.before.before.before.before.before.before.before.judge.ensures
     ∙ c.before.before.before.before.before.length.given.1)) c.before.before.fill.ensures
 
 pub from-diff-spec : {M : Type 1} → statement M

@@ -1,6 +1,6 @@
 -- `judge` gives the first refusal in the paper's order, or what is left and the length. Each way is a law of Judging.
 -- Assumes nothing.
-use Rattle.replay.proofs.Judging.{reached-within, used-within, long-original, many-items, long-text, long_use, point-first, record-broken, point-bad, number_short, all-fine}
+use Rattle.replay.proofs.Judging.{reached_within, used_within, long_original, many_items, long_text, long_use, point_first, record_broken, point_bad, number_short, all_fine}
 use Rattle.replay.specs.Answers.{edits}
 use Rattle.diff.specs.Passes.{pointed}
 use native.Mathlib.Omega.{arith}
@@ -10,13 +10,13 @@ use Rattle.replay.proofs.judge.Statement.{statement}
 use Rattle.replay.proofs.judge.Tie as tie
 
 returns : tie.Need-returns
-returns c = long-original _ c.if1.true
+returns c = long_original _ c.if1.true
 
 returns-2 : tie.Need-returns-2
-returns-2 c = many-items _ c.before.if1.false c.if2.true
+returns-2 c = many_items _ c.before.if1.false c.if2.true
 
 returns-3 : tie.Need-returns-3
-returns-3 c = long-text _ c.before.before.if1.false c.before.if2.false c.if3.true
+returns-3 c = long_text _ c.before.before.if1.false c.before.if2.false c.if3.true
 
 survey-requires : tie.Need-survey-requires
 survey-requires c κs = search rules
@@ -58,13 +58,13 @@ enum-known-position : tie.Need-enum-known-position
 enum-known-position c = search rules
 
 sub-t30 : tie.Need-overflow-sub-t30
-sub-t30 c = omega (arith, reached-within _ _ (sym c.before.before.before.walk.ensures ∙ c.before.position.given.1))
+sub-t30 c = omega (arith, reached_within _ _ (sym c.before.before.before.walk.ensures ∙ c.before.position.given.1))
 
 add-t31 : tie.Need-overflow-add-t31
 add-t31 c = omega (
   arith,
-  reached-within _ _ (sym c.before.before.before.walk.ensures ∙ c.before.position.given.1),
-  used-within _
+  reached_within _ _ (sym c.before.before.before.walk.ensures ∙ c.before.position.given.1),
+  used_within _
       (sym c.before.before.before.before.before.before.before.before.before.before.survey.ensures
       ∙ c.before.before.before.before.before.before.before.before.used.given.1),
 )
@@ -74,7 +74,7 @@ returns-4 c = long_use _ c.before.before.before.before.before.if1.false c.before
     c.before.before.before.if3.false (sym c.before.before.survey.ensures ∙ c.enum_told.given.1)
 
 returns-5 : tie.Need-returns-5
-returns-5 c = point-first _ c.before.before.before.before.before.before.before.before.before.before.if1.false
+returns-5 c = point_first _ c.before.before.before.before.before.before.before.before.before.before.if1.false
     c.before.before.before.before.before.before.before.before.before.if2.false
     c.before.before.before.before.before.before.before.before.if3.false
     (sym c.before.before.before.before.before.before.before.survey.ensures
@@ -82,14 +82,14 @@ returns-5 c = point-first _ c.before.before.before.before.before.before.before.b
     ∙ c.before.before.before.bad-points.ensures)
 
 returns-6 : tie.Need-returns-6
-returns-6 c = record-broken _ c.before.before.before.before.before.before.before.before.before.if1.false
+returns-6 c = record_broken _ c.before.before.before.before.before.before.before.before.before.if1.false
     c.before.before.before.before.before.before.before.before.if2.false
     c.before.before.before.before.before.before.before.if3.false
     (sym c.before.before.before.before.before.before.survey.ensures ∙ c.before.before.before.before.refusal.given.1)
     (ap pointed (sym c.enum-told2.given.1) ∙ c.before.before.bad-points.ensures)
 
 returns-7 : tie.Need-returns-7
-returns-7 c = point-bad _ c.before.before.before.before.before.before.before.before.before.before.if1.false
+returns-7 c = point_bad _ c.before.before.before.before.before.before.before.before.before.before.if1.false
     c.before.before.before.before.before.before.before.before.before.if2.false
     c.before.before.before.before.before.before.before.before.if3.false
     (sym c.before.before.before.before.before.before.before.survey.ensures
@@ -109,7 +109,7 @@ returns-8 c = number_short _ c.before.before.before.before.before.before.before.
 
 returns-9 : tie.Need-returns-9
 unfolding edits
-returns-9 c = all-fine _ c.before.before.before.before.before.before.before.before.before.before.before.before.before.if1.false
+returns-9 c = all_fine _ c.before.before.before.before.before.before.before.before.before.before.before.before.before.if1.false
     c.before.before.before.before.before.before.before.before.before.before.before.before.if2.false
     c.before.before.before.before.before.before.before.before.before.before.before.if3.false
     (sym c.before.before.before.before.before.before.before.before.before.before.survey.ensures

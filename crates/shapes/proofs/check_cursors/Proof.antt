@@ -1,6 +1,6 @@
 -- `check_cursors` gives refusal 5 of cursors.
 -- The loop keeps `Marking`, whose ways are in Tiled. Assumes nothing.
-use Rattle.shapes.proofs.Tiled.{Marking, marks_begin, marks-on, marks-past, marks-end}
+use Rattle.shapes.proofs.Tiled.{Marking, marks_begin, marks_on, marks_past, marks_end}
 use mathlib.Core.Path.{refl}
 use Prim.Native.Nat.{◌-◌}
 use borrow.Author.Rules.{rules}
@@ -24,7 +24,7 @@ returns c =
     let c2 = c.before.before in
     let c3 = c2.before in
     let c4 = c3.before in
-    marks-past c4.cursors.invariant c2.cursor-at.result c3.cursors-test.true c2.cursor-at.ensures c.if1.true
+    marks_past c4.cursors.invariant c2.cursor-at.result c3.cursors-test.true c2.cursor-at.ensures c.if1.true
 
 add-i : tie.Need-overflow-add-i invariant-cursors decreases-cursors
 add-i c = search rules
@@ -37,10 +37,10 @@ cursors-again c =
     let c2 = c.before.before in
     let c3 = c2.before in
     let c4 = c3.before in
-    marks-on c4.cursors.invariant c2.cursor-at.result c3.cursors-test.true c2.cursor-at.ensures c.if1.false
+    marks_on c4.cursors.invariant c2.cursor-at.result c3.cursors-test.true c2.cursor-at.ensures c.if1.false
 
 returns-2 : tie.Need-returns-2 invariant-cursors decreases-cursors
-returns-2 c = marks-end c.before.cursors.invariant c.cursors-test.false
+returns-2 c = marks_end c.before.cursors.invariant c.cursors-test.false
 
 pub check-cursors-spec : {M : Type 1} → statement M
 check-cursors-spec =

@@ -1,6 +1,6 @@
 -- `check_records` gives refusal 1 of a list.
 -- The loop keeps `Recording`, whose ways are in Shapely. Assumes nothing.
-use Rattle.shapes.proofs.Shapely.{Recording, records-begin, records-on, records-bad, records-end}
+use Rattle.shapes.proofs.Shapely.{Recording, records_begin, records_on, records_bad, records_end}
 use mathlib.Core.Path.{refl, sym, ◌∙◌}
 use Prim.Native.Nat.{◌-◌}
 use borrow.Author.Rules.{rules}
@@ -14,7 +14,7 @@ abbrev decreases-records : tie.decreases-records
 decreases-records spans keys n operations count i₀ i = count - i
 
 records-holds : tie.Need-records-init invariant-records decreases-records
-records-holds c = records-begin _ _ _ _ _ refl
+records-holds c = records_begin _ _ _ _ _ refl
 
 operation-at-requires : tie.Need-operation-at-requires invariant-records decreases-records
 operation-at-requires c κs = search rules
@@ -33,17 +33,17 @@ records-again c =
     let c2 = c.before.before in
     let c3 = c2.before in
     let c4 = c3.before in
-    records-on c4.records.invariant c2.operation-at.result c3.records-test.true c2.operation-at.ensures (sym c.before.is-record.ensures ∙ c.if1.true)
+    records_on c4.records.invariant c2.operation-at.result c3.records-test.true c2.operation-at.ensures (sym c.before.is-record.ensures ∙ c.if1.true)
 
 returns : tie.Need-returns invariant-records decreases-records
 returns c =
     let c2 = c.before.before in
     let c3 = c2.before in
     let c4 = c3.before in
-    records-bad c4.records.invariant c2.operation-at.result c3.records-test.true c2.operation-at.ensures (sym c.before.is-record.ensures ∙ c.if1.false)
+    records_bad c4.records.invariant c2.operation-at.result c3.records-test.true c2.operation-at.ensures (sym c.before.is-record.ensures ∙ c.if1.false)
 
 returns-2 : tie.Need-returns-2 invariant-records decreases-records
-returns-2 c = records-end c.before.records.invariant c.records-test.false
+returns-2 c = records_end c.before.records.invariant c.records-test.false
 
 pub check-records-spec : {M : Type 1} → statement M
 check-records-spec =

@@ -1,6 +1,6 @@
 -- `run_good` tells whether the tokens of a run are good.
 -- The loop keeps `Looking`, whose ways are in Shapely. Assumes nothing.
-use Rattle.shapes.proofs.Shapely.{Looking, looks-begin, looks-empty, looks-out, looks_on, looks-end}
+use Rattle.shapes.proofs.Shapely.{Looking, looks_begin, looks_empty, looks_out, looks_on, looks_end}
 use mathlib.Core.Path.{refl, sym, ◌∙◌}
 use Prim.Native.Nat.{◌-◌}
 use borrow.Author.Rules.{rules}
@@ -17,7 +17,7 @@ add-end : tie.Need-overflow-add-end invariant-run decreases-run
 add-end c = search rules
 
 run_holds : tie.Need-run-init invariant-run decreases-run
-run_holds c = looks-begin _ _ _ _ _ _ refl
+run_holds c = looks_begin _ _ _ _ _ _ refl
 
 token-at-requires : tie.Need-token-at-requires invariant-run decreases-run
 token-at-requires c κs = search rules
@@ -27,7 +27,7 @@ returns c =
     let c2 = c.before.before in
     let c3 = c2.before in
     let c4 = c3.before in
-    looks-empty c4.run.invariant c2.token-at.result c3.run-test.true c2.token-at.ensures c.if1.true
+    looks_empty c4.run.invariant c2.token-at.result c3.run-test.true c2.token-at.ensures c.if1.true
 
 in-text-requires : tie.Need-in-text-requires invariant-run decreases-run
 in-text-requires c κs = search rules
@@ -52,10 +52,10 @@ returns-2 c =
     let c4 = c2.before.before in
     let c5 = c4.before in
     let c6 = c5.before in
-    looks-out c6.run.invariant c4.token-at.result c5.run-test.true c4.token-at.ensures c2.if1.false (sym c.before.in-text.ensures ∙ c.if2.false)
+    looks_out c6.run.invariant c4.token-at.result c5.run-test.true c4.token-at.ensures c2.if1.false (sym c.before.in-text.ensures ∙ c.if2.false)
 
 returns-3 : tie.Need-returns-3 invariant-run decreases-run
-returns-3 c = looks-end c.before.run.invariant c.run-test.false
+returns-3 c = looks_end c.before.run.invariant c.run-test.false
 
 pub run-good-spec : {M : Type 1} → statement M
 run-good-spec =

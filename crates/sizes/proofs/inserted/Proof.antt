@@ -1,7 +1,7 @@
 -- `inserted` sums the text that a list inserts, up to the cap.
 -- The loop keeps `Totals`, whose ways are in Sums. Assumes nothing.
-use Rattle.sizes.proofs.Sums.{Totals, totals-begin, totals-on, totals-end, cap-cap}
-use Rattle.sizes.specs.Texts.{insertedBy}
+use Rattle.sizes.proofs.Sums.{Totals, totals_begin, totals_on, totals_end, cap_cap}
+use Rattle.sizes.specs.Texts.{inserted_by}
 use mathlib.Core.Path.{refl}
 use Prim.Native.Nat.{◌-◌}
 use borrow.Author.Rules.{rules}
@@ -9,13 +9,13 @@ use Rattle.sizes.proofs.inserted.Statement.{statement}
 use Rattle.sizes.proofs.inserted.Tie as tie
 
 abbrev invariant-sum : tie.invariant-sum
-invariant-sum spans keys n operations count i₀ sum₀ i sum = Totals (insertedBy n spans keys) operations count i sum
+invariant-sum spans keys n operations count i₀ sum₀ i sum = Totals (inserted_by n spans keys) operations count i sum
 
 abbrev decreases-sum : tie.decreases-sum
 decreases-sum spans keys n operations count i₀ sum₀ i sum = count - i
 
 sum-holds : tie.Need-sum-init invariant-sum decreases-sum
-sum-holds c = totals-begin _ _ _ refl
+sum-holds c = totals_begin _ _ _ refl
 
 operation-at-requires : tie.Need-operation-at-requires invariant-sum decreases-sum
 operation-at-requires c κs = search rules
@@ -37,11 +37,11 @@ sum-again c =
     let c2 = c.before.before in
     let c3 = c2.before in
     let c4 = c3.before in
-    totals-on c4.sum.invariant c2.operation-at.result c.before.inserted_by.result _ c3.sum-test.true c2.operation-at.ensures
-    (cap-cap _ _ c.before.inserted_by.ensures) c.capped.ensures
+    totals_on c4.sum.invariant c2.operation-at.result c.before.inserted_by.result _ c3.sum-test.true c2.operation-at.ensures
+    (cap_cap _ _ c.before.inserted_by.ensures) c.capped.ensures
 
 returns : tie.Need-returns invariant-sum decreases-sum
-returns c = totals-end c.before.sum.invariant c.sum-test.false
+returns c = totals_end c.before.sum.invariant c.sum-test.false
 
 pub inserted-spec : {M : Type 1} → statement M
 inserted-spec =

@@ -1,6 +1,6 @@
 -- `lists_fit` tells whether both lists keep their sizes.
 -- A conjunction of two tests, by Chains. Assumes nothing.
-use Rattle.room.proofs.Bools.{first-no, second_is}
+use Rattle.room.proofs.Bools.{first_no, second_is}
 use borrow.Author.Tests.{not-true, not-false}
 use mathlib.Core.Path.{sym, ◌∙◌}
 use borrow.Author.Rules.{rules}
@@ -11,7 +11,7 @@ list-fits-requires : tie.Need-list-fits-requires
 list-fits-requires c κs = search rules
 
 returns : tie.Need-returns
-returns c = sym (first-no _ _ (sym c.before.list-fits.ensures ∙ not-true _ c.if1.true))
+returns c = sym (first_no _ _ (sym c.before.list-fits.ensures ∙ not-true _ c.if1.true))
 
 list-fits-requires-2 : tie.Need-list-fits-requires-2
 list-fits-requires-2 c κs = search rules

@@ -1,6 +1,6 @@
 -- `run_text` sums the text of a run of tokens, up to the cap.
 -- The loop keeps `Adding`, whose ways are in Sums. Assumes nothing.
-use Rattle.sizes.proofs.Sums.{Adding, adding-begins, adding-in, adding-out, adding-ends}
+use Rattle.sizes.proofs.Sums.{Adding, adding_begins, adding_in, adding_out, adding_ends}
 use mathlib.Core.Path.{refl, sym, ◌∙◌}
 use Prim.Native.Nat.{◌-◌}
 use borrow.Author.Rules.{rules}
@@ -17,7 +17,7 @@ add-end : tie.Need-overflow-add-end invariant-run decreases-run
 add-end c = search rules
 
 run_holds : tie.Need-run-init invariant-run decreases-run
-run_holds c = adding-begins _ _ _ _ _ _ refl
+run_holds c = adding_begins _ _ _ _ _ _ refl
 
 token-at-requires : tie.Need-token-at-requires invariant-run decreases-run
 token-at-requires c κs = search rules
@@ -44,7 +44,7 @@ run-again c =
     let c4 = c3.before in
     let c5 = c4.before in
     let c6 = c5.before in
-    adding-in c6.run.invariant c4.token-at.result _ c5.run-test.true c4.token-at.ensures (sym c3.in-text.ensures ∙ c2.if1.true)
+    adding_in c6.run.invariant c4.token-at.result _ c5.run-test.true c4.token-at.ensures (sym c3.in-text.ensures ∙ c2.if1.true)
     (c.capped.ensures ∙ rw c.before.wide.ensures)
 
 run-less-2 : tie.Need-run-smaller-2 invariant-run decreases-run
@@ -55,10 +55,10 @@ run-again-2 c =
     let c2 = c.before.before in
     let c3 = c2.before in
     let c4 = c3.before in
-    adding-out c4.run.invariant c2.token-at.result c3.run-test.true c2.token-at.ensures (sym c.before.in-text.ensures ∙ c.if1.false)
+    adding_out c4.run.invariant c2.token-at.result c3.run-test.true c2.token-at.ensures (sym c.before.in-text.ensures ∙ c.if1.false)
 
 returns : tie.Need-returns invariant-run decreases-run
-returns c = adding-ends c.before.run.invariant c.run-test.false
+returns c = adding_ends c.before.run.invariant c.run-test.false
 
 pub run-text-spec : {M : Type 1} → statement M
 run-text-spec =

@@ -1,7 +1,7 @@
 -- `retain_at` puts the next of the original, or what is left of them. The part it copies is what the step passes (Stops).
 -- Assumes nothing.
-use Rattle.string_builder.proofs.Stops.{stop-within, stop-part, none_left}
-use Rattle.room.proofs.Placing.{put-none}
+use Rattle.string_builder.proofs.Stops.{stop_within, stop_part, none_left}
+use Rattle.room.proofs.Placing.{put_none}
 use lib.ListN.{length}
 use native.Mathlib.Omega.{arith}
 use borrow.Author.Rules.{rules}
@@ -10,7 +10,7 @@ use Rattle.string_builder.proofs.retain_at.Tie as tie
 
 returns : tie.Need-returns
 returns c = rw (none_left c.before.before.before.args.original.now c.before.before.before.args.position
-    c.before.before.before.args.n c.if1.true) (put-none _ _)
+    c.before.before.before.args.n c.if1.true) (put_none _ _)
 
 stop-at-requires : tie.Need-stop-at-requires
 stop-at-requires c κs = search rules
@@ -22,7 +22,7 @@ sub-put-u32 : tie.Need-overflow-sub-put-u32
 sub-put-u32 c = omega (
   arith,
   c.stop-at.ensures,
-  stop-within (length c.before.before.before.before.args.original.now)
+  stop_within (length c.before.before.before.before.args.original.now)
       c.before.before.before.before.args.position c.before.before.before.before.args.n (omega arith),
 )
 
@@ -30,7 +30,7 @@ part-put-u32-start : tie.Need-slice-bounds-put-u32-start
 part-put-u32-start c = omega (
   arith,
   c.stop-at.ensures,
-  stop-within (length c.before.before.before.before.args.original.now)
+  stop_within (length c.before.before.before.before.args.original.now)
       c.before.before.before.before.args.position c.before.before.before.before.args.n (omega arith),
 )
 
@@ -38,14 +38,14 @@ part-put-u32-end : tie.Need-slice-bounds-put-u32-end
 part-put-u32-end c = omega (
   arith,
   c.stop-at.ensures,
-  stop-within (length c.before.before.before.before.args.original.now)
+  stop_within (length c.before.before.before.before.args.original.now)
       c.before.before.before.before.args.position c.before.before.before.before.args.n (omega arith),
 )
 
 put-u32-requires : tie.Need-put-u32-requires
 put-u32-requires c κs = rw (
   c.before.before.stop-at.ensures,
-  stop-part c.before.before.before.before.before.before.args.original.now
+  stop_part c.before.before.before.before.before.before.args.original.now
       c.before.before.before.before.before.before.args.position c.before.before.before.before.before.before.args.n
       (omega arith),
 ) c.before.before.before.before.before.before.requires
@@ -55,7 +55,7 @@ same_length c = search rules
 
 returns-2 : tie.Need-returns-2
 returns-2 c = rw (
-  ← stop-part c.before.before.before.before.before.before.before.before.before.args.original.now
+  ← stop_part c.before.before.before.before.before.before.before.before.before.args.original.now
       c.before.before.before.before.before.before.before.before.before.args.position
       c.before.before.before.before.before.before.before.before.before.args.n
       (omega arith),

@@ -1,6 +1,6 @@
 -- Shown: `measure` counts the items and the text of a list's diff.
 -- How: the loop keeps `Counting`; each way through a turn is a law of proofs/Measuring.antt.
-use Rattle.to_diff.proofs.Measuring.{Counting, count-begins, count-ends, count-few, count-delete, count-retain, count-joined, count-spells, count-adds, count-insert}
+use Rattle.to_diff.proofs.Measuring.{Counting, count_begins, count_ends, count_few, count_delete, count_retain, count_joined, count_spells, count_adds, count_insert}
 use native.Mathlib.Omega.{arith}
 use mathlib.Core.Path.{refl}
 use Prim.Native.Nat.{◌-◌}
@@ -14,7 +14,7 @@ abbrev decreases-operations : tie.decreases-operations
 decreases-operations text spans keys operations lent count i₀ found₀ size₀ joins₀ i found size joins = count - i
 
 operations-holds : tie.Need-operations-init invariant-operations decreases-operations
-operations-holds c = count-begins refl c.before.before.before.before.requires
+operations-holds c = count_begins refl c.before.before.before.before.requires
 
 operation-at-requires : tie.Need-operation-at-requires invariant-operations decreases-operations
 operation-at-requires c κs = omega (arith, c.before.operations.invariant.whole, c.operations-test.true)
@@ -27,7 +27,7 @@ run-text-requires c κs =
     let c2 = c.before.before in
     let c3 = c2.before in
     let c4 = c3.before in
-    (count-spells c4.operations.invariant c2.operation-at.result c3.operations-test.true c2.operation-at.ensures c.if1.true).lent
+    (count_spells c4.operations.invariant c2.operation-at.result c3.operations-test.true c2.operation-at.ensures c.if1.true).lent
 
 add-size : tie.Need-overflow-add-size invariant-operations decreases-operations
 add-size c =
@@ -37,7 +37,7 @@ add-size c =
     let c10 = c5.before.before.before.before.before in
     omega (
       arith,
-      count-adds c5.operations.invariant c3.operation-at.result c4.operations-test.true c3.operation-at.ensures
+      count_adds c5.operations.invariant c3.operation-at.result c4.operations-test.true c3.operation-at.ensures
           c.before.if1.true c10.requires c.run-text.result c.run-text.ensures,
     )
 
@@ -45,7 +45,7 @@ add-found : tie.Need-overflow-add-found invariant-operations decreases-operation
 add-found c =
     let c5 = c.before.before.before.before.before in
     let c10 = c5.before.before.before.before.before in
-    omega (arith, count-few c5.operations.invariant c10.requires)
+    omega (arith, count_few c5.operations.invariant c10.requires)
 
 operations-less : tie.Need-operations-smaller invariant-operations decreases-operations
 operations-less c = omega (arith, c.before.before.before.before.operations-test.true)
@@ -56,14 +56,14 @@ operations-again c =
     let c4 = c3.before in
     let c5 = c4.before in
     let c10 = c5.before.before.before.before.before in
-    count-insert c5.operations.invariant c3.operation-at.result c4.operations-test.true c3.operation-at.ensures c.before.if1.true
+    count_insert c5.operations.invariant c3.operation-at.result c4.operations-test.true c3.operation-at.ensures c.before.if1.true
     c10.requires c.run-text.result c.run-text.ensures
 
 add-found-2 : tie.Need-overflow-add-found-2 invariant-operations decreases-operations
 add-found-2 c =
     let c6 = c.before.before.before.before.before.before in
     let c11 = c6.before.before.before.before.before in
-    omega (arith, count-few c6.operations.invariant c11.requires)
+    omega (arith, count_few c6.operations.invariant c11.requires)
 
 operations-less-2 : tie.Need-operations-smaller-2 invariant-operations decreases-operations
 operations-less-2 c = omega (arith, c.before.before.before.before.before.operations-test.true)
@@ -73,7 +73,7 @@ operations-again-2 c =
     let c4 = c.before.before.before.before in
     let c5 = c4.before in
     let c6 = c5.before in
-    count-delete c6.operations.invariant c4.operation-at.result c5.operations-test.true c4.operation-at.ensures c.if2.true
+    count_delete c6.operations.invariant c4.operation-at.result c5.operations-test.true c4.operation-at.ensures c.if2.true
 
 operations-less-3 : tie.Need-operations-smaller-3 invariant-operations decreases-operations
 operations-less-3 c = omega (arith, c.before.before.before.before.before.before.operations-test.true)
@@ -84,14 +84,14 @@ operations-again-3 c =
     let c5 = c3.before.before in
     let c6 = c5.before in
     let c7 = c6.before in
-    count-joined c7.operations.invariant c5.operation-at.result c6.operations-test.true c5.operation-at.ensures c3.if1.false
+    count_joined c7.operations.invariant c5.operation-at.result c6.operations-test.true c5.operation-at.ensures c3.if1.false
     c.before.if2.false c.if3.true
 
 add-found-3 : tie.Need-overflow-add-found-3 invariant-operations decreases-operations
 add-found-3 c =
     let c7 = c.before.before.before.before.before.before.before in
     let c12 = c7.before.before.before.before.before in
-    omega (arith, count-few c7.operations.invariant c12.requires)
+    omega (arith, count_few c7.operations.invariant c12.requires)
 
 operations-less-4 : tie.Need-operations-smaller-4 invariant-operations decreases-operations
 operations-less-4 c = omega (arith, c.before.before.before.before.before.before.operations-test.true)
@@ -102,11 +102,11 @@ operations-again-4 c =
     let c5 = c3.before.before in
     let c6 = c5.before in
     let c7 = c6.before in
-    count-retain c7.operations.invariant c5.operation-at.result c6.operations-test.true c5.operation-at.ensures c3.if1.false
+    count_retain c7.operations.invariant c5.operation-at.result c6.operations-test.true c5.operation-at.ensures c3.if1.false
     c.before.if2.false c.if3.false
 
 returns : tie.Need-returns invariant-operations decreases-operations
-returns c = count-ends c.before.operations.invariant c.operations-test.false
+returns c = count_ends c.before.operations.invariant c.operations-test.false
 
 pub measure-spec : {M : Type 1} → statement M
 measure-spec =

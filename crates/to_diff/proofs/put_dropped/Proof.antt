@@ -1,6 +1,6 @@
 -- Shown: `put_dropped` puts a delete's item.
 -- How: its three numbers are the item's record.
-use Rattle.edit_format.specs.Records.{recordOf}
+use Rattle.edit_format.specs.Records.{record_of}
 use mir.Facts.{to_z-of_z}
 use mir.Syntax.{w64}
 use mathlib.Core.Path.{◌∙◌}
@@ -21,7 +21,7 @@ same_length : tie.Need-same-length
 same_length c = search rules
 
 returns : tie.Need-returns
-unfolding recordOf
+unfolding record_of
 returns c =
     let c2 = c.before.before in
     c.before.put_record.ensures ∙ rw (to_z-of_z {w = w64} {z = c2.dropped-number.result} (record { sfits = c2.dropped-number.type-inv }) ∙ c2.dropped-number.ensures)

@@ -1,6 +1,6 @@
 -- Shown: `write` writes a list's diff into its rooms.
 -- How: the loop keeps `Taking`; each way through a turn is a law of proofs/Writing.antt.
-use Rattle.to_diff.proofs.Writing.{Taking, take_begins, take-first, take_none, take_again, same-items, same_text, place-most, delete-fits, delete-closes, delete-puts, delete-written, insert-fits, insert-closes, insert-puts, insert-written, retain-small, retain-held, end_fits, end-written}
+use Rattle.to_diff.proofs.Writing.{Taking, take_begins, take_first, take_none, take_again, same_items, same_text, place_most, delete_fits, delete_closes, delete_puts, delete_written, insert_fits, insert_closes, insert_puts, insert_written, retain_small, retain_held, end_fits, end_written}
 use native.Mathlib.Omega.{arith}
 use mathlib.Core.Path.{refl}
 use Prim.Native.Nat.{◌-◌}
@@ -28,8 +28,8 @@ put-kept-requires c κs =
     let c3 = c.before.before.before in
     let c4 = c3.before in
     let c5 = c4.before in
-    let v = c5.operations.invariant in insert-fits v.few v.fits
-    (take-first v c3.operation-at.result c4.operations-test.true c3.operation-at.ensures) c.before.if1.true
+    let v = c5.operations.invariant in insert_fits v.few v.fits
+    (take_first v c3.operation-at.result c4.operations-test.true c3.operation-at.ensures) c.before.if1.true
 
 put-insert-requires : tie.Need-put-insert-requires invariant-operations decreases-operations
 put-insert-requires c κs =
@@ -38,8 +38,8 @@ put-insert-requires c κs =
     let c7 = c5.before.before in
     let c8 = c7.before in
     let c9 = c8.before in
-    let v = c9.operations.invariant in insert-puts v.few v.fits
-    (insert-closes v.few v.fits (take-first v c7.operation-at.result c8.operations-test.true c7.operation-at.ensures)
+    let v = c9.operations.invariant in insert_puts v.few v.fits
+    (insert_closes v.few v.fits (take_first v c7.operation-at.result c8.operations-test.true c7.operation-at.ensures)
     c5.if1.true c3.put-kept.ensures) c5.if1.true
 
 add-place : tie.Need-overflow-add-place invariant-operations decreases-operations
@@ -52,8 +52,8 @@ add-place c =
     let v = c13.operations.invariant in omega (
       arith,
       v.many,
-      place-most v.fits
-          (insert-closes v.few v.fits (take-first v c11.operation-at.result c12.operations-test.true c11.operation-at.ensures)
+      place_most v.fits
+          (insert_closes v.few v.fits (take_first v c11.operation-at.result c12.operations-test.true c11.operation-at.ensures)
           c9.if1.true c7.put-kept.ensures),
     )
 
@@ -69,8 +69,8 @@ operations-again c =
     let c12 = c11.before in
     let c13 = c12.before in
     let v = c13.operations.invariant in take_again v c12.operations-test.true
-    (insert-written v.few v.fits
-    (insert-closes v.few v.fits (take-first v c11.operation-at.result c12.operations-test.true c11.operation-at.ensures)
+    (insert_written v.few v.fits
+    (insert_closes v.few v.fits (take_first v c11.operation-at.result c12.operations-test.true c11.operation-at.ensures)
     c9.if1.true c7.put-kept.ensures) c9.if1.true c3.put-insert.ensures)
 
 put-kept-requires-2 : tie.Need-put-kept-requires-2 invariant-operations decreases-operations
@@ -78,8 +78,8 @@ put-kept-requires-2 c κs =
     let c5 = c.before.before.before.before.before in
     let c6 = c5.before in
     let c7 = c6.before in
-    let v = c7.operations.invariant in delete-fits v.few v.fits
-    (take-first v c5.operation-at.result c6.operations-test.true c5.operation-at.ensures) c.before.if2.true
+    let v = c7.operations.invariant in delete_fits v.few v.fits
+    (take_first v c5.operation-at.result c6.operations-test.true c5.operation-at.ensures) c.before.if2.true
 
 put-dropped-requires : tie.Need-put-dropped-requires invariant-operations decreases-operations
 put-dropped-requires c κs =
@@ -88,8 +88,8 @@ put-dropped-requires c κs =
     let c8 = c4.before.before.before.before in
     let c9 = c8.before in
     let c10 = c9.before in
-    let v = c10.operations.invariant in delete-puts v.few v.fits
-    (delete-closes v.few v.fits (take-first v c8.operation-at.result c9.operations-test.true c8.operation-at.ensures)
+    let v = c10.operations.invariant in delete_puts v.few v.fits
+    (delete_closes v.few v.fits (take_first v c8.operation-at.result c9.operations-test.true c8.operation-at.ensures)
     c4.if2.true c2.put-kept2.ensures) c4.if2.true
 
 add-place-2 : tie.Need-overflow-add-place-2 invariant-operations decreases-operations
@@ -102,8 +102,8 @@ add-place-2 c =
     let v = c12.operations.invariant in omega (
       arith,
       v.many,
-      place-most v.fits
-          (delete-closes v.few v.fits (take-first v c10.operation-at.result c11.operations-test.true c10.operation-at.ensures)
+      place_most v.fits
+          (delete_closes v.few v.fits (take_first v c10.operation-at.result c11.operations-test.true c10.operation-at.ensures)
           c6.if2.true c4.put-kept2.ensures),
     )
 
@@ -118,8 +118,8 @@ operations-again-2 c =
     let c11 = c10.before in
     let c12 = c11.before in
     let v = c12.operations.invariant in take_again v c11.operations-test.true
-    (delete-written v.few v.fits
-    (delete-closes v.few v.fits (take-first v c10.operation-at.result c11.operations-test.true c10.operation-at.ensures)
+    (delete_written v.few v.fits
+    (delete_closes v.few v.fits (take_first v c10.operation-at.result c11.operations-test.true c10.operation-at.ensures)
     c6.if2.true c4.put-kept2.ensures) c6.if2.true c.before.put-dropped.ensures)
 
 add_kept : tie.Need-overflow-add-kept invariant-operations decreases-operations
@@ -130,7 +130,7 @@ add_kept c =
     let c7 = c6.before in
     let v = c7.operations.invariant in omega (
       arith,
-      retain-small v.few v.fits (take-first v c5.operation-at.result c6.operations-test.true c5.operation-at.ensures)
+      retain_small v.few v.fits (take_first v c5.operation-at.result c6.operations-test.true c5.operation-at.ensures)
           c3.if1.false c.before.if2.false,
     )
 
@@ -144,14 +144,14 @@ operations-again-3 c =
     let c6 = c5.before in
     let c7 = c6.before in
     let v = c7.operations.invariant in take_again v c6.operations-test.true
-    (retain-held v.few v.fits (take-first v c5.operation-at.result c6.operations-test.true c5.operation-at.ensures)
+    (retain_held v.few v.fits (take_first v c5.operation-at.result c6.operations-test.true c5.operation-at.ensures)
     c3.if1.false c.before.if2.false)
 
 put-kept-requires-3 : tie.Need-put-kept-requires-3 invariant-operations decreases-operations
 put-kept-requires-3 c κs = let v = c.before.before.operations.invariant in end_fits v.few v.fits (take_none v c.before.operations-test.false)
 
 same_length : tie.Need-same-length invariant-operations decreases-operations
-same_length c = let v = c.before.before.before.before.operations.invariant in omega (arith, c.room5.given, same-items v.fits v.left)
+same_length c = let v = c.before.before.before.before.operations.invariant in omega (arith, c.room5.given, same_items v.fits v.left)
 
 same-length-2 : tie.Need-same-length-2 invariant-operations decreases-operations
 same-length-2 c = let v = c.before.before.before.before.operations.invariant in same_text v.fits v.left
@@ -160,7 +160,7 @@ returns : tie.Need-returns invariant-operations decreases-operations
 returns c =
     let c3 = c.before.before.before in
     let c4 = c3.before in
-    let v = c4.operations.invariant in end-written v.few v.fits (take_none v c3.operations-test.false) c.before.put-kept3.ensures
+    let v = c4.operations.invariant in end_written v.few v.fits (take_none v c3.operations-test.false) c.before.put-kept3.ensures
 
 pub write_spec : {M : Type 1} → statement M
 write_spec =

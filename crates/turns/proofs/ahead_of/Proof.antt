@@ -1,7 +1,7 @@
 -- Shown: `ahead_of` looks at the record at its place.
 -- How: each way through its test is a law of Coming.antt.
 use Prim.Native.Nat.{ℕ, ◌+◌}
-use Rattle.turns.proofs.Coming.{first_fits, looks-here, looks-done}
+use Rattle.turns.proofs.Coming.{first_fits, looks_here, looks_done}
 use Rattle.records.specs.declared.Operation.{Operation}
 use Rattle.merging.specs.Operations.{span_of, op_of}
 use mathlib.Core.Path.{◌∙◌, ap}
@@ -39,12 +39,12 @@ returns c =
     let c2 = c.before.before in
     let c3 = c2.before in
     let c5 = c3.before.before in
-    looks-here _ _ _ c.before.op-of.result _ c3.if1.true
+    looks_here _ _ _ c.before.op-of.result _ c3.if1.true
     (c.before.op-of.ensures ∙ ap (λ (o : Operation). op_of c5.args.at o) c2.operation-at.ensures)
     (ap (λ (k : ℕ). c5.args.at + k) c.Span-of.ensures)
 
 returns-2 : tie.Need-returns-2
-returns-2 c = looks-done _ _ _ c.if1.false
+returns-2 c = looks_done _ _ _ c.if1.false
 
 pub ahead-of-spec : {M : Type 1} → statement M
 ahead-of-spec =

@@ -1,6 +1,6 @@
 -- Shown: `emit` grows the room by what the definition emits.
 -- How: each way through its test is a law of Emitted.antt.
-use Rattle.turns.proofs.Emitted.{emit-fits, emits_none, emits_one}
+use Rattle.turns.proofs.Emitted.{emit_fits, emits_none, emits_one}
 use mathlib.Core.Path.{sym, ◌∙◌}
 use borrow.Author.Rules.{rules}
 use Rattle.turns.proofs.emit.Statement.{statement}
@@ -20,7 +20,7 @@ put-operation-requires c κs =
     let c2 = c.before.before in
     let c3 = c2.before in
     let c5 = c3.before.before in
-    emit-fits _ _ c5.args.res _ _ (sym c3.is-empty.ensures ∙ c2.if1.false) c5.requires
+    emit_fits _ _ c5.args.res _ _ (sym c3.is-empty.ensures ∙ c2.if1.false) c5.requires
 
 add-result : tie.Need-overflow-add-result
 add-result c = search rules

@@ -1,4 +1,4 @@
--- Shown: `is_empty` answers `emptyOp`.
+-- Shown: `is_empty` answers `empty_op`.
 -- How: by the kind of the operation.
 use borrow.Author.Rules.{rules}
 use Rattle.turns.proofs.is_empty.Statement.{statement}

@@ -1,6 +1,6 @@
--- Shown: `kept_from` answers `keptFrom`.
+-- Shown: `kept_from` answers `kept_from`.
 -- How: by what is remembered; for an insert each way through the test is a case of the definition's test.
-use Rattle.turns.proofs.Memories.{from-same, from-other}
+use Rattle.turns.proofs.Memories.{from_same, from_other}
 use mathlib.Core.Path.{sym}
 use borrow.Author.Rules.{rules}
 use Rattle.turns.proofs.kept_from.Statement.{statement}
@@ -28,10 +28,10 @@ returns-3 : tie.Need-returns-3
 returns-3 c = search rules
 
 returns-4 : tie.Need-returns-4
-returns-4 c = rw c.before.before.last3.given.1 (sym (from-same _ _ _ _ c.if1.true))
+returns-4 c = rw c.before.before.last3.given.1 (sym (from_same _ _ _ _ c.if1.true))
 
 returns-5 : tie.Need-returns-5
-returns-5 c = rw c.before.before.last3.given.1 (sym (from-other _ _ _ _ c.if1.false))
+returns-5 c = rw c.before.before.last3.given.1 (sym (from_other _ _ _ _ c.if1.false))
 
 pub kept-from-spec : {M : Type 1} → statement M
 kept-from-spec =

@@ -1,9 +1,9 @@
--- Shown: `put_lengths` puts `lengthsOf` at its place.
+-- Shown: `put_lengths` puts `lengths_of` at its place.
 -- How: the copy of a run, as in crate room; the value of each turn is the run's.
-use Rattle.turns.proofs.Memories.{length-lengths, getD-lengths}
+use Rattle.turns.proofs.Memories.{length_lengths, get_d_lengths}
 use Rattle.room.proofs.Copying.{Copying, begins, goes_on, ends}
-use Rattle.operation.specs.Views.{ofSpans}
-use Rattle.merging.specs.Lent.{lengthsOf}
+use Rattle.operation.specs.Views.{of_spans}
+use Rattle.merging.specs.Lent.{lengths_of}
 use native.Mathlib.Omega.{arith}
 use Prim.Native.Nat.{◌-◌}
 use borrow.Author.Rules.{rules}
@@ -11,7 +11,7 @@ use Rattle.turns.proofs.put_lengths.Statement.{statement}
 use Rattle.turns.proofs.put_lengths.Tie as tie
 
 abbrev invariant-lengths : tie.invariant-lengths
-invariant-lengths spans first count work₀ at i₀ work i = Copying (lengthsOf (ofSpans spans) first count) work₀ at work i
+invariant-lengths spans first count work₀ at i₀ work i = Copying (lengths_of (of_spans spans) first count) work₀ at work i
 
 abbrev decreases-lengths : tie.decreases-lengths
 decreases-lengths spans first count work₀ at i₀ work i = count - i
@@ -53,10 +53,10 @@ lengths-again : tie.Need-lengths-preserved invariant-lengths decreases-lengths
 lengths-again c =
     let c2 = c.before.before in
     let c3 = c2.before in
-    let s = ofSpans c3.args.spans.now in rw
-    (← getD-lengths s c3.args.first c3.args.count c2.lengths.i c.before.lengths-test.true)
-    (goes_on 0 c2.lengths.invariant (omega (arith, length-lengths s c3.args.first c3.args.count))
-    (omega (arith, length-lengths s c3.args.first c3.args.count)))
+    let s = of_spans c3.args.spans.now in rw
+    (← get_d_lengths s c3.args.first c3.args.count c2.lengths.i c.before.lengths-test.true)
+    (goes_on 0 c2.lengths.invariant (omega (arith, length_lengths s c3.args.first c3.args.count))
+    (omega (arith, length_lengths s c3.args.first c3.args.count)))
 
 same_length : tie.Need-same-length invariant-lengths decreases-lengths
 same_length c = search rules
@@ -64,7 +64,7 @@ same_length c = search rules
 returns : tie.Need-returns invariant-lengths decreases-lengths
 returns c =
     let c2 = c.before.before in
-    let s = ofSpans c2.args.spans.now in (ends c.before.lengths.invariant (omega (arith, length-lengths s c2.args.first c2.args.count))).stands
+    let s = of_spans c2.args.spans.now in (ends c.before.lengths.invariant (omega (arith, length_lengths s c2.args.first c2.args.count))).stands
 
 pub put-lengths-spec : {M : Type 1} → statement M
 put-lengths-spec =

@@ -1,4 +1,4 @@
--- Shown: `record_of` answers `recordBy`.
+-- Shown: `record_of` answers `record_by`.
 -- How: by the kind of the operation.
 use borrow.Author.Rules.{rules}
 use Rattle.turns.proofs.record_of.Statement.{statement}

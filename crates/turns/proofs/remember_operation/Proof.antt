@@ -1,6 +1,6 @@
--- Shown: what is remembered after `remember_operation` is `rememberOf`.
+-- Shown: what is remembered after `remember_operation` is `remember_of`.
 -- How: by the kind of the result, each a law of Memories.antt.
-use Rattle.turns.proofs.Memories.{writable, remembers-delete, remembers-retain, remembers-insert}
+use Rattle.turns.proofs.Memories.{writable, remembers_delete, remembers_retain, remembers_insert}
 use native.Mathlib.Omega.{arith}
 use borrow.Author.Rules.{rules}
 use Rattle.turns.proofs.remember_operation.Statement.{statement}
@@ -31,7 +31,7 @@ enum-known-result-3 : tie.Need-enum-known-result-3
 enum-known-result-3 c = search rules
 
 returns : tie.Need-returns
-returns c = rw c.before.result.given.1 (remembers-delete _ _ _ _ c.before.before.before.before.before.before.args.memory _ _)
+returns c = rw c.before.result.given.1 (remembers_delete _ _ _ _ c.before.before.before.before.before.before.args.memory _ _)
 
 same_length : tie.Need-same-length
 same_length c = search rules
@@ -41,10 +41,10 @@ returns-2 c =
     let c3 = c.before.before.before in
     let c6 = c3.before.before.before in
     let c11 = c6.before.before.before.before.before in
-    rw c6.result2.given.1 (remembers-insert _ _ _ _ c11.args.memory _ _ _ _ _ c11.requires.began c3.remember-tokens.ensures c.kept_from.ensures)
+    rw c6.result2.given.1 (remembers_insert _ _ _ _ c11.args.memory _ _ _ _ _ c11.requires.began c3.remember-tokens.ensures c.kept_from.ensures)
 
 returns-3 : tie.Need-returns-3
-returns-3 c = rw c.before.result3.given.1 (remembers-retain _ _ _ _ c.before.before.before.before.before.before.args.memory _ _)
+returns-3 c = rw c.before.result3.given.1 (remembers_retain _ _ _ _ c.before.before.before.before.before.before.args.memory _ _)
 
 pub remember-operation-spec : {M : Type 1} → statement M
 remember-operation-spec =

@@ -1,7 +1,7 @@
 -- `read_any` puts the code points of bytes into the room, or refuses 10, then 7, and writes nothing.
 -- Each way by the end of the good sequences and the room's length. Assumes nothing.
 use native.Mathlib.Omega.{arith}
-use Rattle.utf8.proofs.Ways.{all-good, counted, read-bad, read_short, read-good}
+use Rattle.utf8.proofs.Ways.{all_good, counted, read_bad, read_short, read-good}
 use borrow.Author.Rules.{rules}
 use Rattle.utf8.proofs.read_any.Statement.{statement}
 use Rattle.utf8.proofs.read_any.Tie as tie
@@ -10,7 +10,7 @@ good-end-of-requires : tie.Need-good-end-of-requires
 good-end-of-requires c κs = search rules
 
 returns : tie.Need-returns
-returns c = read-bad _ _ c.before.good-end-of.ensures c.if1.true _
+returns c = read_bad _ _ c.before.good-end-of.ensures c.if1.true _
 
 starts-of-requires : tie.Need-starts-of-requires
 starts-of-requires c κs = search rules
@@ -20,7 +20,7 @@ returns-2 c = read_short _ _ c.before.before.before.good-end-of.ensures c.before
 
 fill-requires : tie.Need-fill-requires
 fill-requires c κs = (
-  all-good _ _ c.before.before.before.before.good-end-of.ensures c.before.before.before.if1.false,
+  all_good _ _ c.before.before.before.before.good-end-of.ensures c.before.before.before.if1.false,
   omega (arith, counted _ _ c.before.before.before.before.good-end-of.ensures c.before.before.before.if1.false _ c.before.before.starts-of.ensures),
 )
 

@@ -1,7 +1,7 @@
 -- `write` puts the bytes of code points into the room, or refuses 4, then 7, and writes nothing.
 -- Each way by the first number that is no code point and the room's length. Assumes nothing.
 use native.Mathlib.Omega.{arith}
-use Rattle.utf8.proofs.Ways.{all-scalar, write-bad, write-short, write-good}
+use Rattle.utf8.proofs.Ways.{all_scalar, write_bad, write_short, write-good}
 use borrow.Author.Rules.{rules}
 use Rattle.utf8.proofs.write.Statement.{statement}
 use Rattle.utf8.proofs.write.Tie as tie
@@ -10,20 +10,20 @@ scalars-of-requires : tie.Need-scalars-of-requires
 scalars-of-requires c κs = search rules
 
 returns : tie.Need-returns
-returns c = write-bad _ _ c.before.scalars-of.ensures c.if1.true _
+returns c = write_bad _ _ c.before.scalars-of.ensures c.if1.true _
 
 width-of-requires : tie.Need-width-of-requires
 width-of-requires c κs = search rules
 
 returns-2 : tie.Need-returns-2
-returns-2 c = write-short _ _ c.before.before.before.scalars-of.ensures c.before.before.if1.false _ _ c.before.width_of_lem.ensures c.if2.true
+returns-2 c = write_short _ _ c.before.before.before.scalars-of.ensures c.before.before.if1.false _ _ c.before.width_of_lem.ensures c.if2.true
 
 spill-requires : tie.Need-spill-requires
 spill-requires c κs =
     let c2 = c.before.before in
     let c3 = c2.before in
     let c4 = c3.before in
-    (all-scalar _ _ c4.scalars-of.ensures c3.if1.false, omega (arith, c2.width_of_lem.ensures), c2.width_of_lem.ensures)
+    (all_scalar _ _ c4.scalars-of.ensures c3.if1.false, omega (arith, c2.width_of_lem.ensures), c2.width_of_lem.ensures)
 
 same_length : tie.Need-same-length
 same_length c = search rules

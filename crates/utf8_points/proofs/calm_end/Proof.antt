@@ -5,7 +5,7 @@ use lib.ListN.{length}
 use native.Mathlib.Omega.{arith}
 use borrow.Author.Tests.{not-false}
 use Rattle.utf8_read.specs.Window.{Ascii}
-use Rattle.utf8_read.proofs.Judging.{ascii-none, ascii-join}
+use Rattle.utf8_read.proofs.Judging.{ascii_none, ascii_join}
 use borrow.Author.Rules.{rules}
 use Rattle.utf8_points.proofs.calm_end.Statement.{statement}
 use Rattle.utf8_points.proofs.calm_end.Tie as tie
@@ -22,12 +22,12 @@ shared-slice-read-if1 c = c.before.before.requires
 returns : tie.Need-returns invariant-calm decreases-calm
 returns c =
     let c3 = c.before.before.before in
-    (omega arith, omega (arith, c3.requires), ascii-none c3.args.bytes.now c3.args.at _ (omega arith))
+    (omega arith, omega (arith, c3.requires), ascii_none c3.args.bytes.now c3.args.at _ (omega arith))
 
 calm-holds : tie.Need-calm-init invariant-calm decreases-calm
 calm-holds c =
     let c3 = c.before.before.before in
-    (omega arith, omega (arith, c3.requires), ascii-none c3.args.bytes.now c3.args.at _ (omega arith))
+    (omega arith, omega (arith, c3.requires), ascii_none c3.args.bytes.now c3.args.at _ (omega arith))
 
 sub-calm : tie.Need-overflow-sub-calm invariant-calm decreases-calm
 sub-calm c = c.calm.invariant.1
@@ -52,11 +52,11 @@ calm-again c =
     let c2 = c.before.before in
     let c4 = c2.before.before in
     let c8 = c4.before.before.before.before in
-    let b = ascii-join c8.args.bytes.now c8.args.at c4.calm.end c4.calm.end (c4.calm.end + 16) (omega arith) c4.calm.invariant.2
+    let b = ascii_join c8.args.bytes.now c8.args.at c4.calm.end c4.calm.end (c4.calm.end + 16) (omega arith) c4.calm.invariant.2
     (c2.calm2.ensures (not-false _ c.before.if2.false)) in (
       omega (arith, c.calm-far.ensures.0),
       c.calm-far.ensures.1,
-      ascii-join c8.args.bytes.now c8.args.at (c4.calm.end + 16) (c4.calm.end + 16) _ (omega arith) b c.calm-far.ensures.2,
+      ascii_join c8.args.bytes.now c8.args.at (c4.calm.end + 16) (c4.calm.end + 16) _ (omega arith) b c.calm-far.ensures.2,
     )
 
 returns-3 : tie.Need-returns-3 invariant-calm decreases-calm

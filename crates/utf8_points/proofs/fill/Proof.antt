@@ -5,7 +5,7 @@ use lib.ListN.{length}
 use native.Mathlib.Omega.{arith}
 use Rattle.room.proofs.Growing.{Grown, not_yet}
 use Rattle.utf8_read.specs.Reading.{points}
-use Rattle.utf8_points.proofs.Filling.{Filling, begins, by-run, run_fits, there, past, room-left, by-pointed, as_long, ends}
+use Rattle.utf8_points.proofs.Filling.{Filling, begins, by_run, run_fits, there, past, room_left, by_pointed, as_long, ends}
 use borrow.Author.Rules.{rules}
 use Rattle.utf8_points.proofs.fill.Statement.{statement}
 use Rattle.utf8_points.proofs.fill.Tie as tie
@@ -64,7 +64,7 @@ fill-again c =
     let c10 = c8.before.before in
     let c13 = c10.before.before.before in
     c.before.some.invariant.grown _ c13.requires.1
-    (by-run c10.fill.invariant _ _ _ c8.calm-end.ensures.0 c8.calm-end.ensures.1 c8.calm-end.ensures.2 c5.widen.ensures)
+    (by_run c10.fill.invariant _ _ _ c8.calm-end.ensures.0 c8.calm-end.ensures.1 c8.calm-end.ensures.2 c5.widen.ensures)
 
 point-at-requires : tie.Need-point-at-requires invariant-some decreases-some invariant-fill decreases-fill
 point-at-requires c κs =
@@ -74,7 +74,7 @@ point-at-requires c κs =
     let c10 = c8.before.before in
     let c13 = c10.before.before.before in
     let f = c.before.some.invariant.grown _ c13.requires.1
-    (by-run c10.fill.invariant _ _ _ c8.calm-end.ensures.0 c8.calm-end.ensures.1 c8.calm-end.ensures.2 c5.widen.ensures) in
+    (by_run c10.fill.invariant _ _ _ c8.calm-end.ensures.0 c8.calm-end.ensures.1 c8.calm-end.ensures.2 c5.widen.ensures) in
     (omega (arith, c2.near.ensures), there f (omega (arith, c2.near.ensures)))
 
 mul-out : tie.Need-overflow-mul-out invariant-some decreases-some invariant-fill decreases-fill
@@ -86,8 +86,8 @@ mul-out c =
     let c11 = c9.before.before in
     let c14 = c11.before.before.before in
     let f = c2.some.invariant.grown _ c14.requires.1
-    (by-run c11.fill.invariant _ _ _ c9.calm-end.ensures.0 c9.calm-end.ensures.1 c9.calm-end.ensures.2 c6.widen.ensures) in
-    omega (arith, room-left f (omega (arith, c3.near.ensures)) _ c.point_at.ensures c14.requires.1, as_long f c14.requires.1)
+    (by_run c11.fill.invariant _ _ _ c9.calm-end.ensures.0 c9.calm-end.ensures.1 c9.calm-end.ensures.2 c6.widen.ensures) in
+    omega (arith, room_left f (omega (arith, c3.near.ensures)) _ c.point_at.ensures c14.requires.1, as_long f c14.requires.1)
 
 slice-write-out : tie.Need-slice-write-out invariant-some decreases-some invariant-fill decreases-fill
 slice-write-out c =
@@ -98,8 +98,8 @@ slice-write-out c =
     let c11 = c9.before.before in
     let c14 = c11.before.before.before in
     let f = c2.some.invariant.grown _ c14.requires.1
-    (by-run c11.fill.invariant _ _ _ c9.calm-end.ensures.0 c9.calm-end.ensures.1 c9.calm-end.ensures.2 c6.widen.ensures) in
-    room-left f (omega (arith, c3.near.ensures)) _ c.point_at.ensures c14.requires.1
+    (by_run c11.fill.invariant _ _ _ c9.calm-end.ensures.0 c9.calm-end.ensures.1 c9.calm-end.ensures.2 c6.widen.ensures) in
+    room_left f (omega (arith, c3.near.ensures)) _ c.point_at.ensures c14.requires.1
 
 add_at : tie.Need-overflow-add-at invariant-some decreases-some invariant-fill decreases-fill
 add_at c =
@@ -110,7 +110,7 @@ add_at c =
     let c12 = c10.before.before in
     let c15 = c12.before.before.before in
     let f = c3.some.invariant.grown _ c15.requires.1
-    (by-run c12.fill.invariant _ _ _ c10.calm-end.ensures.0 c10.calm-end.ensures.1 c10.calm-end.ensures.2 c7.widen.ensures) in
+    (by_run c12.fill.invariant _ _ _ c10.calm-end.ensures.0 c10.calm-end.ensures.1 c10.calm-end.ensures.2 c7.widen.ensures) in
     omega (arith, past f (omega (arith, c4.near.ensures)) _ c.before.point_at.ensures)
 
 add-n : tie.Need-overflow-add-n invariant-some decreases-some invariant-fill decreases-fill
@@ -122,8 +122,8 @@ add-n c =
     let c12 = c10.before.before in
     let c15 = c12.before.before.before in
     let f = c3.some.invariant.grown _ c15.requires.1
-    (by-run c12.fill.invariant _ _ _ c10.calm-end.ensures.0 c10.calm-end.ensures.1 c10.calm-end.ensures.2 c7.widen.ensures) in
-    omega (arith, room-left f (omega (arith, c4.near.ensures)) _ c.before.point_at.ensures c15.requires.1)
+    (by_run c12.fill.invariant _ _ _ c10.calm-end.ensures.0 c10.calm-end.ensures.1 c10.calm-end.ensures.2 c7.widen.ensures) in
+    omega (arith, room_left f (omega (arith, c4.near.ensures)) _ c.before.point_at.ensures c15.requires.1)
 
 some-less : tie.Need-some-smaller invariant-some decreases-some invariant-fill decreases-fill
 some-less c =
@@ -134,7 +134,7 @@ some-less c =
     let c12 = c10.before.before in
     let c15 = c12.before.before.before in
     let f = c3.some.invariant.grown _ c15.requires.1
-    (by-run c12.fill.invariant _ _ _ c10.calm-end.ensures.0 c10.calm-end.ensures.1 c10.calm-end.ensures.2 c7.widen.ensures) in
+    (by_run c12.fill.invariant _ _ _ c10.calm-end.ensures.0 c10.calm-end.ensures.1 c10.calm-end.ensures.2 c7.widen.ensures) in
     omega (arith, past f (omega (arith, c4.near.ensures)) _ c.before.point_at.ensures)
 
 some-again : tie.Need-some-preserved invariant-some decreases-some invariant-fill decreases-fill
@@ -146,10 +146,10 @@ some-again c =
     let c12 = c10.before.before in
     let c15 = c12.before.before.before in
     let f = c3.some.invariant.grown _ c15.requires.1
-    (by-run c12.fill.invariant _ _ _ c10.calm-end.ensures.0 c10.calm-end.ensures.1 c10.calm-end.ensures.2 c7.widen.ensures) in
+    (by_run c12.fill.invariant _ _ _ c10.calm-end.ensures.0 c10.calm-end.ensures.1 c10.calm-end.ensures.2 c7.widen.ensures) in
     record {
       least = omega (arith, c3.some.invariant.least, past f (omega (arith, c4.near.ensures)) _ c.before.point_at.ensures);
-      grown = λ d h g. by-pointed (c3.some.invariant.grown d h g) (omega (arith, c4.near.ensures)) _ c.before.point_at.ensures h;
+      grown = λ d h g. by_pointed (c3.some.invariant.grown d h g) (omega (arith, c4.near.ensures)) _ c.before.point_at.ensures h;
     }
 
 same_length : tie.Need-same-length invariant-some decreases-some invariant-fill decreases-fill

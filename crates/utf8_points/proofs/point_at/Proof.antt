@@ -2,8 +2,8 @@
 -- The one bits at the top of the first byte say the length; the leaf functions give the number. Assumes nothing.
 use mathlib.Core.Path.{sym, ◌∙◌}
 use native.Mathlib.Omega.{arith}
-use Rattle.utf8_read.proofs.Sequences.{value-1, value-2, value-3, value-4}
-use Rattle.utf8_points.proofs.Pointing.{known-1, known-2, known-3, known-4, pointed}
+use Rattle.utf8_read.proofs.Sequences.{value_1, value_2, value_3, value_4}
+use Rattle.utf8_points.proofs.Pointing.{known_1, known_2, known_3, known_4, pointed}
 use borrow.Author.Rules.{rules}
 use Rattle.utf8_points.proofs.point_at.Statement.{statement}
 use Rattle.utf8_points.proofs.point_at.Tie as tie
@@ -21,8 +21,8 @@ returns : tie.Need-returns
 returns c =
     let c2 = c.before.before in
     let c5 = c2.before.before.before in
-    let k = known-1 _ _ c5.requires.0 c5.requires.1 _ c2.ones-of.ensures c.before.if1.true in
-    pointed _ k (c.wide.ensures ∙ sym (value-1 _ _ k.ends))
+    let k = known_1 _ _ c5.requires.0 c5.requires.1 _ c2.ones-of.ensures c.before.if1.true in
+    pointed _ k (c.wide.ensures ∙ sym (value_1 _ _ k.ends))
 
 add-two-of : tie.Need-overflow-add-two-of
 add-two-of c = search rules
@@ -31,7 +31,7 @@ shared-slice-read-two-of : tie.Need-shared-slice-read-two-of
 shared-slice-read-two-of c =
     let c3 = c.before.before.before in
     let c6 = c3.before.before.before in
-    omega (arith, known-2 _ _ c6.requires.0 c6.requires.1 (omega (arith, c3.ones-of.ensures)))
+    omega (arith, known_2 _ _ c6.requires.0 c6.requires.1 (omega (arith, c3.ones-of.ensures)))
 
 two-of-requires : tie.Need-two-of-requires
 two-of-requires c κs = search rules
@@ -40,8 +40,8 @@ returns-2 : tie.Need-returns-2
 returns-2 c =
     let c4 = c.before.before.before.before in
     let c7 = c4.before.before.before in
-    let k = known-2 _ _ c7.requires.0 c7.requires.1 (omega (arith, c4.ones-of.ensures)) in
-    pointed _ k (c.two-of.ensures ∙ sym (value-2 _ _ k.ends))
+    let k = known_2 _ _ c7.requires.0 c7.requires.1 (omega (arith, c4.ones-of.ensures)) in
+    pointed _ k (c.two-of.ensures ∙ sym (value_2 _ _ k.ends))
 
 add-three-of : tie.Need-overflow-add-three-of
 add-three-of c = search rules
@@ -50,7 +50,7 @@ shared-slice-read-three-of : tie.Need-shared-slice-read-three-of
 shared-slice-read-three-of c =
     let c4 = c.before.before.before.before in
     let c7 = c4.before.before.before in
-    omega (arith, known-3 _ _ c7.requires.0 c7.requires.1 (omega (arith, c4.ones-of.ensures)))
+    omega (arith, known_3 _ _ c7.requires.0 c7.requires.1 (omega (arith, c4.ones-of.ensures)))
 
 add-three-of-2 : tie.Need-overflow-add-three-of-2
 add-three-of-2 c = search rules
@@ -59,7 +59,7 @@ shared-slice-read-three-of-2 : tie.Need-shared-slice-read-three-of-2
 shared-slice-read-three-of-2 c =
     let c5 = c.before.before.before.before.before in
     let c8 = c5.before.before.before in
-    omega (arith, known-3 _ _ c8.requires.0 c8.requires.1 (omega (arith, c5.ones-of.ensures)))
+    omega (arith, known_3 _ _ c8.requires.0 c8.requires.1 (omega (arith, c5.ones-of.ensures)))
 
 three-of-requires : tie.Need-three-of-requires
 three-of-requires c κs = search rules
@@ -68,8 +68,8 @@ returns-3 : tie.Need-returns-3
 returns-3 c =
     let c6 = c.before.before.before.before.before.before in
     let c9 = c6.before.before.before in
-    let k = known-3 _ _ c9.requires.0 c9.requires.1 (omega (arith, c6.ones-of.ensures)) in
-    pointed _ k (c.three-of.ensures ∙ sym (value-3 _ _ k.ends))
+    let k = known_3 _ _ c9.requires.0 c9.requires.1 (omega (arith, c6.ones-of.ensures)) in
+    pointed _ k (c.three-of.ensures ∙ sym (value_3 _ _ k.ends))
 
 add-four-of : tie.Need-overflow-add-four-of
 add-four-of c = search rules
@@ -78,7 +78,7 @@ shared-slice-read-four-of : tie.Need-shared-slice-read-four-of
 shared-slice-read-four-of c =
     let c4 = c.before.before.before.before in
     let c7 = c4.before.before.before in
-    omega (arith, known-4 _ _ c7.requires.0 c7.requires.1 _ c4.ones-of.ensures c.before.if3.false)
+    omega (arith, known_4 _ _ c7.requires.0 c7.requires.1 _ c4.ones-of.ensures c.before.if3.false)
 
 add-four-of-2 : tie.Need-overflow-add-four-of-2
 add-four-of-2 c = search rules
@@ -87,7 +87,7 @@ shared-slice-read-four-of-2 : tie.Need-shared-slice-read-four-of-2
 shared-slice-read-four-of-2 c =
     let c5 = c.before.before.before.before.before in
     let c8 = c5.before.before.before in
-    omega (arith, known-4 _ _ c8.requires.0 c8.requires.1 _ c5.ones-of.ensures c.before.before.if3.false)
+    omega (arith, known_4 _ _ c8.requires.0 c8.requires.1 _ c5.ones-of.ensures c.before.before.if3.false)
 
 add-four-of-3 : tie.Need-overflow-add-four-of-3
 add-four-of-3 c = search rules
@@ -96,7 +96,7 @@ shared-slice-read-four-of-3 : tie.Need-shared-slice-read-four-of-3
 shared-slice-read-four-of-3 c =
     let c6 = c.before.before.before.before.before.before in
     let c9 = c6.before.before.before in
-    omega (arith, known-4 _ _ c9.requires.0 c9.requires.1 _ c6.ones-of.ensures c.before.before.before.if3.false)
+    omega (arith, known_4 _ _ c9.requires.0 c9.requires.1 _ c6.ones-of.ensures c.before.before.before.if3.false)
 
 four-of-requires : tie.Need-four-of-requires
 four-of-requires c κs = search rules
@@ -105,8 +105,8 @@ returns-4 : tie.Need-returns-4
 returns-4 c =
     let c7 = c.before.before.before.before.before.before.before in
     let c10 = c7.before.before.before in
-    let k = known-4 _ _ c10.requires.0 c10.requires.1 _ c7.ones-of.ensures c.before.before.before.before.if3.false in
-    pointed _ k (c.four-of.ensures ∙ sym (value-4 _ _ k.ends))
+    let k = known_4 _ _ c10.requires.0 c10.requires.1 _ c7.ones-of.ensures c.before.before.before.before.if3.false in
+    pointed _ k (c.four-of.ensures ∙ sym (value_4 _ _ k.ends))
 
 pub point-at-spec : {M : Type 1} → statement M
 point-at-spec =

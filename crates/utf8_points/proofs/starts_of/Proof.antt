@@ -3,8 +3,8 @@
 use Prim.Native.Nat.{◌+◌, ◌-◌}
 use lib.ListN.{length}
 use native.Mathlib.Omega.{arith}
-use Rattle.utf8_points.proofs.Counting.{Counted, begins, by-block, ends}
-use Rattle.room.proofs.Parts.{part-most}
+use Rattle.utf8_points.proofs.Counting.{Counted, begins, by_block, ends}
+use Rattle.room.proofs.Parts.{part_most}
 use borrow.Author.Rules.{rules}
 use Rattle.utf8_points.proofs.starts_of.Statement.{statement}
 use Rattle.utf8_points.proofs.starts_of.Tie as tie
@@ -34,7 +34,7 @@ part-starts-block-end : tie.Need-slice-bounds-starts-block-end invariant-many de
 part-starts-block-end c = search rules
 
 starts-block-requires : tie.Need-starts-block-requires invariant-many decreases-many
-starts-block-requires c κs = part-most c.before.before.before.before.args.bytes.now c.before.before.many.at (c.before.before.many.at + 192) 192 (omega arith)
+starts-block-requires c κs = part_most c.before.before.before.before.args.bytes.now c.before.before.many.at (c.before.before.many.at + 192) 192 (omega arith)
 
 cast-n : tie.Need-overflow-cast-n invariant-many decreases-many
 cast-n c = search rules
@@ -42,7 +42,7 @@ cast-n c = search rules
 add-n : tie.Need-overflow-add-n invariant-many decreases-many
 add-n c =
     let c3 = c.before.before.before in
-    omega (arith, by-block (c3.many.at + 192) _ c3.many.invariant (omega arith) (omega arith) c.starts-block.ensures)
+    omega (arith, by_block (c3.many.at + 192) _ c3.many.invariant (omega arith) (omega arith) c.starts-block.ensures)
 
 many-less : tie.Need-many-smaller invariant-many decreases-many
 many-less c = omega arith
@@ -50,7 +50,7 @@ many-less c = omega arith
 many-again : tie.Need-many-preserved invariant-many decreases-many
 many-again c =
     let c3 = c.before.before.before in
-    by-block (c3.many.at + 192) _ c3.many.invariant (omega arith) (omega arith) c.starts-block.ensures
+    by_block (c3.many.at + 192) _ c3.many.invariant (omega arith) (omega arith) c.starts-block.ensures
 
 sub-starts-block-2 : tie.Need-overflow-sub-starts-block-2 invariant-many decreases-many
 sub-starts-block-2 c = search rules
@@ -64,7 +64,7 @@ part-starts-block-end-2 c = search rules
 starts-block-requires-2 : tie.Need-starts-block-requires-2 invariant-many decreases-many
 starts-block-requires-2 c κs =
     let c4 = c.before.before.before.before in
-    part-most c4.args.bytes.now c.before.before.many.at (length c4.args.bytes.now) 192 (omega arith)
+    part_most c4.args.bytes.now c.before.before.many.at (length c4.args.bytes.now) 192 (omega arith)
 
 cast-result : tie.Need-overflow-cast-result invariant-many decreases-many
 cast-result c = search rules
@@ -73,13 +73,13 @@ add-result : tie.Need-overflow-add-result invariant-many decreases-many
 add-result c =
     let c3 = c.before.before.before in
     let c5 = c3.before.before in
-    omega (arith, by-block (length c5.args.bytes.now) _ c3.many.invariant c3.many.invariant.most (omega arith) c.starts-block2.ensures)
+    omega (arith, by_block (length c5.args.bytes.now) _ c3.many.invariant c3.many.invariant.most (omega arith) c.starts-block2.ensures)
 
 returns : tie.Need-returns invariant-many decreases-many
 returns c =
     let c3 = c.before.before.before in
     let c5 = c3.before.before in
-    ends (by-block (length c5.args.bytes.now) _ c3.many.invariant c3.many.invariant.most (omega arith) c.starts-block2.ensures)
+    ends (by_block (length c5.args.bytes.now) _ c3.many.invariant c3.many.invariant.most (omega arith) c.starts-block2.ensures)
 
 pub starts-of-spec : {M : Type 1} → statement M
 starts-of-spec =

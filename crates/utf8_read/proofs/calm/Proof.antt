@@ -1,6 +1,6 @@
 -- `calm` finds 16 ASCII bytes.
 -- The flag says it of the bytes so far. Assumes nothing.
-use Rattle.utf8_read.proofs.Judging.{ascii-none, ascii_more}
+use Rattle.utf8_read.proofs.Judging.{ascii_none, ascii_more}
 use Rattle.utf8_read.specs.Window.{Ascii}
 use native.Mathlib.Omega.{arith}
 use mathlib.Core.Bool.{true}
@@ -17,7 +17,7 @@ abbrev decreases-calm : tie.decreases-calm
 decreases-calm bytes at ok₀ k₀ ok k = 16 - k
 
 calm-holds : tie.Need-calm-init invariant-calm decreases-calm
-calm-holds c = (omega arith, λ _. ascii-none c.args.bytes.now c.args.at _ (omega arith))
+calm-holds c = (omega arith, λ _. ascii_none c.args.bytes.now c.args.at _ (omega arith))
 
 add_ok : tie.Need-overflow-add-ok invariant-calm decreases-calm
 add_ok c = search rules

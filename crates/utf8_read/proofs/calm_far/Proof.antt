@@ -5,7 +5,7 @@ use lib.ListN.{length}
 use native.Mathlib.Omega.{arith}
 use borrow.Author.Tests.{not-false}
 use Rattle.utf8_read.specs.Window.{Ascii}
-use Rattle.utf8_read.proofs.Judging.{ascii-none, ascii-join, four-calm}
+use Rattle.utf8_read.proofs.Judging.{ascii_none, ascii_join, four-calm}
 use borrow.Author.Rules.{rules}
 use Rattle.utf8_read.proofs.calm_far.Statement.{statement}
 use Rattle.utf8_read.proofs.calm_far.Tie as tie
@@ -17,7 +17,7 @@ abbrev decreases-far : tie.decreases-far
 decreases-far bytes at end₀ end = length bytes - end
 
 far-holds : tie.Need-far-init invariant-far decreases-far
-far-holds c = (omega arith, c.before.requires, ascii-none c.before.args.bytes.now c.before.args.at _ (omega arith))
+far-holds c = (omega arith, c.before.requires, ascii_none c.before.args.bytes.now c.before.args.at _ (omega arith))
 
 sub-far : tie.Need-overflow-sub-far invariant-far decreases-far
 sub-far c = c.far.invariant.1
@@ -61,7 +61,7 @@ far-again c =
     let c8 = c6.before.before in (
       omega arith,
       omega arith,
-      ascii-join c8.args.bytes.now c8.args.at c6.far.end c6.far.end _ (omega arith) c6.far.invariant.2
+      ascii_join c8.args.bytes.now c8.args.at c6.far.end c6.far.end _ (omega arith) c6.far.invariant.2
           (four-calm c8.args.bytes.now c6.far.end _ _ _ _ c4.calm.ensures c3.calm2.ensures c2.calm3.ensures
           c.before.calm4.ensures (not-false _ c.if1.false)),
     )

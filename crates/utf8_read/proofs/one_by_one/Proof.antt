@@ -4,7 +4,7 @@ use mathlib.Core.Path.{sym, ◌∙◌}
 use Prim.Native.Nat.{◌-◌}
 use native.Mathlib.Omega.{arith}
 use Rattle.utf8_read.specs.Window.{Reached}
-use Rattle.utf8_read.proofs.Judging.{here, by-plain, by_one}
+use Rattle.utf8_read.proofs.Judging.{here, by_plain, by_one}
 use Rattle.utf8_read.proofs.one_by_one.Statement.{statement}
 use Rattle.utf8_read.proofs.one_by_one.Tie as tie
 
@@ -27,7 +27,7 @@ one_less : tie.Need-one-smaller invariant-one decreases-one
 one_less c = omega arith
 
 one_again : tie.Need-one-preserved invariant-one decreases-one
-one_again c = by-plain c.before.before.before.one.invariant (omega (arith, c.before.before.before.before.before.requires.1)) c.if1.true
+one_again c = by_plain c.before.before.before.one.invariant (omega (arith, c.before.before.before.before.before.requires.1)) c.if1.true
 
 length-at-requires : tie.Need-length-at-requires invariant-one decreases-one
 length-at-requires c κs = omega (arith, c.before.before.before.before.before.requires.1)

@@ -4,7 +4,7 @@ use Prim.Native.Nat.{◌-◌}
 use lib.ListN.{length}
 use native.Mathlib.Omega.{arith}
 use Rattle.utf8_read.specs.Window.{Stretch}
-use Rattle.utf8_read.proofs.Judging.{stretch-none, stretch-on, stretch-calm}
+use Rattle.utf8_read.proofs.Judging.{stretch_none, stretch_on, stretch-calm}
 use Rattle.utf8_read.proofs.run.Statement.{statement}
 use Rattle.utf8_read.proofs.run.Tie as tie
 
@@ -15,7 +15,7 @@ abbrev decreases-run : tie.decreases-run
 decreases-run bytes at e₀ e = length bytes - e
 
 run_holds : tie.Need-run-init invariant-run decreases-run
-run_holds c = stretch-none _ _ c.before.requires.0 c.before.requires.1 c.before.requires.2
+run_holds c = stretch_none _ _ c.before.requires.0 c.before.requires.1 c.before.requires.2
 
 sub-run : tie.Need-overflow-sub-run invariant-run decreases-run
 sub-run c = c.run.invariant.most
@@ -57,7 +57,7 @@ run-again-2 : tie.Need-run-preserved-2 invariant-run decreases-run
 run-again-2 c =
     let c4 = c.before.before.before.before in
     let c5 = c4.before in
-    stretch-on c5.run.invariant c4.run-test.true (c.before.misfits.ensures c.if2.false)
+    stretch_on c5.run.invariant c4.run-test.true (c.before.misfits.ensures c.if2.false)
 
 back-requires-2 : tie.Need-back-requires-2 invariant-run decreases-run
 back-requires-2 c κs = c.before.run.invariant

@@ -5,7 +5,7 @@ use mathlib.Core.Path.{◌≡◌}
 use mathlib.Core.Bool.{true}
 use native.Mathlib.Omega.{arith}
 use Rattle.utf8_read.specs.Window.{Ascii}
-use Rattle.utf8_read.proofs.Judging.{ascii-none, ascii_more}
+use Rattle.utf8_read.proofs.Judging.{ascii_none, ascii_more}
 use borrow.Author.Rules.{rules}
 use Rattle.utf8_write.proofs.plain.Statement.{statement}
 use Rattle.utf8_write.proofs.plain.Tie as tie
@@ -17,7 +17,7 @@ abbrev decreases-plain : tie.decreases-plain
 decreases-plain text at ok₀ k₀ ok k = 16 - k
 
 plain-holds : tie.Need-plain-init invariant-plain decreases-plain
-plain-holds c = (omega arith, λ _. ascii-none c.args.text.now c.args.at _ (omega arith))
+plain-holds c = (omega arith, λ _. ascii_none c.args.text.now c.args.at _ (omega arith))
 
 add_ok : tie.Need-overflow-add-ok invariant-plain decreases-plain
 add_ok c = search rules

@@ -1,6 +1,6 @@
 -- `plain_end` goes on by blocks of ASCII numbers.
 -- Stretches of ASCII join. Assumes nothing.
-use Rattle.utf8_read.proofs.Judging.{ascii-none, ascii-join}
+use Rattle.utf8_read.proofs.Judging.{ascii_none, ascii_join}
 use Rattle.utf8_read.specs.Window.{Ascii}
 use borrow.Author.Tests.{not-false}
 use native.Mathlib.Omega.{arith}
@@ -16,7 +16,7 @@ abbrev decreases-many : tie.decreases-many
 decreases-many text at end₀ end = length text - end
 
 many-holds : tie.Need-many-init invariant-many decreases-many
-many-holds c = (omega arith, c.before.requires, ascii-none c.before.args.text.now c.before.args.at _ (omega arith))
+many-holds c = (omega arith, c.before.requires, ascii_none c.before.args.text.now c.before.args.at _ (omega arith))
 
 sub-many : tie.Need-overflow-sub-many invariant-many decreases-many
 sub-many c = c.many.invariant.1
@@ -39,7 +39,7 @@ many-again c =
     let c5 = c3.before.before in (
       omega arith,
       omega arith,
-      ascii-join c5.args.text.now c5.args.at c3.many.end c3.many.end _ (omega arith) c3.many.invariant.2
+      ascii_join c5.args.text.now c5.args.at c3.many.end c3.many.end _ (omega arith) c3.many.invariant.2
           (c.before.plain.ensures (not-false _ c.if1.false)),
     )
 

@@ -5,9 +5,9 @@ use mathlib.Core.Path.{sym, ◌∙◌}
 use lib.ListN.{length}
 use native.Mathlib.Omega.{arith}
 use Rattle.room.proofs.Growing.{Grown, not_yet}
-use Rattle.numbers.proofs.Points.{point-most}
+use Rattle.numbers.proofs.Points.{point_most}
 use Rattle.numbers.proofs.Scalar.{each}
-use Rattle.utf8_write.proofs.Spilling.{Spilling, wide, narrow-text, narrow-room, narrow-long, begins, part-ascii, run_fits, by-run, code_fits, by_code, as_long, ends}
+use Rattle.utf8_write.proofs.Spilling.{Spilling, wide, narrow_text, narrow_room, narrow_long, begins, part_ascii, run_fits, by_run, code_fits, by_code, as_long, ends}
 use borrow.Author.Rules.{rules}
 use Rattle.utf8_write.proofs.spill.Statement.{statement}
 use Rattle.utf8_write.proofs.spill.Tie as tie
@@ -27,21 +27,21 @@ decreases-spill text out₀ width step i₀ at₀ out i at = length text - i
 narrow-requires : tie.Need-narrow-requires invariant-some decreases-some invariant-spill decreases-spill
 narrow-requires c κs =
     let c4 = c.before.before.before.before in
-    (narrow-text c4.args.text.now (sym c4.requires.2 ∙ c.before.if1.true), omega (arith, c4.requires.1, c4.requires.2))
+    (narrow_text c4.args.text.now (sym c4.requires.2 ∙ c.before.if1.true), omega (arith, c4.requires.1, c4.requires.2))
 
 same_length : tie.Need-same-length invariant-some decreases-some invariant-spill decreases-spill
 same_length c =
     let c2 = c.before.before in
     let c4 = c2.before.before in
     let c7 = c4.before.before.before in
-    narrow-long c7.args.text.now _ _ _ (sym c7.requires.2 ∙ c4.if1.true) c2.narrow.ensures c7.requires.1
+    narrow_long c7.args.text.now _ _ _ (sym c7.requires.2 ∙ c4.if1.true) c2.narrow.ensures c7.requires.1
 
 returns : tie.Need-returns invariant-some decreases-some invariant-spill decreases-spill
 returns c =
     let c2 = c.before.before in
     let c4 = c2.before.before in
     let c7 = c4.before.before.before in
-    narrow-room c7.args.text.now _ _ _ (sym c7.requires.2 ∙ c4.if1.true) c2.narrow.ensures
+    narrow_room c7.args.text.now _ _ _ (sym c7.requires.2 ∙ c4.if1.true) c2.narrow.ensures
 
 pace-requires : tie.Need-pace-requires invariant-some decreases-some invariant-spill decreases-spill
 pace-requires c κs = search rules
@@ -69,7 +69,7 @@ narrow-requires-2 c κs =
     let c2 = c.before.before in
     let c4 = c2.before.before in
     let c9 = c4.before.before.before.before.before in (
-      part-ascii _ _ _ c2.plain-end.ensures.0 c2.plain-end.ensures.1 c2.plain-end.ensures.2,
+      part_ascii _ _ _ c2.plain-end.ensures.0 c2.plain-end.ensures.1 c2.plain-end.ensures.2,
       run_fits c4.spill.invariant _ c2.plain-end.ensures.0 c2.plain-end.ensures.1 c2.plain-end.ensures.2 c9.requires.1,
     )
 
@@ -103,7 +103,7 @@ spill-again c =
     let c10 = c8.before.before in
     let c15 = c10.before.before.before.before.before in
     c.before.some.invariant.grown _ c15.requires.1
-    (by-run c10.spill.invariant _ c8.plain-end.ensures.0 c8.plain-end.ensures.1 c8.plain-end.ensures.2 _ _ c5.narrow2.ensures)
+    (by_run c10.spill.invariant _ c8.plain-end.ensures.0 c8.plain-end.ensures.1 c8.plain-end.ensures.2 _ _ c5.narrow2.ensures)
 
 mul-put-code : tie.Need-overflow-mul-put-code invariant-some decreases-some invariant-spill decreases-spill
 mul-put-code c = omega (arith, c.before.before.before.near.ensures)
@@ -121,9 +121,9 @@ put-code-requires c κs =
     let c17 = c12.before.before.before.before.before in
     let f =
     c3.some.invariant.grown _ c17.requires.1
-    (by-run c12.spill.invariant _ c10.plain-end.ensures.0 c10.plain-end.ensures.1 c10.plain-end.ensures.2 _ _ c7.narrow2.ensures) in
+    (by_run c12.spill.invariant _ c10.plain-end.ensures.0 c10.plain-end.ensures.1 c10.plain-end.ensures.2 _ _ c7.narrow2.ensures) in
     let l : c3.some.i < length c17.args.text.now = omega (arith, c4.near.ensures) in
-    (omega (arith, point-most _ (each _ _ c17.requires.0 l)), code_fits f l c17.requires.1)
+    (omega (arith, point_most _ (each _ _ c17.requires.0 l)), code_fits f l c17.requires.1)
 
 add-i : tie.Need-overflow-add-i invariant-some decreases-some invariant-spill decreases-spill
 add-i c = omega (arith, c.before.before.before.before.before.before.before.near.ensures)

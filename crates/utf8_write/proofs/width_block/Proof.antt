@@ -6,7 +6,7 @@ use mathlib.Core.List.{List}
 use lib.ListN.{length, take, get_or, length-take}
 use lib.Seq.{take_all}
 use native.Mathlib.Omega.{arith}
-use Rattle.utf8_write.proofs.Spilling.{wide, wide-none, wide-most, number_more, at-most-4}
+use Rattle.utf8_write.proofs.Spilling.{wide, wide_none, wide_most, number_more, at_most_4}
 use borrow.Author.Rules.{rules}
 use Rattle.utf8_write.proofs.width_block.Statement.{statement}
 use Rattle.utf8_write.proofs.width_block.Tie as tie
@@ -18,7 +18,7 @@ abbrev decreases-block : tie.decreases-block
 decreases-block src n₀ k₀ n k = length src - k
 
 block-holds : tie.Need-block-init invariant-block decreases-block
-block-holds c = (omega arith, wide-none)
+block-holds c = (omega arith, wide_none)
 
 mul-width : tie.Need-overflow-mul-width invariant-block decreases-block
 mul-width c = search rules
@@ -36,10 +36,10 @@ add-n c =
     omega (
       arith,
       c3.block.invariant.1,
-      wide-most (take c3.block.k c5.args.src.now),
+      wide_most (take c3.block.k c5.args.src.now),
       length-take c3.block.k c5.args.src.now,
       c.width.ensures,
-      at-most-4 (get_or c5.args.src.now c3.block.k 0),
+      at_most_4 (get_or c5.args.src.now c3.block.k 0),
       c5.requires,
     )
 

@@ -3,8 +3,8 @@
 use Prim.Native.Nat.{◌+◌, ◌-◌}
 use lib.ListN.{length}
 use native.Mathlib.Omega.{arith}
-use Rattle.utf8_write.proofs.Spilling.{Measured, plain-measured, by-block, measured, within}
-use Rattle.room.proofs.Parts.{part-most}
+use Rattle.utf8_write.proofs.Spilling.{Measured, plain_measured, by_block, measured, within}
+use Rattle.room.proofs.Parts.{part_most}
 use borrow.Author.Rules.{rules}
 use Rattle.utf8_write.proofs.width_of.Statement.{statement}
 use Rattle.utf8_write.proofs.width_of.Tie as tie
@@ -19,7 +19,7 @@ plain-end-requires : tie.Need-plain-end-requires invariant-many decreases-many
 plain-end-requires c κs = omega arith
 
 many-holds : tie.Need-many-init invariant-many decreases-many
-many-holds c = plain-measured _ _ c.plain-end.ensures.1 c.plain-end.ensures.2
+many-holds c = plain_measured _ _ c.plain-end.ensures.1 c.plain-end.ensures.2
 
 sub-many : tie.Need-overflow-sub-many invariant-many decreases-many
 sub-many c = c.many.invariant.most
@@ -40,7 +40,7 @@ part-width-block-end : tie.Need-slice-bounds-width-block-end invariant-many decr
 part-width-block-end c = search rules
 
 width-block-requires : tie.Need-width-block-requires invariant-many decreases-many
-width-block-requires c κs = part-most c.before.before.before.before.before.args.text.now c.before.before.many.at (c.before.before.many.at + 65536) 65536 (omega arith)
+width-block-requires c κs = part_most c.before.before.before.before.before.args.text.now c.before.before.many.at (c.before.before.many.at + 65536) 65536 (omega arith)
 
 cast-n : tie.Need-overflow-cast-n invariant-many decreases-many
 cast-n c = search rules
@@ -48,7 +48,7 @@ cast-n c = search rules
 add-n : tie.Need-overflow-add-n invariant-many decreases-many
 add-n c =
     let c3 = c.before.before.before in
-    omega (arith, within (by-block (c3.many.at + 65536) _ c3.many.invariant (omega arith) (omega arith) c.width-block.ensures))
+    omega (arith, within (by_block (c3.many.at + 65536) _ c3.many.invariant (omega arith) (omega arith) c.width-block.ensures))
 
 many-less : tie.Need-many-smaller invariant-many decreases-many
 many-less c = omega arith
@@ -56,7 +56,7 @@ many-less c = omega arith
 many-again : tie.Need-many-preserved invariant-many decreases-many
 many-again c =
     let c3 = c.before.before.before in
-    by-block (c3.many.at + 65536) _ c3.many.invariant (omega arith) (omega arith) c.width-block.ensures
+    by_block (c3.many.at + 65536) _ c3.many.invariant (omega arith) (omega arith) c.width-block.ensures
 
 mul-width-block-2 : tie.Need-overflow-mul-width-block-2 invariant-many decreases-many
 mul-width-block-2 c = search rules
@@ -73,7 +73,7 @@ part-width-block-end-2 c = search rules
 width-block-requires-2 : tie.Need-width-block-requires-2 invariant-many decreases-many
 width-block-requires-2 c κs =
     let c5 = c.before.before.before.before.before in
-    part-most c5.args.text.now c.before.before.many.at (length c5.args.text.now) 65536 (omega arith)
+    part_most c5.args.text.now c.before.before.many.at (length c5.args.text.now) 65536 (omega arith)
 
 cast-result : tie.Need-overflow-cast-result invariant-many decreases-many
 cast-result c = search rules
@@ -82,13 +82,13 @@ add-result : tie.Need-overflow-add-result invariant-many decreases-many
 add-result c =
     let c3 = c.before.before.before in
     let c6 = c3.before.before.before in
-    omega (arith, within (by-block (length c6.args.text.now) _ c3.many.invariant c3.many.invariant.most (omega arith) c.width-block2.ensures))
+    omega (arith, within (by_block (length c6.args.text.now) _ c3.many.invariant c3.many.invariant.most (omega arith) c.width-block2.ensures))
 
 returns : tie.Need-returns invariant-many decreases-many
 returns c =
     let c3 = c.before.before.before in
     let c6 = c3.before.before.before in
-    measured (by-block (length c6.args.text.now) _ c3.many.invariant c3.many.invariant.most (omega arith) c.width-block2.ensures)
+    measured (by_block (length c6.args.text.now) _ c3.many.invariant c3.many.invariant.most (omega arith) c.width-block2.ensures)
 
 pub width-of-spec : {M : Type 1} → statement M
 width-of-spec =

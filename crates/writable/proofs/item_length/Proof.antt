@@ -2,8 +2,8 @@
 -- How: each way through it is a law of proofs/Counting.antt.
 use mathlib.Core.Path.{sym, ◌∙◌}
 use native.Mathlib.Omega.{arith}
-use Rattle.diff.proofs.Decoding.{insert-within}
-use Rattle.writable.proofs.Counting.{retain-length, delete-length, insert-length, neither-length}
+use Rattle.diff.proofs.Decoding.{insert_within}
+use Rattle.writable.proofs.Counting.{retain_length, delete_length, insert_length, neither_length}
 use borrow.Author.Rules.{rules}
 use Rattle.writable.proofs.item_length.Statement.{statement}
 use Rattle.writable.proofs.item_length.Tie as tie
@@ -27,10 +27,10 @@ enum-known-start : tie.Need-enum-known-start
 enum-known-start c = search rules
 
 add-end : tie.Need-overflow-add-end
-add-end c = omega (arith, insert-within _ _ _ (sym c.before.before.before.item-at.ensures ∙ c.before.start.given.1))
+add-end c = omega (arith, insert_within _ _ _ (sym c.before.before.before.item-at.ensures ∙ c.before.start.given.1))
 
 mul-points-length : tie.Need-overflow-mul-points-length
-mul-points-length c = omega (arith, insert-within _ _ _ (sym c.before.before.before.item-at.ensures ∙ c.before.start.given.1))
+mul-points-length c = omega (arith, insert_within _ _ _ (sym c.before.before.before.item-at.ensures ∙ c.before.start.given.1))
 
 sub-points-length : tie.Need-overflow-sub-points-length
 sub-points-length c = search rules
@@ -39,7 +39,7 @@ part-points-length-start : tie.Need-slice-bounds-points-length-start
 part-points-length-start c = search rules
 
 part-points-length-end : tie.Need-slice-bounds-points-length-end
-part-points-length-end c = insert-within _ _ _ (sym c.before.before.before.item-at.ensures ∙ c.before.start.given.1)
+part-points-length-end c = insert_within _ _ _ (sym c.before.before.before.item-at.ensures ∙ c.before.start.given.1)
 
 points-length-requires : tie.Need-points-length-requires
 points-length-requires c κs = search rules
@@ -51,16 +51,16 @@ enum_told : tie.Need-enum-told
 enum_told c = search rules
 
 returns : tie.Need-returns
-returns c = retain-length _ _ _ (sym c.before.before.before.before.item-at.ensures ∙ c.before.before.n.given.1) c.line-length.ensures
+returns c = retain_length _ _ _ (sym c.before.before.before.before.item-at.ensures ∙ c.before.before.n.given.1) c.line-length.ensures
 
 returns-2 : tie.Need-returns-2
-returns-2 c = delete-length _ _ _ (sym c.before.before.before.before.item-at.ensures ∙ c.before.before.n2.given.1) c.line-length2.ensures
+returns-2 c = delete_length _ _ _ (sym c.before.before.before.before.item-at.ensures ∙ c.before.before.n2.given.1) c.line-length2.ensures
 
 returns-3 : tie.Need-returns-3
-returns-3 c = insert-length _ _ _ (sym c.before.before.before.before.before.before.item-at.ensures ∙ c.before.before.before.before.start.given.1) c.before.points-length.ensures c.plus.ensures
+returns-3 c = insert_length _ _ _ (sym c.before.before.before.before.before.before.item-at.ensures ∙ c.before.before.before.before.start.given.1) c.before.points-length.ensures c.plus.ensures
 
 returns-4 : tie.Need-returns-4
-returns-4 c = neither-length _ _ _ (sym c.before.before.item-at.ensures ∙ c.enum_told.given.1)
+returns-4 c = neither_length _ _ _ (sym c.before.before.item-at.ensures ∙ c.enum_told.given.1)
 
 pub item-length-spec : {M : Type 1} → statement M
 item-length-spec =

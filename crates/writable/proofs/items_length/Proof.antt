@@ -2,7 +2,7 @@
 -- How: loop `items` keeps `ItemsCount`, and each way through it is a law of proofs/Counting.antt.
 use Prim.Native.Nat.{◌-◌}
 use native.Mathlib.Omega.{arith}
-use Rattle.writable.proofs.Counting.{ItemsCount, items-begin, items_more, items-end}
+use Rattle.writable.proofs.Counting.{ItemsCount, items_begin, items_more, items_end}
 use Rattle.writable.proofs.items_length.Statement.{statement}
 use Rattle.writable.proofs.items_length.Tie as tie
 
@@ -13,7 +13,7 @@ abbrev decreases-items : tie.decreases-items
 decreases-items items text count sum₀ i₀ sum i = count - i
 
 items-holds : tie.Need-items-init invariant-items decreases-items
-items-holds c = items-begin _ _
+items-holds c = items_begin _ _
 
 item-length-requires : tie.Need-item-length-requires invariant-items decreases-items
 item-length-requires c κs = omega arith
@@ -31,7 +31,7 @@ items-again : tie.Need-items-preserved invariant-items decreases-items
 items-again c = items_more c.before.before.before.items.invariant c.before.before.items-test.true c.before.item-length.ensures c.plus.ensures
 
 returns : tie.Need-returns invariant-items decreases-items
-returns c = items-end c.before.items.invariant c.items-test.false
+returns c = items_end c.before.items.invariant c.items-test.false
 
 pub items-length-spec : {M : Type 1} → statement M
 items-length-spec =

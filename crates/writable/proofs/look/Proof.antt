@@ -3,8 +3,8 @@
 use Prim.Native.Nat.{◌-◌}
 use mathlib.Core.Path.{sym, ◌∙◌}
 use native.Mathlib.Omega.{arith}
-use Rattle.diff.proofs.Decoding.{insert-within}
-use Rattle.writable.proofs.Looking.{Looking, look-begins, look-retain, look-delete, look-insert, look-small, look-ends, unsure, sure}
+use Rattle.diff.proofs.Decoding.{insert_within}
+use Rattle.writable.proofs.Looking.{Looking, look_begins, look_retain, look_delete, look_insert, look_small, look_ends, unsure, sure}
 use borrow.Author.Rules.{rules}
 use Rattle.writable.proofs.look.Statement.{statement}
 use Rattle.writable.proofs.look.Tie as tie
@@ -18,7 +18,7 @@ decreases-look items text lent count kept₀ used₀ added₀ lines₀ keeps₀ 
     count - i
 
 look-holds : tie.Need-look-init invariant-look decreases-look
-look-holds c = look-begins _ _
+look-holds c = look_begins _ _
 
 add-next : tie.Need-overflow-add-next invariant-look decreases-look
 add-next c = search rules
@@ -57,7 +57,7 @@ look-less : tie.Need-look-smaller invariant-look decreases-look
 look-less c = omega arith
 
 look-again : tie.Need-look-preserved invariant-look decreases-look
-look-again c = look-retain c.before.before.before.before.before.before.before.before.before.look.invariant c.before.before.before.before.before.before.before.before.look-test.true (sym c.before.before.before.before.before.before.before.item-at.ensures ∙ c.before.before.before.before.before.n.given.1) c.before.before.before.if1.false c.before.before.if2.false c.before.if3.false c.line-length.ensures
+look-again c = look_retain c.before.before.before.before.before.before.before.before.before.look.invariant c.before.before.before.before.before.before.before.before.look-test.true (sym c.before.before.before.before.before.before.before.item-at.ensures ∙ c.before.before.before.before.before.n.given.1) c.before.before.before.if1.false c.before.before.if2.false c.before.if3.false c.line-length.ensures
 
 enum-known-n-2 : tie.Need-enum-known-n-2 invariant-look decreases-look
 enum-known-n-2 c = search rules
@@ -84,7 +84,7 @@ look-less-2 : tie.Need-look-smaller-2 invariant-look decreases-look
 look-less-2 c = omega arith
 
 look-again-2 : tie.Need-look-preserved-2 invariant-look decreases-look
-look-again-2 c = look-delete c.before.before.before.before.before.before.before.before.look.invariant c.before.before.before.before.before.before.before.look-test.true (sym c.before.before.before.before.before.before.item-at.ensures ∙ c.before.before.before.before.n2.given.1) c.before.before.if4.false c.before.if5.false c.line-length2.ensures
+look-again-2 c = look_delete c.before.before.before.before.before.before.before.before.look.invariant c.before.before.before.before.before.before.before.look-test.true (sym c.before.before.before.before.before.before.item-at.ensures ∙ c.before.before.before.before.n2.given.1) c.before.before.if4.false c.before.if5.false c.line-length2.ensures
 
 enum-known-start : tie.Need-enum-known-start invariant-look decreases-look
 enum-known-start c = search rules
@@ -99,13 +99,13 @@ add-lines-3 : tie.Need-overflow-add-lines-3 invariant-look decreases-look
 add-lines-3 c = omega (arith, c.before.before.before.before.before.before.before.look.invariant.small, c.before.before.before.before.before.before.before.look.invariant.sums.uses, c.before.before.before.before.before.before.look-test.true, c.before.before.before.before.before.before.before.before.before.requires.0)
 
 add-added : tie.Need-overflow-add-added invariant-look decreases-look
-add-added c = let w = insert-within _ _ _ (sym c.before.before.before.before.before.item-at.ensures ∙ c.before.before.before.start.given.1) in omega (arith, c.before.before.before.before.before.before.before.look.invariant.sums.adds, c.before.before.before.before.before.before.before.before.before.requires.1)
+add-added c = let w = insert_within _ _ _ (sym c.before.before.before.before.before.item-at.ensures ∙ c.before.before.before.start.given.1) in omega (arith, c.before.before.before.before.before.before.before.look.invariant.sums.adds, c.before.before.before.before.before.before.before.before.before.requires.1)
 
 look-less-3 : tie.Need-look-smaller-3 invariant-look decreases-look
 look-less-3 c = omega arith
 
 look-again-3 : tie.Need-look-preserved-3 invariant-look decreases-look
-look-again-3 c = look-insert c.before.before.before.before.before.before.before.look.invariant c.before.before.before.before.before.before.before.before.before.requires.1 c.before.before.before.before.before.before.look-test.true (sym c.before.before.before.before.before.item-at.ensures ∙ c.before.before.before.start.given.1) c.before.if6.false c.if7.false
+look-again-3 c = look_insert c.before.before.before.before.before.before.before.look.invariant c.before.before.before.before.before.before.before.before.before.requires.1 c.before.before.before.before.before.before.look-test.true (sym c.before.before.before.before.before.item-at.ensures ∙ c.before.before.before.start.given.1) c.before.if6.false c.if7.false
 
 enum_told : tie.Need-enum-told invariant-look decreases-look
 enum_told c = search rules
@@ -120,10 +120,10 @@ parted-length-requires : tie.Need-parted-length-requires invariant-look decrease
 parted-length-requires c κs = search rules
 
 plus-requires : tie.Need-plus-requires invariant-look decreases-look
-plus-requires c κs = look-small c.before.before.before.look.invariant c.before.before.before.before.before.requires.0
+plus-requires c κs = look_small c.before.before.before.look.invariant c.before.before.before.before.before.requires.0
 
 returns-10 : tie.Need-returns-10 invariant-look decreases-look
-returns-10 c = λ s n e. sure (look-ends c.before.before.before.before.look.invariant c.before.before.before.look-test.false c.before.before.if8.false c.before.parted-length.ensures c.plus.ensures) e
+returns-10 c = λ s n e. sure (look_ends c.before.before.before.before.look.invariant c.before.before.before.look-test.false c.before.before.if8.false c.before.parted-length.ensures c.plus.ensures) e
 
 pub look_spec : {M : Type 1} → statement M
 look_spec =

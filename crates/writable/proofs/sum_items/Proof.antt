@@ -3,7 +3,7 @@
 use Prim.Native.Nat.{◌-◌}
 use mathlib.Core.Path.{sym, ◌∙◌}
 use native.Mathlib.Omega.{arith}
-use Rattle.writable.proofs.Checking.{Tallying, tally-begins, tally-retain, tally-delete, tally-insert, tally-neither, retain-over, delete-over, insert-over, tally-ends}
+use Rattle.writable.proofs.Checking.{Tallying, tally_begins, tally_retain, tally_delete, tally_insert, tally_neither, retain_over, delete_over, insert_over, tally_ends}
 use borrow.Author.Rules.{rules}
 use Rattle.writable.proofs.sum_items.Statement.{statement}
 use Rattle.writable.proofs.sum_items.Tie as tie
@@ -15,7 +15,7 @@ abbrev decreases-items : tie.decreases-items
 decreases-items items text lent count kept₀ used₀ added₀ i₀ kept used added i = count - i
 
 items-holds : tie.Need-items-init invariant-items decreases-items
-items-holds c = tally-begins _ _
+items-holds c = tally_begins _ _
 
 add-next : tie.Need-overflow-add-next invariant-items decreases-items
 add-next c = search rules
@@ -30,7 +30,7 @@ sub-if1 : tie.Need-overflow-sub-if1 invariant-items decreases-items
 sub-if1 c = c.before.before.before.before.before.items.invariant.uses
 
 returns : tie.Need-returns invariant-items decreases-items
-returns c = retain-over c.before.before.before.before.before.before.items.invariant c.before.before.before.before.before.items-test.true (sym c.before.before.before.before.item-at.ensures ∙ c.before.before.n.given.1) c.if1.true
+returns c = retain_over c.before.before.before.before.before.before.items.invariant c.before.before.before.before.before.items-test.true (sym c.before.before.before.before.item-at.ensures ∙ c.before.before.n.given.1) c.if1.true
 
 add_kept : tie.Need-overflow-add-kept invariant-items decreases-items
 add_kept c = omega (arith, c.before.before.before.before.before.before.items.invariant.keeps, c.before.before.before.before.before.before.items.invariant.uses)
@@ -42,7 +42,7 @@ items-less : tie.Need-items-smaller invariant-items decreases-items
 items-less c = omega arith
 
 items-again : tie.Need-items-preserved invariant-items decreases-items
-items-again c = tally-retain c.before.before.before.before.before.before.items.invariant c.before.before.before.before.before.items-test.true (sym c.before.before.before.before.item-at.ensures ∙ c.before.before.n.given.1) c.if1.false
+items-again c = tally_retain c.before.before.before.before.before.before.items.invariant c.before.before.before.before.before.items-test.true (sym c.before.before.before.before.item-at.ensures ∙ c.before.before.n.given.1) c.if1.false
 
 enum-known-n-2 : tie.Need-enum-known-n-2 invariant-items decreases-items
 enum-known-n-2 c = search rules
@@ -51,7 +51,7 @@ sub-if2 : tie.Need-overflow-sub-if2 invariant-items decreases-items
 sub-if2 c = c.before.before.before.before.before.items.invariant.uses
 
 returns-2 : tie.Need-returns-2 invariant-items decreases-items
-returns-2 c = delete-over c.before.before.before.before.before.before.items.invariant c.before.before.before.before.before.items-test.true (sym c.before.before.before.before.item-at.ensures ∙ c.before.before.n2.given.1) c.if2.true
+returns-2 c = delete_over c.before.before.before.before.before.before.items.invariant c.before.before.before.before.before.items-test.true (sym c.before.before.before.before.item-at.ensures ∙ c.before.before.n2.given.1) c.if2.true
 
 add-used-2 : tie.Need-overflow-add-used-2 invariant-items decreases-items
 add-used-2 c = omega (arith, c.before.before.before.before.before.before.items.invariant.uses)
@@ -60,7 +60,7 @@ items-less-2 : tie.Need-items-smaller-2 invariant-items decreases-items
 items-less-2 c = omega arith
 
 items-again-2 : tie.Need-items-preserved-2 invariant-items decreases-items
-items-again-2 c = tally-delete c.before.before.before.before.before.before.items.invariant c.before.before.before.before.before.items-test.true (sym c.before.before.before.before.item-at.ensures ∙ c.before.before.n2.given.1) c.if2.false
+items-again-2 c = tally_delete c.before.before.before.before.before.before.items.invariant c.before.before.before.before.before.items-test.true (sym c.before.before.before.before.item-at.ensures ∙ c.before.before.n2.given.1) c.if2.false
 
 enum-known-length : tie.Need-enum-known-length invariant-items decreases-items
 enum-known-length c = search rules
@@ -69,7 +69,7 @@ sub-if3 : tie.Need-overflow-sub-if3 invariant-items decreases-items
 sub-if3 c = c.before.before.before.before.before.items.invariant.adds
 
 returns-3 : tie.Need-returns-3 invariant-items decreases-items
-returns-3 c = insert-over c.before.before.before.before.before.before.items.invariant c.before.before.before.before.before.items-test.true (sym c.before.before.before.before.item-at.ensures ∙ c.before.before.length.given.1) c.if3.true
+returns-3 c = insert_over c.before.before.before.before.before.before.items.invariant c.before.before.before.before.before.items-test.true (sym c.before.before.before.before.item-at.ensures ∙ c.before.before.length.given.1) c.if3.true
 
 add-added : tie.Need-overflow-add-added invariant-items decreases-items
 add-added c = omega (arith, c.before.before.before.before.before.before.items.invariant.adds)
@@ -78,7 +78,7 @@ items-less-3 : tie.Need-items-smaller-3 invariant-items decreases-items
 items-less-3 c = omega arith
 
 items-again-3 : tie.Need-items-preserved-3 invariant-items decreases-items
-items-again-3 c = tally-insert c.before.before.before.before.before.before.items.invariant c.before.before.before.before.before.items-test.true (sym c.before.before.before.before.item-at.ensures ∙ c.before.before.length.given.1) c.if3.false
+items-again-3 c = tally_insert c.before.before.before.before.before.before.items.invariant c.before.before.before.before.before.items-test.true (sym c.before.before.before.before.item-at.ensures ∙ c.before.before.length.given.1) c.if3.false
 
 enum_told : tie.Need-enum-told invariant-items decreases-items
 enum_told c = search rules
@@ -87,10 +87,10 @@ items-less-4 : tie.Need-items-smaller-4 invariant-items decreases-items
 items-less-4 c = omega arith
 
 items-again-4 : tie.Need-items-preserved-4 invariant-items decreases-items
-items-again-4 c = tally-neither c.before.before.before.before.items.invariant c.before.before.before.items-test.true (sym c.before.before.item-at.ensures ∙ c.enum_told.given.1)
+items-again-4 c = tally_neither c.before.before.before.before.items.invariant c.before.before.before.items-test.true (sym c.before.before.item-at.ensures ∙ c.enum_told.given.1)
 
 returns-4 : tie.Need-returns-4 invariant-items decreases-items
-returns-4 c = tally-ends c.before.items.invariant c.items-test.false
+returns-4 c = tally_ends c.before.items.invariant c.items-test.false
 
 pub sum-items-spec : {M : Type 1} → statement M
 sum-items-spec =

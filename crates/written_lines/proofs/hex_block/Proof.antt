@@ -5,7 +5,7 @@ use mathlib.Core.Path.{◌≡◌}
 use lib.ListN.{length, take}
 use native.Mathlib.Omega.{arith}
 use Rattle.written_lines.specs.Lengths.{hexes}
-use Rattle.written_lines.proofs.Hexes.{no-hexes, hexes-more, hexes-all}
+use Rattle.written_lines.proofs.Hexes.{no_hexes, hexes_more, hexes_all}
 use borrow.Author.Rules.{rules}
 use Rattle.written_lines.proofs.hex_block.Statement.{statement}
 use Rattle.written_lines.proofs.hex_block.Tie as tie
@@ -17,7 +17,7 @@ abbrev decreases-block : tie.decreases-block
 decreases-block text n₀ k₀ n k = length text - k
 
 block-holds : tie.Need-block-init invariant-block decreases-block
-block-holds c = (omega arith, no-hexes, omega arith)
+block-holds c = (omega arith, no_hexes, omega arith)
 
 mul-hex-width : tie.Need-overflow-mul-hex-width invariant-block decreases-block
 mul-hex-width c = search rules
@@ -42,10 +42,10 @@ block-less c = omega arith
 block-again : tie.Need-block-preserved invariant-block decreases-block
 block-again c =
     let c3 = c.before.before.before in
-    (omega arith, hexes-more c3.before.before.args.text.now c3.block.k _ _ (omega arith) c3.block.invariant.1 c.hex-width.ensures.0, omega (arith, c3.block.invariant.2, c.hex-width.ensures.1))
+    (omega arith, hexes_more c3.before.before.args.text.now c3.block.k _ _ (omega arith) c3.block.invariant.1 c.hex-width.ensures.0, omega (arith, c3.block.invariant.2, c.hex-width.ensures.1))
 
 returns : tie.Need-returns invariant-block decreases-block
-returns c = hexes-all c.before.before.before.args.text.now c.before.block.k _ (omega arith) c.before.block.invariant.1
+returns c = hexes_all c.before.before.before.args.text.now c.before.block.k _ (omega arith) c.before.block.invariant.1
 
 pub hex-block-spec : {M : Type 1} → statement M
 hex-block-spec =

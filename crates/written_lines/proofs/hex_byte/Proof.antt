@@ -1,6 +1,6 @@
 -- Shown: `hex_byte` answers `digit`.
 -- How: the sum is 48 or 87 more than the digit (proofs/Numbers.antt).
-use Rattle.written_lines.proofs.Numbers.{hex-digit}
+use Rattle.written_lines.proofs.Numbers.{hex_digit}
 use borrow.Author.Rules.{rules}
 use Rattle.written_lines.proofs.hex_byte.Statement.{statement}
 use Rattle.written_lines.proofs.hex_byte.Tie as tie
@@ -21,7 +21,7 @@ cast-result : tie.Need-overflow-cast-result
 cast-result c = search rules
 
 returns : tie.Need-returns
-returns c = hex-digit _ c.requires
+returns c = hex_digit _ c.requires
 
 pub hex-byte-spec : {M : Type 1} → statement M
 hex-byte-spec =

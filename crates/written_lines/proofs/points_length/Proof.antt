@@ -4,8 +4,8 @@ use Prim.Native.Nat.{◌+◌, ◌-◌}
 use native.Mathlib.Omega.{arith}
 use lib.ListN.{length}
 use Rattle.written_lines.proofs.Counting.{points_none}
-use Rattle.written_lines.proofs.Hexes.{Measured, measured-begin, measured-more, measured-end}
-use Rattle.room.proofs.Parts.{part-most}
+use Rattle.written_lines.proofs.Hexes.{Measured, measured_begin, measured_more, measured_end}
+use Rattle.room.proofs.Parts.{part_most}
 use borrow.Author.Rules.{rules}
 use Rattle.written_lines.proofs.points_length.Statement.{statement}
 use Rattle.written_lines.proofs.points_length.Tie as tie
@@ -26,7 +26,7 @@ plus-requires : tie.Need-plus-requires invariant-many decreases-many
 plus-requires c κs = search rules
 
 many-holds : tie.Need-many-init invariant-many decreases-many
-many-holds c = measured-begin _ c.before.if1.false c.plus.ensures
+many-holds c = measured_begin _ c.before.if1.false c.plus.ensures
 
 sub-many : tie.Need-overflow-sub-many invariant-many decreases-many
 sub-many c = c.many.invariant.most
@@ -47,7 +47,7 @@ part-hex-block-end : tie.Need-slice-bounds-hex-block-end invariant-many decrease
 part-hex-block-end c = search rules
 
 hex-block-requires : tie.Need-hex-block-requires invariant-many decreases-many
-hex-block-requires c κs = part-most c.before.before.before.before.before.before.args.text.now c.before.before.many.at (c.before.before.many.at + 65536) 65536 (omega arith)
+hex-block-requires c κs = part_most c.before.before.before.before.before.before.args.text.now c.before.before.many.at (c.before.before.many.at + 65536) 65536 (omega arith)
 
 cast-plus : tie.Need-overflow-cast-plus invariant-many decreases-many
 cast-plus c = search rules
@@ -59,7 +59,7 @@ many-less : tie.Need-many-smaller invariant-many decreases-many
 many-less c = omega arith
 
 many-again : tie.Need-many-preserved invariant-many decreases-many
-many-again c = measured-more (c.before.before.before.before.many.at + 65536) c.before.before.before.before.many.invariant (omega arith) (omega arith) c.before.hex-block.ensures c.plus2.ensures
+many-again c = measured_more (c.before.before.before.before.many.at + 65536) c.before.before.before.before.many.invariant (omega arith) (omega arith) c.before.hex-block.ensures c.plus2.ensures
 
 mul-hex-block-2 : tie.Need-overflow-mul-hex-block-2 invariant-many decreases-many
 mul-hex-block-2 c = search rules
@@ -74,7 +74,7 @@ part-hex-block-end-2 : tie.Need-slice-bounds-hex-block-end-2 invariant-many decr
 part-hex-block-end-2 c = search rules
 
 hex-block-requires-2 : tie.Need-hex-block-requires-2 invariant-many decreases-many
-hex-block-requires-2 c κs = part-most c.before.before.before.before.before.before.args.text.now c.before.before.many.at (length c.before.before.before.before.before.before.args.text.now) 65536 (omega arith)
+hex-block-requires-2 c κs = part_most c.before.before.before.before.before.before.args.text.now c.before.before.many.at (length c.before.before.before.before.before.before.args.text.now) 65536 (omega arith)
 
 cast-plus-2 : tie.Need-overflow-cast-plus-2 invariant-many decreases-many
 cast-plus-2 c = search rules
@@ -83,7 +83,7 @@ plus-requires-3 : tie.Need-plus-requires-3 invariant-many decreases-many
 plus-requires-3 c κs = c.before.before.before.many.invariant.small
 
 returns-2 : tie.Need-returns-2 invariant-many decreases-many
-returns-2 c = measured-end (measured-more (length c.before.before.before.before.before.before.before.before.args.text.now) c.before.before.before.before.many.invariant c.before.before.before.before.many.invariant.most (omega arith) c.before.hex-block2.ensures c.plus3.ensures)
+returns-2 c = measured_end (measured_more (length c.before.before.before.before.before.before.before.before.args.text.now) c.before.before.before.before.many.invariant c.before.before.before.before.many.invariant.most (omega arith) c.before.hex-block2.ensures c.plus3.ensures)
 
 pub points-length-spec : {M : Type 1} → statement M
 points-length-spec =

@@ -1,6 +1,6 @@
 -- Shown: `put_four` meets its contract.
 -- How: the digits of a number are those of its 256th and the last two (proofs/Emitting.antt).
-use Rattle.written_lines.proofs.Emitting.{front-in, pair-in, hex-put}
+use Rattle.written_lines.proofs.Emitting.{front_in, pair_in, hex_put}
 use native.Mathlib.Omega.{arith}
 use borrow.Author.Rules.{rules}
 use Rattle.written_lines.proofs.put_four.Statement.{statement}
@@ -16,14 +16,14 @@ returns : tie.Need-returns
 returns c = search rules
 
 put-two-requires-2 : tie.Need-put-two-requires-2
-put-two-requires-2 c κs = (omega arith, front-in _ c.before.if1.false _ _ c.before.before.before.requires.1)
+put-two-requires-2 c κs = (omega arith, front_in _ c.before.if1.false _ _ c.before.before.before.requires.1)
 
 put-pair-requires : tie.Need-put-pair-requires
 put-pair-requires c κs =
     let c3 = c.before.before.before in
     let c5 = c3.before.before in
     let c7 = c5.before.before in
-    pair-in _ c5.if1.false c7.requires.1 c3.put-two2.ensures
+    pair_in _ c5.if1.false c7.requires.1 c3.put-two2.ensures
 
 same-length-2 : tie.Need-same-length-2
 same-length-2 c = search rules
@@ -34,7 +34,7 @@ returns-2 c =
     let c6 = c2.before.before.before.before in
     let c8 = c6.before.before in
     let c10 = c8.before.before in
-    hex-put _ c8.if1.false c10.requires.1 c6.put-two2.ensures c2.put-pair.ensures
+    hex_put _ c8.if1.false c10.requires.1 c6.put-two2.ensures c2.put-pair.ensures
 
 pub put-four-spec : {M : Type 1} → statement M
 put-four-spec =

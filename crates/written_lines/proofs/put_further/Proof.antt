@@ -3,7 +3,7 @@
 use Prim.Native.Nat.{◌-◌}
 use native.Mathlib.Omega.{arith}
 use lib.ListN.{length}
-use Rattle.written_lines.proofs.Emitting.{Pointing, points-begin, space-in, point-in, points-more, points-end}
+use Rattle.written_lines.proofs.Emitting.{Pointing, points_begin, space_in, point_in, points_more, points_end}
 use borrow.Author.Rules.{rules}
 use Rattle.written_lines.proofs.put_further.Statement.{statement}
 use Rattle.written_lines.proofs.put_further.Tie as tie
@@ -15,7 +15,7 @@ abbrev decreases-points : tie.decreases-points
 decreases-points out₀ at text k₀ i₀ out k i = length text - i
 
 points-holds : tie.Need-points-init invariant-points decreases-points
-points-holds c = points-begin _ _ _
+points-holds c = points_begin _ _ _
 
 mul-c : tie.Need-overflow-mul-c invariant-points decreases-points
 mul-c c = search rules
@@ -24,17 +24,17 @@ shared-slice-read-c : tie.Need-shared-slice-read-c invariant-points decreases-po
 shared-slice-read-c c = omega arith
 
 slice-write-out : tie.Need-slice-write-out invariant-points decreases-points
-slice-write-out c = space-in c.before.before.points.invariant c.before.before.before.before.before.requires c.before.points-test.true
+slice-write-out c = space_in c.before.before.points.invariant c.before.before.before.before.before.requires c.before.points-test.true
 
 add-put-hex : tie.Need-overflow-add-put-hex invariant-points decreases-points
 add-put-hex c =
     let c2 = c.before.before in
     let c3 = c2.before in
     let c6 = c3.before.before.before in
-    omega (arith, space-in c3.points.invariant c6.requires c2.points-test.true)
+    omega (arith, space_in c3.points.invariant c6.requires c2.points-test.true)
 
 put-hex-requires : tie.Need-put-hex-requires invariant-points decreases-points
-put-hex-requires c κs = point-in c.before.before.before.points.invariant c.before.before.before.before.before.before.requires c.before.before.points-test.true
+put-hex-requires c κs = point_in c.before.before.before.points.invariant c.before.before.before.before.before.before.requires c.before.before.points-test.true
 
 add-i : tie.Need-overflow-add-i invariant-points decreases-points
 add-i c = omega arith
@@ -48,13 +48,13 @@ points-again c =
     let c5 = c2.before.before.before in
     let c6 = c5.before in
     let c9 = c6.before.before.before in
-    points-more c6.points.invariant c9.requires c5.points-test.true c2.put-hex.ensures
+    points_more c6.points.invariant c9.requires c5.points-test.true c2.put-hex.ensures
 
 same_length : tie.Need-same-length invariant-points decreases-points
 same_length c = c.before.points.invariant.same
 
 returns : tie.Need-returns invariant-points decreases-points
-returns c = points-end c.before.points.invariant c.before.before.before.before.requires c.points-test.false
+returns c = points_end c.before.points.invariant c.before.before.before.before.requires c.points-test.false
 
 pub put-further-spec : {M : Type 1} → statement M
 put-further-spec =

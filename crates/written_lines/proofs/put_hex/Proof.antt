@@ -1,6 +1,6 @@
 -- Shown: `put_hex` meets its contract.
 -- How: as `put_four`, twice.
-use Rattle.written_lines.proofs.Emitting.{front-in, pair-in, hex-put}
+use Rattle.written_lines.proofs.Emitting.{front_in, pair_in, hex_put}
 use native.Mathlib.Omega.{arith}
 use borrow.Author.Rules.{rules}
 use Rattle.written_lines.proofs.put_hex.Statement.{statement}
@@ -18,20 +18,20 @@ returns c = search rules
 put-four-requires-2 : tie.Need-put-four-requires-2
 put-four-requires-2 c κs =
     let c3 = c.before.before.before in
-    (omega (arith, c3.ranges.c), front-in _ (omega arith) _ _ (front-in _ (omega arith) _ _ c3.requires))
+    (omega (arith, c3.ranges.c), front_in _ (omega arith) _ _ (front_in _ (omega arith) _ _ c3.requires))
 
 put-pair-requires : tie.Need-put-pair-requires
 put-pair-requires c κs =
     let c3 = c.before.before.before in
     let c7 = c3.before.before.before.before in
-    pair-in _ (omega arith) (front-in c7.args.c (omega arith) _ _ c7.requires) c3.put-four2.ensures
+    pair_in _ (omega arith) (front_in c7.args.c (omega arith) _ _ c7.requires) c3.put-four2.ensures
 
 put-pair-requires-2 : tie.Need-put-pair-requires-2
 put-pair-requires-2 c κs =
     let c3 = c.before.before.before in
     let c7 = c3.before.before.before.before in
     let c11 = c7.before.before.before.before in
-    pair-in _ (omega arith) c11.requires (hex-put _ (omega arith) (front-in _ (omega arith) _ _ c11.requires) c7.put-four2.ensures c3.put-pair.ensures)
+    pair_in _ (omega arith) c11.requires (hex_put _ (omega arith) (front_in _ (omega arith) _ _ c11.requires) c7.put-four2.ensures c3.put-pair.ensures)
 
 same-length-2 : tie.Need-same-length-2
 same-length-2 c = search rules
@@ -42,8 +42,8 @@ returns-2 c =
     let c6 = c2.before.before.before.before in
     let c10 = c6.before.before.before.before in
     let c14 = c10.before.before.before.before in
-    hex-put _ (omega arith) c14.requires
-    (hex-put _ (omega arith) (front-in _ (omega arith) _ _ c14.requires) c10.put-four2.ensures c6.put-pair.ensures) c2.put-pair2.ensures
+    hex_put _ (omega arith) c14.requires
+    (hex_put _ (omega arith) (front_in _ (omega arith) _ _ c14.requires) c10.put-four2.ensures c6.put-pair.ensures) c2.put-pair2.ensures
 
 pub put-hex-spec : {M : Type 1} → statement M
 put-hex-spec =

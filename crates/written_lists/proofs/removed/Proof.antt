@@ -1,7 +1,7 @@
 -- `removed` sums what a list deletes, up to the cap.
 -- The loop keeps `Totals`, whose ways are in Sums. Assumes nothing.
-use Rattle.sizes.proofs.Sums.{Totals, totals-begin, totals-on, totals-end}
-use Rattle.written_lists.specs.Parts.{removedBy}
+use Rattle.sizes.proofs.Sums.{Totals, totals_begin, totals_on, totals_end}
+use Rattle.written_lists.specs.Parts.{removed_by}
 use mathlib.Core.Path.{refl}
 use Prim.Native.Nat.{◌-◌}
 use borrow.Author.Rules.{rules}
@@ -9,13 +9,13 @@ use Rattle.written_lists.proofs.removed.Statement.{statement}
 use Rattle.written_lists.proofs.removed.Tie as tie
 
 abbrev invariant-sum : tie.invariant-sum
-invariant-sum operations count i₀ sum₀ i sum = Totals removedBy operations count i sum
+invariant-sum operations count i₀ sum₀ i sum = Totals removed_by operations count i sum
 
 abbrev decreases-sum : tie.decreases-sum
 decreases-sum operations count i₀ sum₀ i sum = count - i
 
 sum-holds : tie.Need-sum-init invariant-sum decreases-sum
-sum-holds c = totals-begin _ _ _ refl
+sum-holds c = totals_begin _ _ _ refl
 
 operation-at-requires : tie.Need-operation-at-requires invariant-sum decreases-sum
 operation-at-requires c κs = search rules
@@ -37,11 +37,11 @@ sum-again c =
     let c2 = c.before.before in
     let c3 = c2.before in
     let c4 = c3.before in
-    totals-on c4.sum.invariant c2.operation-at.result c.before.removed-by.result _ c3.sum-test.true c2.operation-at.ensures
+    totals_on c4.sum.invariant c2.operation-at.result c.before.removed-by.result _ c3.sum-test.true c2.operation-at.ensures
     (rw c.before.removed-by.ensures) c.capped.ensures
 
 returns : tie.Need-returns invariant-sum decreases-sum
-returns c = totals-end c.before.sum.invariant c.sum-test.false
+returns c = totals_end c.before.sum.invariant c.sum-test.false
 
 pub removed-spec : {M : Type 1} → statement M
 removed-spec =

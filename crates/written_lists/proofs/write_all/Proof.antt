@@ -1,7 +1,7 @@
 -- `write_all` puts the text and the history of a list.
 -- The loop keeps the invariants of Texts and of Histories. Assumes nothing.
-use Rattle.written_lists.proofs.Histories.{Both, tell-begins, tell-asks, tell-on, tell-ends}
-use Rattle.written_lists.proofs.Texts.{text-begins, text-asks, text-on, text-ends}
+use Rattle.written_lists.proofs.Histories.{Both, tell_begins, tell_asks, tell_on, tell_ends}
+use Rattle.written_lists.proofs.Texts.{text_begins, text_asks, text_on, text_ends}
 use native.Mathlib.Omega.{arith}
 use Rattle.merging.specs.Lent.{lent_of}
 use Prim.Native.Nat.{◌-◌}
@@ -10,16 +10,16 @@ use Rattle.written_lists.proofs.write_all.Statement.{statement}
 use Rattle.written_lists.proofs.write_all.Tie as tie
 
 abbrev invariant-all : tie.invariant-all
-invariant-all original text spans keys operations out₀ history₀ history-text₀ count i₀ at₀ told₀ out history history-text i at told = Both
-    (lent_of original text spans keys) operations out₀ history₀ history-text₀ out history history-text i at told
+invariant-all original text spans keys operations out₀ history₀ history-text₀ count i₀ at₀ told₀ out history history_text i at told = Both
+    (lent_of original text spans keys) operations out₀ history₀ history-text₀ out history history_text i at told
 
 abbrev decreases-all : tie.decreases-all
-decreases-all original text spans keys operations out₀ history₀ history-text₀ count i₀ at₀ told₀ out history history-text i at told = count - i
+decreases-all original text spans keys operations out₀ history₀ history-text₀ count i₀ at₀ told₀ out history history_text i at told = count - i
 
 all-holds : tie.Need-all-init invariant-all decreases-all
 all-holds c =
     let c8 = c.before.before.before.before.before.before.before.before in
-    record { text = text-begins _ _ _ c8.requires.0; history = tell-begins _ _ _ _ c8.requires.0 }
+    record { text = text_begins _ _ _ c8.requires.0; history = tell_begins _ _ _ _ c8.requires.0 }
 
 operation-at-requires : tie.Need-operation-at-requires invariant-all decreases-all
 operation-at-requires c κs = search rules
@@ -29,7 +29,7 @@ put-text-requires c κs =
     let c2 = c.before.before in
     let c3 = c2.before in
     let c12 = c3.before.before.before.before.before.before.before.before.before in
-    text-asks _ _ _ c3.all.invariant.text c2.all-test.true c12.requires.1.0 _ c.before.operation-at.ensures
+    text_asks _ _ _ c3.all.invariant.text c2.all-test.true c12.requires.1.0 _ c.before.operation-at.ensures
 
 tell-requires : tie.Need-tell-requires invariant-all decreases-all
 tell-requires c κs =
@@ -37,7 +37,7 @@ tell-requires c κs =
     let c7 = c6.before in
     let c8 = c7.before in
     let c17 = c8.before.before.before.before.before.before.before.before.before in
-    tell-asks _ _ _ _ c8.all.invariant.history c7.all-test.true c17.requires.1.1.0 c17.requires.1.1.1 _ c6.operation-at.ensures
+    tell_asks _ _ _ _ c8.all.invariant.history c7.all-test.true c17.requires.1.1.0 c17.requires.1.1.1 _ c6.operation-at.ensures
 
 add-next : tie.Need-overflow-add-next invariant-all decreases-all
 add-next c = search rules
@@ -54,9 +54,9 @@ all-again c =
     let c13 = c12.before in
     let c22 = c13.before.before.before.before.before.before.before.before.before in
     record {
-      text = text-on _ _ _ c13.all.invariant.text c12.all-test.true c22.requires.1.0 _ c11.operation-at.ensures
+      text = text_on _ _ _ c13.all.invariant.text c12.all-test.true c22.requires.1.0 _ c11.operation-at.ensures
           c9.put-text.ensures;
-      history = tell-on _ _ _ _ c13.all.invariant.history c12.all-test.true c22.requires.1.1.0 c22.requires.1.1.1 _
+      history = tell_on _ _ _ _ c13.all.invariant.history c12.all-test.true c22.requires.1.1.0 c22.requires.1.1.1 _
           c11.operation-at.ensures c4.tell.ensures;
     }
 
@@ -70,7 +70,7 @@ same-length-3 : tie.Need-same-length-3 invariant-all decreases-all
 same-length-3 c = c.before.all.invariant.history.text.same
 
 returns : tie.Need-returns invariant-all decreases-all
-returns c = (text-ends _ _ _ c.before.all.invariant.text (omega arith), tell-ends _ _ _ _ c.before.all.invariant.history (omega arith))
+returns c = (text_ends _ _ _ c.before.all.invariant.text (omega arith), tell_ends _ _ _ _ c.before.all.invariant.history (omega arith))
 
 pub write-all-spec : {M : Type 1} → statement M
 write-all-spec =

@@ -1,6 +1,6 @@
 -- `write_text` puts the text of a list.
 -- The loop's invariant and its ways are those of Texts. Assumes nothing.
-use Rattle.written_lists.proofs.Texts.{Writing, text-begins, text-asks, text-on, text-ends}
+use Rattle.written_lists.proofs.Texts.{Writing, text_begins, text_asks, text_on, text_ends}
 use native.Mathlib.Omega.{arith}
 use Rattle.merging.specs.Lent.{lent_of}
 use Prim.Native.Nat.{◌-◌}
@@ -15,7 +15,7 @@ abbrev decreases-text : tie.decreases-text
 decreases-text original text spans keys operations out₀ end i₀ at₀ out i at = end - i
 
 text-holds : tie.Need-text-init invariant-text decreases-text
-text-holds c = text-begins _ _ _ c.before.before.before.before.before.before.requires.0
+text-holds c = text_begins _ _ _ c.before.before.before.before.before.before.requires.0
 
 operation-at-requires : tie.Need-operation-at-requires invariant-text decreases-text
 operation-at-requires c κs = search rules
@@ -25,7 +25,7 @@ put-text-requires c κs =
     let c2 = c.before.before in
     let c3 = c2.before in
     let c10 = c3.before.before.before.before.before.before.before in
-    text-asks _ _ _ c3.text.invariant c2.text-test.true c10.requires.1 _ c.before.operation-at.ensures
+    text_asks _ _ _ c3.text.invariant c2.text-test.true c10.requires.1 _ c.before.operation-at.ensures
 
 add-i : tie.Need-overflow-add-i invariant-text decreases-text
 add-i c = search rules
@@ -40,13 +40,13 @@ text-again c =
     let c5 = c4.before in
     let c6 = c5.before in
     let c13 = c6.before.before.before.before.before.before.before in
-    text-on _ _ _ c6.text.invariant c5.text-test.true c13.requires.1 _ c4.operation-at.ensures c2.put-text.ensures
+    text_on _ _ _ c6.text.invariant c5.text-test.true c13.requires.1 _ c4.operation-at.ensures c2.put-text.ensures
 
 same_length : tie.Need-same-length invariant-text decreases-text
 same_length c = c.before.text.invariant.text.same
 
 returns : tie.Need-returns invariant-text decreases-text
-returns c = text-ends _ _ _ c.before.text.invariant (omega arith)
+returns c = text_ends _ _ _ c.before.text.invariant (omega arith)
 
 pub write-text-spec : {M : Type 1} → statement M
 write-text-spec =

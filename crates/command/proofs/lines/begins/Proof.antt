@@ -36,8 +36,8 @@ returns-3 c = search rules
 add-i : tie.Need-overflow-add-i invariant-key decreases-key
 add-i c = search rules
 
-key-less : tie.Need-key-smaller invariant-key decreases-key
-key-less c = search rules
+key_less : tie.Need-key-smaller invariant-key decreases-key
+key_less c = search rules
 
 key-again : tie.Need-key-preserved invariant-key decreases-key
 key-again c = search rules
@@ -59,6 +59,6 @@ begins-spec =
     shared-slice-read-if3-2
     returns-3
     add-i
-    key-less
+    key_less
     key-again
     returns-4)

@@ -1,6 +1,6 @@
 -- `item_at` decodes the item at a place. The kind is known by its machine word (Decoding).
 -- Assumes nothing.
-use Rattle.diff.proofs.Decoding.{reads-back, word-is, kind-number, kind-text, kind-other}
+use Rattle.diff.proofs.Decoding.{reads_back, word_is, kind_number, kind_text, kind_other}
 use lib.ListN.{get_or}
 use Prim.Native.Nat.{◌+◌, ◌*◌}
 use Rattle.diff.specs.Items.{item_at}
@@ -35,8 +35,8 @@ number-item-requires c κs = search rules
 returns : tie.Need-returns
 unfolding item_at
 returns c = let s = c.before.before.before.before.args.items.now in let b = c.before.before.before.before.args.i * 3 in
-    rw (c.number-item.ensures, reads-back (get_or s (b + 1) (pos 0)) c.before.number-item-arg.given)
-    (sym (kind-number _ _ _ (word-is (get_or s b (pos 0)) 0 (omega arith) c.before.before.before.kind.given c.before.before.if1.true)))
+    rw (c.number-item.ensures, reads_back (get_or s (b + 1) (pos 0)) c.before.number-item-arg.given)
+    (sym (kind_number _ _ _ (word_is (get_or s b (pos 0)) 0 (omega arith) c.before.before.before.kind.given c.before.before.if1.true)))
 
 add-text-item : tie.Need-overflow-add-text-item
 add-text-item c = search rules
@@ -64,15 +64,15 @@ unfolding item_at
 returns-2 c = let s = c.before.before.before.before.before.before.args.items.now in let b = c.before.before.before.before.before.before.args.i * 3 in
     rw (
       c.text-item.ensures,
-      reads-back (get_or s (b + 1) (pos 0)) c.before.before.text-item-arg.given,
-      reads-back (get_or s (b + 2) (pos 0))
+      reads_back (get_or s (b + 1) (pos 0)) c.before.before.text-item-arg.given,
+      reads_back (get_or s (b + 2) (pos 0))
           c.before.text-item-arg2.given,
     )
-    (sym (kind-text _ _ _ (word-is (get_or s b (pos 0)) 1 (omega arith) c.before.before.before.before.before.kind.given c.before.before.before.if2.true)))
+    (sym (kind_text _ _ _ (word_is (get_or s b (pos 0)) 1 (omega arith) c.before.before.before.before.before.kind.given c.before.before.before.if2.true)))
 
 returns-3 : tie.Need-returns-3
 unfolding item_at
-returns-3 c = sym (kind-other _ _ _ _ c.before.if1.false c.if2.false)
+returns-3 c = sym (kind_other _ _ _ _ c.before.if1.false c.if2.false)
 
 pub item-at-spec : {M : Type 1} → statement M
 item-at-spec =

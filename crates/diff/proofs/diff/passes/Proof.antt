@@ -1,6 +1,6 @@
 -- `passes` tells whether the texts use too much. The sum so far and what is left make up the whole (Turns, Summing).
 -- Assumes nothing.
-use Rattle.diff.proofs.Turns.{rest, Summing, sum-ends, sum-retain, sum-delete, sum-neither, sum-insert, sum-passes}
+use Rattle.diff.proofs.Turns.{rest, Summing, sum_ends, sum_retain, sum_delete, sum_neither, sum_insert, sum_passes}
 use Rattle.diff.specs.Checks.{used}
 use borrow.Author.Tests.{lt-ltb, le-ltb}
 use lib.ListN.{length}
@@ -33,7 +33,7 @@ sub-if1 c = search rules
 
 returns : tie.Need-returns invariant-items decreases-items
 returns c = sym (lt-ltb _ _
-    (sum-passes c.before.before.before.before.before.before.items.invariant c.before.before.before.before.before.items-test.true
+    (sum_passes c.before.before.before.before.before.before.items.invariant c.before.before.before.before.before.items-test.true
     (sym c.before.before.before.before.item-at.ensures ∙ c.before.before.length.given.1) c.if1.true))
 
 add-sum : tie.Need-overflow-add-sum invariant-items decreases-items
@@ -43,7 +43,7 @@ items-less : tie.Need-items-smaller invariant-items decreases-items
 items-less c = search rules
 
 items-again : tie.Need-items-preserved invariant-items decreases-items
-items-again c = sum-insert c.before.before.before.before.before.before.items.invariant
+items-again c = sum_insert c.before.before.before.before.before.before.items.invariant
     c.before.before.before.before.before.items-test.true
     (sym c.before.before.before.before.item-at.ensures ∙ c.before.before.length.given.1) c.if1.false
 
@@ -54,7 +54,7 @@ items-less-2 : tie.Need-items-smaller-2 invariant-items decreases-items
 items-less-2 c = search rules
 
 items-again-2 : tie.Need-items-preserved-2 invariant-items decreases-items
-items-again-2 c = sum-retain c.before.before.before.before.items.invariant c.before.before.before.items-test.true
+items-again-2 c = sum_retain c.before.before.before.before.items.invariant c.before.before.before.items-test.true
     (sym c.before.before.item-at.ensures ∙ c.enum_told.given.1)
 
 enum-told-2 : tie.Need-enum-told-2 invariant-items decreases-items
@@ -64,7 +64,7 @@ items-less-3 : tie.Need-items-smaller-3 invariant-items decreases-items
 items-less-3 c = search rules
 
 items-again-3 : tie.Need-items-preserved-3 invariant-items decreases-items
-items-again-3 c = sum-delete c.before.before.before.before.items.invariant c.before.before.before.items-test.true
+items-again-3 c = sum_delete c.before.before.before.before.items.invariant c.before.before.before.items-test.true
     (sym c.before.before.item-at.ensures ∙ c.enum-told2.given.1)
 
 enum-told-3 : tie.Need-enum-told-3 invariant-items decreases-items
@@ -74,11 +74,11 @@ items-less-4 : tie.Need-items-smaller-4 invariant-items decreases-items
 items-less-4 c = search rules
 
 items-again-4 : tie.Need-items-preserved-4 invariant-items decreases-items
-items-again-4 c = sum-neither c.before.before.before.before.items.invariant c.before.before.before.items-test.true
+items-again-4 c = sum_neither c.before.before.before.before.items.invariant c.before.before.before.items-test.true
     (sym c.before.before.item-at.ensures ∙ c.enum-told3.given.1)
 
 returns-2 : tie.Need-returns-2 invariant-items decreases-items
-returns-2 c = sym (le-ltb _ _ (rw (sum-ends c.before.items.invariant c.items-test.false) at c.before.items.invariant.below))
+returns-2 c = sym (le-ltb _ _ (rw (sum_ends c.before.items.invariant c.items-test.false) at c.before.items.invariant.below))
 
 pub passes-spec : {M : Type 1} → statement M
 passes-spec =

@@ -1,6 +1,6 @@
 -- `survey` finds too much text, the first item that is neither, or what is used. Its turns are those of Surveying (Turns).
 -- Assumes nothing.
-use Rattle.diff.proofs.Turns.{Surveying, survey-begins, survey-ends, survey-retain, survey-delete, survey-insert, survey-long, survey-passes, survey-broken}
+use Rattle.diff.proofs.Turns.{Surveying, survey_begins, survey_ends, survey_retain, survey_delete, survey_insert, survey_long, survey_passes, survey-broken}
 use mathlib.Core.Path.{sym, ◌∙◌}
 use Prim.Native.Nat.{◌-◌}
 use borrow.Author.Rules.{rules}
@@ -14,7 +14,7 @@ abbrev decreases-items : tie.decreases-items
 decreases-items items lent count i₀ sum₀ i sum = count - i
 
 items-holds : tie.Need-items-init invariant-items decreases-items
-items-holds c = survey-begins _ _
+items-holds c = survey_begins _ _
 
 add-next : tie.Need-overflow-add-next invariant-items decreases-items
 add-next c = search rules
@@ -29,7 +29,7 @@ sub-if1 : tie.Need-overflow-sub-if1 invariant-items decreases-items
 sub-if1 c = search rules
 
 returns : tie.Need-returns invariant-items decreases-items
-returns c = survey-long c.before.before.before.before.before.before.items.invariant
+returns c = survey_long c.before.before.before.before.before.before.items.invariant
     c.before.before.before.before.before.items-test.true
     (sym c.before.before.before.before.item-at.ensures ∙ c.before.before.length.given.1) c.if1.true
 
@@ -40,7 +40,7 @@ items-less : tie.Need-items-smaller invariant-items decreases-items
 items-less c = search rules
 
 items-again : tie.Need-items-preserved invariant-items decreases-items
-items-again c = survey-insert c.before.before.before.before.before.before.items.invariant
+items-again c = survey_insert c.before.before.before.before.before.before.items.invariant
     c.before.before.before.before.before.items-test.true
     (sym c.before.before.before.before.item-at.ensures ∙ c.before.before.length.given.1) c.if1.false
 
@@ -51,7 +51,7 @@ items-less-2 : tie.Need-items-smaller-2 invariant-items decreases-items
 items-less-2 c = search rules
 
 items-again-2 : tie.Need-items-preserved-2 invariant-items decreases-items
-items-again-2 c = survey-retain c.before.before.before.before.items.invariant c.before.before.before.items-test.true
+items-again-2 c = survey_retain c.before.before.before.before.items.invariant c.before.before.before.items-test.true
     (sym c.before.before.item-at.ensures ∙ c.enum_told.given.1)
 
 enum-told-2 : tie.Need-enum-told-2 invariant-items decreases-items
@@ -61,7 +61,7 @@ items-less-3 : tie.Need-items-smaller-3 invariant-items decreases-items
 items-less-3 c = search rules
 
 items-again-3 : tie.Need-items-preserved-3 invariant-items decreases-items
-items-again-3 c = survey-delete c.before.before.before.before.items.invariant c.before.before.before.items-test.true
+items-again-3 c = survey_delete c.before.before.before.before.items.invariant c.before.before.before.items-test.true
     (sym c.before.before.item-at.ensures ∙ c.enum-told2.given.1)
 
 enum-told-3 : tie.Need-enum-told-3 invariant-items decreases-items
@@ -71,7 +71,7 @@ passes-requires : tie.Need-passes-requires invariant-items decreases-items
 passes-requires c κs = c.before.before.before.before.items.invariant.summing.below
 
 returns-2 : tie.Need-returns-2 invariant-items decreases-items
-returns-2 c = survey-passes c.before.before.before.before.before.before.items.invariant
+returns-2 c = survey_passes c.before.before.before.before.before.before.items.invariant
     c.before.before.before.before.before.items-test.true
     (sym c.before.before.before.before.item-at.ensures ∙ c.before.before.enum-told3.given.1) c.before.passes.ensures
     c.if2.true
@@ -83,7 +83,7 @@ returns-3 c = survey-broken c.before.before.before.before.before.before.items.in
     c.if2.false
 
 returns-4 : tie.Need-returns-4 invariant-items decreases-items
-returns-4 c = survey-ends c.before.items.invariant c.items-test.false
+returns-4 c = survey_ends c.before.items.invariant c.items-test.false
 
 pub survey-spec : {M : Type 1} → statement M
 survey-spec =

@@ -1,6 +1,6 @@
 -- `walk` finds where the numbers lead, or the first that asks too much. Its turns are those of Walking (Turns).
 -- Assumes nothing.
-use Rattle.diff.proofs.Turns.{Walking, walk_begins, walk_ends, walk-retain, walk-delete, walk-insert, walk-neither, walk-short-retain, walk-short-delete}
+use Rattle.diff.proofs.Turns.{Walking, walk_begins, walk_ends, walk_retain, walk_delete, walk_insert, walk_neither, walk_short_retain, walk_short_delete}
 use mathlib.Core.Path.{sym, ◌∙◌}
 use Prim.Native.Nat.{◌-◌}
 use borrow.Author.Rules.{rules}
@@ -29,7 +29,7 @@ enum-known-n : tie.Need-enum-known-n invariant-items decreases-items
 enum-known-n c = search rules
 
 returns : tie.Need-returns invariant-items decreases-items
-returns c = walk-short-retain c.before.before.before.before.before.before.items.invariant
+returns c = walk_short_retain c.before.before.before.before.before.before.items.invariant
     c.before.before.before.before.before.items-test.true
     (sym c.before.before.before.before.item-at.ensures ∙ c.before.before.n.given.1) c.if1.true
 
@@ -43,7 +43,7 @@ items-less : tie.Need-items-smaller invariant-items decreases-items
 items-less c = search rules
 
 items-again : tie.Need-items-preserved invariant-items decreases-items
-items-again c = walk-retain c.before.before.before.before.before.before.items.invariant
+items-again c = walk_retain c.before.before.before.before.before.before.items.invariant
     c.before.before.before.before.before.items-test.true
     (sym c.before.before.before.before.item-at.ensures ∙ c.before.before.n.given.1) c.if1.false
 
@@ -51,7 +51,7 @@ enum-known-n-2 : tie.Need-enum-known-n-2 invariant-items decreases-items
 enum-known-n-2 c = search rules
 
 returns-2 : tie.Need-returns-2 invariant-items decreases-items
-returns-2 c = walk-short-delete c.before.before.before.before.before.before.items.invariant
+returns-2 c = walk_short_delete c.before.before.before.before.before.before.items.invariant
     c.before.before.before.before.before.items-test.true
     (sym c.before.before.before.before.item-at.ensures ∙ c.before.before.n2.given.1) c.if2.true
 
@@ -62,7 +62,7 @@ items-less-2 : tie.Need-items-smaller-2 invariant-items decreases-items
 items-less-2 c = search rules
 
 items-again-2 : tie.Need-items-preserved-2 invariant-items decreases-items
-items-again-2 c = walk-delete c.before.before.before.before.before.before.items.invariant
+items-again-2 c = walk_delete c.before.before.before.before.before.before.items.invariant
     c.before.before.before.before.before.items-test.true
     (sym c.before.before.before.before.item-at.ensures ∙ c.before.before.n2.given.1) c.if2.false
 
@@ -73,7 +73,7 @@ items-less-3 : tie.Need-items-smaller-3 invariant-items decreases-items
 items-less-3 c = search rules
 
 items-again-3 : tie.Need-items-preserved-3 invariant-items decreases-items
-items-again-3 c = walk-insert c.before.before.before.before.items.invariant c.before.before.before.items-test.true
+items-again-3 c = walk_insert c.before.before.before.before.items.invariant c.before.before.before.items-test.true
     (sym c.before.before.item-at.ensures ∙ c.enum_told.given.1)
 
 enum-told-2 : tie.Need-enum-told-2 invariant-items decreases-items
@@ -83,7 +83,7 @@ items-less-4 : tie.Need-items-smaller-4 invariant-items decreases-items
 items-less-4 c = search rules
 
 items-again-4 : tie.Need-items-preserved-4 invariant-items decreases-items
-items-again-4 c = walk-neither c.before.before.before.before.items.invariant c.before.before.before.items-test.true
+items-again-4 c = walk_neither c.before.before.before.before.items.invariant c.before.before.before.items-test.true
     (sym c.before.before.item-at.ensures ∙ c.enum-told2.given.1)
 
 returns-3 : tie.Need-returns-3 invariant-items decreases-items

@@ -41,8 +41,8 @@ add-n c = search rules
 add-i : tie.Need-overflow-add-i invariant-numbers decreases-numbers
 add-i c = search rules
 
-numbers-less : tie.Need-numbers-smaller invariant-numbers decreases-numbers
-numbers-less c = search rules
+numbers_less : tie.Need-numbers-smaller invariant-numbers decreases-numbers
+numbers_less c = search rules
 
 numbers-again : tie.Need-numbers-preserved invariant-numbers decreases-numbers
 numbers-again c = (simp length-set (omega arith), simp length-set (omega arith))
@@ -68,7 +68,7 @@ put_spec =
     slice-set-from-room
     add-n
     add-i
-    numbers-less
+    numbers_less
     numbers-again
     same-length-2
     returns-2)

@@ -44,8 +44,8 @@ slice-write-room c = search rules
 add-i : tie.Need-overflow-add-i invariant-numbers decreases-numbers
 add-i c = search rules
 
-numbers-less : tie.Need-numbers-smaller invariant-numbers decreases-numbers
-numbers-less c = search rules
+numbers_less : tie.Need-numbers-smaller invariant-numbers decreases-numbers
+numbers_less c = search rules
 
 numbers-again : tie.Need-numbers-preserved invariant-numbers decreases-numbers
 numbers-again c = (simp length-set (omega arith), simp length-set (omega arith))
@@ -72,7 +72,7 @@ to-u32-spec =
     mul-room
     slice-write-room
     add-i
-    numbers-less
+    numbers_less
     numbers-again
     same-length-2
     returns-2)

@@ -1,7 +1,7 @@
 -- `fleecelatch_to_diff_lengths` tells what its call answers.
 -- The call's own statement, under the telling.
 use mathlib.Core.Path.{◌∙◌, ap}
-use Rattle.answer.specs.Tellings.{tellDiff}
+use Rattle.answer.specs.Tellings.{tell_diff}
 use borrow.Author.Rules.{rules}
 use Rattle.exports.proofs.diffs.fleecelatch_to_diff_lengths.Statement.{statement}
 use Rattle.exports.proofs.diffs.fleecelatch_to_diff_lengths.Tie as tie
@@ -13,7 +13,7 @@ tell-diff-requires : tie.Need-tell-diff-requires
 tell-diff-requires c κs = search rules
 
 returns : tie.Need-returns
-returns c = c.tell-diff.ensures ∙ ap tellDiff c.before.to-diff-lengths.ensures
+returns c = c.tell-diff.ensures ∙ ap tell_diff c.before.to-diff-lengths.ensures
 
 pub fleecelatch-to-diff-lengths-spec : {M : Type 1} → statement M
 fleecelatch-to-diff-lengths-spec =

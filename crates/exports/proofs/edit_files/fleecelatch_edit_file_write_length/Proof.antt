@@ -1,7 +1,7 @@
 -- `fleecelatch_edit_file_write_length` tells what its call answers.
 -- The call's own statement, under the telling.
 use mathlib.Core.Path.{◌∙◌, ap}
-use Rattle.answer.specs.Tellings.{tellCount}
+use Rattle.answer.specs.Tellings.{tell_count}
 use borrow.Author.Rules.{rules}
 use Rattle.exports.proofs.edit_files.fleecelatch_edit_file_write_length.Statement.{
   statement,
@@ -15,7 +15,7 @@ tell-count-requires : tie.Need-tell-count-requires
 tell-count-requires c κs = search rules
 
 returns : tie.Need-returns
-returns c = c.tell-count.ensures ∙ ap tellCount c.before.write-length.ensures
+returns c = c.tell-count.ensures ∙ ap tell_count c.before.write-length.ensures
 
 pub fleecelatch-edit-file-write-length-spec : {M : Type 1} → statement M
 fleecelatch-edit-file-write-length-spec =

@@ -1,7 +1,7 @@
 -- `fleecelatch_apply_lengths` tells what its call answers.
 -- The call's own statement, under the telling.
 use mathlib.Core.Path.{◌∙◌, ap}
-use Rattle.answer.specs.Tellings.{tellApplied}
+use Rattle.answer.specs.Tellings.{tell_applied}
 use borrow.Author.Rules.{rules}
 use Rattle.exports.proofs.views.fleecelatch_apply_lengths.Statement.{statement}
 use Rattle.exports.proofs.views.fleecelatch_apply_lengths.Tie as tie
@@ -13,7 +13,7 @@ tell-applied-requires : tie.Need-tell-applied-requires
 tell-applied-requires c κs = search rules
 
 returns : tie.Need-returns
-returns c = c.tell-applied.ensures ∙ ap tellApplied c.before.apply-lengths.ensures
+returns c = c.tell-applied.ensures ∙ ap tell_applied c.before.apply-lengths.ensures
 
 pub fleecelatch-apply-lengths-spec : {M : Type 1} → statement M
 fleecelatch-apply-lengths-spec =

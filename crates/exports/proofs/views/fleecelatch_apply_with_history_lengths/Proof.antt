@@ -1,7 +1,7 @@
 -- `fleecelatch_apply_with_history_lengths` tells what its call answers.
 -- The call's own statement, under the telling.
 use mathlib.Core.Path.{◌∙◌, ap}
-use Rattle.answer.specs.Tellings.{tellHistory}
+use Rattle.answer.specs.Tellings.{tell_history}
 use borrow.Author.Rules.{rules}
 use Rattle.exports.proofs.views.fleecelatch_apply_with_history_lengths.Statement.{
   statement,
@@ -15,7 +15,7 @@ tell-history-requires : tie.Need-tell-history-requires
 tell-history-requires c κs = search rules
 
 returns : tie.Need-returns
-returns c = c.tell-history.ensures ∙ ap tellHistory c.before.apply-with-history-lengths.ensures
+returns c = c.tell-history.ensures ∙ ap tell_history c.before.apply-with-history-lengths.ensures
 
 pub fleecelatch-apply-with-history-lengths-spec : {M : Type 1} → statement M
 fleecelatch-apply-with-history-lengths-spec =

@@ -6,7 +6,7 @@ use native.Mathlib.Omega.{arith}
 use lib.ListN.{length, length-set}
 use mathlib.Core.Path.{◌∙◌}
 use Rattle.overlap.proofs.Endings.{Cand, begin, fall, hit, miss}
-use Rattle.overlap.proofs.Turns.{Filling, filling-none, filling-more, filled, filled-empty}
+use Rattle.overlap.proofs.Turns.{Filling, filling_none, filling_more, filled, filled_empty}
 use borrow.Author.Rules.{rules}
 use Rattle.overlap.proofs.find_longest_prefix_contained_within.fill.Statement.{statement}
 use Rattle.overlap.proofs.find_longest_prefix_contained_within.fill.Tie as tie
@@ -24,13 +24,13 @@ abbrev decreases-fill : tie.decreases-fill
 decreases-fill new table₀ matched₀ i₀ table matched i = length new - i
 
 returns : tie.Need-returns invariant-fall decreases-fall invariant-fill decreases-fill
-returns c = filled-empty _ _ c.if1.true
+returns c = filled_empty _ _ c.if1.true
 
 slice-write-table : tie.Need-slice-write-table invariant-fall decreases-fall invariant-fill decreases-fill
 slice-write-table c = search rules
 
 fill_holds : tie.Need-fill-init invariant-fall decreases-fall invariant-fill decreases-fill
-fill_holds c = filling-none c.before.before.before.args.new.now c.before.before.before.args.table.now (omega arith) c.before.before.before.requires.long
+fill_holds c = filling_none c.before.before.before.args.new.now c.before.before.before.args.table.now (omega arith) c.before.before.before.requires.long
 
 mul-key : tie.Need-overflow-mul-key invariant-fall decreases-fall invariant-fill decreases-fill
 mul-key c = search rules
@@ -95,7 +95,7 @@ fill-again c =
     let c3 = c.before.before.before in
     let c5 = c3.before.before in
     let c6 = c5.before in
-    filling-more c.before.if2.matched c6.fill.invariant c5.fill-test.true
+    filling_more c.before.if2.matched c6.fill.invariant c5.fill-test.true
     (⊎_elim (λ w. rw w.1 (hit c3.fall.invariant w.0.taken)) (λ w. rw w.2 (miss c3.fall.invariant w.1.taken w.0.left)) c.before.if2.branch)
 
 same_length : tie.Need-same-length invariant-fall decreases-fall invariant-fill decreases-fill

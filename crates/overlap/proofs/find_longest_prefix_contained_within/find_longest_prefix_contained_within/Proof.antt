@@ -1,6 +1,6 @@
 -- The call answers as the paper says and leaves the work room past new's length; a refusal leaves all of it.
 -- The answers are those of Answers; the room is what `fill` leaves. Assumes nothing.
-use Rattle.overlap.proofs.Answers.{old-long, new-long, no_room, found_at}
+use Rattle.overlap.proofs.Answers.{old_long, new_long, no_room, found_at}
 use borrow.Author.Rules.{rules}
 use Rattle.overlap.proofs.find_longest_prefix_contained_within.find_longest_prefix_contained_within.Statement.{
   statement,
@@ -8,10 +8,10 @@ use Rattle.overlap.proofs.find_longest_prefix_contained_within.find_longest_pref
 use Rattle.overlap.proofs.find_longest_prefix_contained_within.find_longest_prefix_contained_within.Tie as tie
 
 returns : tie.Need-returns
-returns c = record { answer = old-long _ _ _ c.if1.true; kept = search rules }
+returns c = record { answer = old_long _ _ _ c.if1.true; kept = search rules }
 
 returns-2 : tie.Need-returns-2
-returns-2 c = record { answer = new-long _ _ _ c.before.if1.false c.if2.true; kept = search rules }
+returns-2 c = record { answer = new_long _ _ _ c.before.if1.false c.if2.true; kept = search rules }
 
 returns-3 : tie.Need-returns-3
 returns-3 c = record { answer = no_room _ _ _ c.before.before.if1.false c.before.if2.false c.if3.true; kept = search rules }

@@ -5,7 +5,7 @@ use Rattle.overlap.proofs.Overlaps.{of_none}
 use Prim.Native.Nat.{◌-◌}
 use native.Mathlib.Omega.{arith}
 use lib.ListN.{length}
-use Rattle.overlap.proofs.Turns.{nearer, Scanned, Falling, scanned-none, falling, falls, fallen, scanned-longer, scanned-kept, scanned-miss, scanned-whole, scanned-out}
+use Rattle.overlap.proofs.Turns.{nearer, Scanned, Falling, scanned_none, falling, falls, fallen, scanned_longer, scanned_kept, scanned_miss, scanned_whole, scanned_out}
 use borrow.Author.Rules.{rules}
 use Rattle.overlap.proofs.find_longest_prefix_contained_within.scan.Statement.{statement}
 use Rattle.overlap.proofs.find_longest_prefix_contained_within.scan.Tie as tie
@@ -26,7 +26,7 @@ returns : tie.Need-returns invariant-fall decreases-fall invariant-scan decrease
 returns c = sym (of_none _ _ c.if1.true)
 
 scan-holds : tie.Need-scan-init invariant-fall decreases-fall invariant-scan decreases-scan
-scan-holds c = scanned-none (omega arith)
+scan-holds c = scanned_none (omega arith)
 
 mul-key : tie.Need-overflow-mul-key invariant-fall decreases-fall invariant-scan decreases-scan
 mul-key c = search rules
@@ -59,19 +59,19 @@ scan-less : tie.Need-scan-smaller invariant-fall decreases-fall invariant-scan d
 scan-less c = nearer (omega arith)
 
 scan-again : tie.Need-scan-preserved invariant-fall decreases-fall invariant-scan decreases-scan
-scan-again c = scanned-longer c.before.before.before.before.fall.invariant (omega arith) c.before.before.if3.true c.before.if4.true c.if5.false
+scan-again c = scanned_longer c.before.before.before.before.fall.invariant (omega arith) c.before.before.if3.true c.before.if4.true c.if5.false
 
 scan-less-2 : tie.Need-scan-smaller-2 invariant-fall decreases-fall invariant-scan decreases-scan
 scan-less-2 c = search rules
 
 scan-again-2 : tie.Need-scan-preserved-2 invariant-fall decreases-fall invariant-scan decreases-scan
-scan-again-2 c = scanned-kept c.before.before.before.fall.invariant (omega arith) c.before.if3.true c.if4.false
+scan-again-2 c = scanned_kept c.before.before.before.fall.invariant (omega arith) c.before.if3.true c.if4.false
 
 scan-less-3 : tie.Need-scan-smaller-3 invariant-fall decreases-fall invariant-scan decreases-scan
 scan-less-3 c = search rules
 
 scan-again-3 : tie.Need-scan-preserved-3 invariant-fall decreases-fall invariant-scan decreases-scan
-scan-again-3 c = scanned-miss c.before.before.before.fall.invariant (omega arith) c.before.if3.false c.if6.true
+scan-again-3 c = scanned_miss c.before.before.before.fall.invariant (omega arith) c.before.if3.false c.if6.true
 
 sub_wide : tie.Need-overflow-sub-wide invariant-fall decreases-fall invariant-scan decreases-scan
 sub_wide c = search rules
@@ -101,10 +101,10 @@ fall-again c =
     rw c.wide.ensures (fallen c5.fall.invariant c13.requires.0 c2.if6.false c3.if3.false)
 
 returns-2 : tie.Need-returns-2 invariant-fall decreases-fall invariant-scan decreases-scan
-returns-2 c = scanned-out c.before.scan.invariant (omega arith)
+returns-2 c = scanned_out c.before.scan.invariant (omega arith)
 
 returns-3 : tie.Need-returns-3 invariant-fall decreases-fall invariant-scan decreases-scan
-returns-3 c = scanned-whole c.before.before.before.before.fall.invariant (omega arith) c.before.before.if3.true c.if5.true
+returns-3 c = scanned_whole c.before.before.before.before.fall.invariant (omega arith) c.before.before.if3.true c.if5.true
 
 pub scan-spec : {M : Type 1} → statement M
 scan-spec =

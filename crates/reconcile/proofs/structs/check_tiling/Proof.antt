@@ -1,5 +1,5 @@
 -- `check_tiling` gives the verdict on a list of operation structs: a walk of its code, by hand, with two calls. Of `walk_all`, itself walked, and of `walk_verdict` only the contracts are known.
--- The law `verdict-told` of Flat makes of the walk's end the definition's answer. Assumes nothing.
+-- The law `verdict_told` of Flat makes of the walk's end the definition's answer. Assumes nothing.
 use mathlib.Core.Path.{◌≡◌, refl}
 use mathlib.Core.List.{List, [], ◌∷◌}
 use Prim.Native.Nat.{ℕ}
@@ -44,7 +44,7 @@ use Rattle.verdict.specs.declared.Verdict.{Verdict}
 use Rattle.verdict.specs.contracts.Verdict as R
 use Rattle.verdict.proofs.Verdict.TheLaws as R'
 use Rattle.operations.specs.declared.Walk.{Walk}
-use Rattle.operations.specs.Folds.{walkFrom, walkAll, walkVerdict}
+use Rattle.operations.specs.Folds.{walk_from, walk_all, walk_verdict}
 use Rattle.operations.specs.contracts.Walk as S
 use Rattle.operations.proofs.Walk.TheLaws as S'
 use Rattle.operations.specs.contracts.walk_all as all'
@@ -56,8 +56,8 @@ use Rattle.operations.proofs.walk_verdict.Symbol as fin-def
 use Rattle.operations.proofs.walk_verdict.Symbol.{name as #at-the-end}
 use Rattle.operations.proofs.walk_verdict.Met as fin-thm
 use Rattle.merging.specs.Lent.{lent_of}
-use Rattle.apply.specs.Answers.{verdictOn}
-use Rattle.reconcile.proofs.Flat.{verdict-told}
+use Rattle.apply.specs.Answers.{verdict_on}
+use Rattle.reconcile.proofs.Flat.{verdict_told}
 use Rattle.reconcile.specs.contracts.structs.check_tiling.Key.{name as #own}
 use Rattle.reconcile.specs.contracts.structs.check_tiling as call
 use Rattle.reconcile.proofs.structs.check_tiling.Statement as stated
@@ -159,7 +159,7 @@ module _ {M : Type 1} {𝓤 : Ura M} (𝓛 : Logic 𝓤) (mem : Memory → SProp
   to = ((three, (q₂, (q₃, (q₄, tt))), tt, handed, passed), tt)
 
   abbrev whole-walk : Walk
-  whole-walk = walkAll x₂.now x₃.now x₄.now (walkFrom n m)
+  whole-walk = walk_all x₂.now x₃.now x₄.now (walk_from n m)
 
   asked : ent 𝓤 (on_entry 𝓛 all'.signature three (q₂, (q₃, (q₄, tt))) handed passed) ((All 𝓛 mem run).pre to)
   asked = qed 𝓛 (Walking ∷ ‵ (owns (usize ∷ usize ∷ ShrSlice (named 0) κ₂ u32 ∷ ShrSlice (named 1) κ₃ u32 ∷ ShrSlice (named 2) κ₄ O.the_row ∷ []) handed passed) ∷ []) ∵ join ! $ frame ! $ done !
@@ -211,10 +211,10 @@ module _ {M : Type 1} {𝓤 : Ura M} (𝓛 : Logic 𝓤) (mem : Memory → SProp
       nothing ! $ move ! (5 ∷ 0 ∷ []) $ fjoin ! $ move ! (2 ∷ 0 ∷ []) $ fjoin ! $ move ! (2 ∷ 0 ∷ []) $ fjoin ! $
       move ! (2 ∷ 0 ∷ []) $ use2 𝓛 (raw ((Fin 𝓛 mem run).pre (to-fin r u))) (asked-fin r u) $ frame ! $ done !
 
-  said-fin : (r : Walk) (t : Verdict) → ent 𝓤 (ensured 𝓛 fin.ended (fin.clauses 𝓛 mem run) two (handed-fin r) tt t) (fact 𝓤 (t ≡ walkVerdict x₀.now x₁.now r))
-  said-fin r t = ex_e 𝓤 _ (λ ws. snd∗ 𝓤 (sem 𝓛 (lasts fin.ended two (handed-fin r) ws)) (fact 𝓤 (t ≡ walkVerdict x₀.now x₁.now r)))
+  said-fin : (r : Walk) (t : Verdict) → ent 𝓤 (ensured 𝓛 fin.ended (fin.clauses 𝓛 mem run) two (handed-fin r) tt t) (fact 𝓤 (t ≡ walk_verdict x₀.now x₁.now r))
+  said-fin r t = ex_e 𝓤 _ (λ ws. snd∗ 𝓤 (sem 𝓛 (lasts fin.ended two (handed-fin r) ws)) (fact 𝓤 (t ≡ walk_verdict x₀.now x₁.now r)))
 
-  exits : (t : Verdict) (w : Val) → t ≡ verdictOn (lent_of x₀.now x₁.now x₂.now x₃.now) x₄.now []
+  exits : (t : Verdict) (w : Val) → t ≡ verdict_on (lent_of x₀.now x₁.now x₂.now x₃.now) x₄.now []
       → ent 𝓤 (⋆ 𝓛 (‵ ((R.the_row).own_val t (w ∷ [])) ∷ Ending ∷ Kept ∷ Walking ∷ [])) (Post w)
   exits t w e =
       qed 𝓛 (‵ ((R.the_row).own_val t (w ∷ [])) ∷ Ending ∷ Kept ∷ Walking ∷ []) ∵
@@ -247,14 +247,14 @@ module _ {M : Type 1} {𝓤 : Ura M} (𝓛 : Logic 𝓤) (mem : Memory → SProp
         -- [what the second call asks; what stays; the tokens of the walk; _8; …]
         calls_at ! fm (Fin 𝓛 mem run) known-fin (to-fin r u) (and_then ! (load ! (from ! (stop !)) (look ! 17 refl)) (and_then ! (load ! (from ! (stop !)) (look ! 15 refl)) (and_then ! (load ! (from ! (stop !)) (look ! 3 refl)) (no_more !)))) (λ w.
         use1 𝓛 (later (some (λ (t : Verdict). (Ending ⊛ ‵ ((R.the_row).own_val t (w ∷ []))) ⊛ raw (ensured 𝓛 fin.ended (fin.clauses 𝓛 mem run) two (handed-fin r) tt t)))) (id⊢ 𝓤 _) $ await ! tt $ pick ! (λ t.
-        split ! $ move ! (1 ∷ []) $ use1 𝓛 (raw (fact 𝓤 (t ≡ walkVerdict x₀.now x₁.now r))) (said-fin r t) $ heard ! (t ≡ walkVerdict x₀.now x₁.now r) (λ e'. split ! $ move ! (1 ∷ []) $
+        split ! $ move ! (1 ∷ []) $ use1 𝓛 (raw (fact 𝓤 (t ≡ walk_verdict x₀.now x₁.now r))) (said-fin r t) $ heard ! (t ≡ walk_verdict x₀.now x₁.now r) (λ e'. split ! $ move ! (1 ∷ []) $
         peeks ! R.the_row (Is R.the_row) (shows 𝓛 R.the_row) t (w ∷ []) (λ is'.
         -- [the answer; the tokens of the end; what stays; the tokens of the walk; _8; …]
         land ! (from ! (stop !)) (init ! 20 refl ((EL.lawful R.the_type R'.the_laws 𝓛 tt).typed t _ is').0) $
         returns ! (look ! 20 refl) $ forget ! 4 refl $ forget ! 6 refl $ forget ! 8 refl $ forget ! 10 refl $ forget ! 12 refl $ forget ! 14 refl $ forget ! 16 refl $ forget ! 18 refl $ forget ! 20 refl $
         move ! (20 ∷ 21 ∷ []) $ free1 ! $ move ! (18 ∷ 19 ∷ []) $ free1 ! $ move ! (16 ∷ 17 ∷ []) $ free1 ! $ move ! (14 ∷ 15 ∷ []) $ free1 ! $ move ! (12 ∷ 13 ∷ []) $ free1 ! $
         move ! (10 ∷ 11 ∷ []) $ free1 ! $ move ! (8 ∷ 9 ∷ []) $ free1 ! $ move ! (6 ∷ 7 ∷ []) $ free1 ! $ move ! (4 ∷ 5 ∷ []) $ free1 ! $ free0 ! $
-        by ! (exits t w (verdict-told x₀.now x₁.now x₂.now x₃.now x₄.now g₄.0 r t e e')))))))))))))))))))
+        by ! (exits t w (verdict_told x₀.now x₁.now x₂.now x₃.now x₄.now g₄.0 r t e e')))))))))))))))))))
 
 module _ {M : Type 1} {𝓤 : Ura M} (𝓛 : Logic 𝓤) (mem : Memory → SProp 𝓤) (run : Routine → Fun 𝓤) where
   open 𝓛 use {H}

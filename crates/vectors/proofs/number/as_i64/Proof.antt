@@ -1,6 +1,6 @@
 -- `as_i64` does not wrap: a magnitude below 2^63 fits with either sign.
 -- Assumes nothing.
-use Rattle.numbers.proofs.Signs.{pos-fits, neg-fits}
+use Rattle.numbers.proofs.Signs.{pos_fits, neg_fits}
 use Rattle.std.proofs.Common.{to_z-of_z, rules}
 use lib.IntN.{+ℤ_idl}
 use Rattle.vectors.proofs.number.as_i64.Statement.{statement}
@@ -10,7 +10,7 @@ cast-result : tie.Need-overflow-cast-result
 cast-result c = search rules
 
 sub-result : tie.Need-overflow-sub-result
-sub-result c = rw (to_z-of_z (pos-fits _ c.before.if1.true), +ℤ_idl) (neg-fits _ c.before.if1.true)
+sub-result c = rw (to_z-of_z (pos_fits _ c.before.if1.true), +ℤ_idl) (neg_fits _ c.before.if1.true)
 
 cast-result-2 : tie.Need-overflow-cast-result-2
 cast-result-2 c = search rules
