@@ -6,10 +6,7 @@
 
    What a caller owes, and nothing can check: each pointer is aligned for its type and points to as many elements as its length says, and a room
    overlaps no other array of the call. NULL with length 0 is fine, for every array. No call keeps a pointer, allocates or has a state, so calls
-   may run at the same time on rooms of their own. Each takes at most FLEECELATCH_STACK bytes of stack, and the three that merge files at most
-   FLEECELATCH_MERGE_FILES_STACK: a thread that calls them needs as much beside its own.
-
-   Three files of at most 2,048 bytes, as the program `fleecelatch` takes them, are merged by one call: see "Three files" at the end.
+   may run at the same time on rooms of their own.
 
    A refusal writes nothing. On success a room past its answer is unchanged; only a work room is left holding nothing in particular. */
 #ifndef FLEECELATCH_H
@@ -17,12 +14,6 @@
 
 #include <stddef.h>
 #include <stdint.h>
-
-/* The version of this header and of the archive that it was written for; the Rust package has the same. Before 1.0 a call that changes or goes raises
-   MINOR, all else PATCH. The archive does not hold it: take header and archive from one commit. */
-#define FLEECELATCH_VERSION_MAJOR 0
-#define FLEECELATCH_VERSION_MINOR 2
-#define FLEECELATCH_VERSION_PATCH 0
 
 #ifdef __cplusplus
 extern "C" {
@@ -75,21 +66,7 @@ enum {
     FLEECELATCH_MERGE_TOKENS_MOST = 8192,       /* insert tokens of one list of a merge; tokens of one side of an overlap */
     FLEECELATCH_CURSORS_MOST = 512,             /* cursors of a list */
     FLEECELATCH_MERGE_CURSORS_MOST = 256,       /* cursors of one list of a merge */
-    FLEECELATCH_FILE_MOST = 2048                /* bytes of each file of fleecelatch_merge_files, .._text and .._history */
-};
-
-/* Rooms that are long enough whatever the three files, which is proved: lent these, no call that merges files refuses with 7. */
-enum {
-    FLEECELATCH_MERGE_FILES_ROOM = 14393,       /* bytes of the merged edit file */
-    FLEECELATCH_MERGE_FILES_TEXT_ROOM = 16384,  /* bytes of the merged text, in UTF-8 */
-    FLEECELATCH_MERGE_FILES_SPANS_ROOM = 682,   /* spans of the history; lent as 682 * FLEECELATCH_SPAN_WORDS = 2,728 numbers */
-    FLEECELATCH_MERGE_FILES_POINTS_ROOM = 6144  /* code points of the history's text */
-};
-
-/* Bytes of stack that a call takes at most, rounded up; tests/stack.c measures them. */
-enum {
-    FLEECELATCH_STACK = 32768,                  /* every call but the three that merge files */
-    FLEECELATCH_MERGE_FILES_STACK = 196608      /* fleecelatch_merge_files, .._text and .._history */
+    FLEECELATCH_FILE_MOST = 2048                /* bytes of each file of fleecelatch_merge_files */
 };
 
 /* Kinds of operations, sides, kinds of history spans, kinds of diff items. All other numbers are unknown. */
@@ -165,13 +142,7 @@ fleecelatch_answer fleecelatch_utf8_write(const uint32_t *text, size_t text_len,
 fleecelatch_answer fleecelatch_find_longest_prefix_contained_within(const uint32_t *old_keys, size_t old_keys_len, const uint32_t *new_keys,
     size_t new_keys_len, uint32_t *work, size_t work_len);
 
-/* ---- Lists ----
-   How an edit file becomes a list: read it with fleecelatch_edit_file_read; make each item a raw operation, a keep a retain and a drop a delete of one
-   token that is as long (a range of the lent text, which must reach so far; what stands there does not matter), an add an insert with a token for each
-   code point, keyed by it; make all tokens joinable on both sides; give the raw list to fleecelatch_elongate, and merge what comes out.
-   A list that was not elongated is accepted too, and may merge to another text:
-   of the 500 random pairs of bindings/rust/tests/calls.rs, 147 do.
-   bindings/rust/src/lists.rs does all of this; the calls under "Three files" do it for you. */
+/* ---- Lists ---- */
 
 /* Elongates a raw list and gives each operation its order and length. Rooms: as many operations, and in spanned, keyed and joined as many tokens,
    as the raw list has. Counts: operations, tokens. Refusals 3, 4, 1, 7. */
@@ -263,24 +234,12 @@ fleecelatch_answer fleecelatch_edit_file_write_length(const int64_t *items, size
 fleecelatch_answer fleecelatch_edit_file_write(const int64_t *items, size_t items_len, const uint32_t *text, size_t text_len, uint8_t *out,
     size_t out_len);
 
-/* ---- Three files ----
-   original is a text in UTF-8, left and right are edit files of it, each of at most FLEECELATCH_FILE_MOST bytes. All three calls merge them as the
-   program does; each hands out another view of the merge. Rooms: the exact length of the answer, for which the numbers named are always enough.
-   Refusals, each check on original, left and right before the next: 3 for a file that is too long; 10 for bad UTF-8, with its offset; 8 for a bad edit
-   file, with its line; 2 where an edit file's counts do not fit the original, with an operation's index in that file's elongated list; 7. */
+/* ---- The program ---- */
 
-/* The merge as an edit file of the original. Room: FLEECELATCH_MERGE_FILES_ROOM bytes. Counts: bytes. */
+/* Merges two edit files of an original, a text in UTF-8. Writes the merged edit file, and counts: bytes, 0; or a line `refused=` with one of the
+   numbers above, and counts: bytes, 1. Room: the exact length of the answer. Refusal 7, and no other. It takes half a megabyte of stack. */
 fleecelatch_answer fleecelatch_merge_files(const uint8_t *original, size_t original_len, const uint8_t *left, size_t left_len,
     const uint8_t *right, size_t right_len, uint8_t *out, size_t out_len);
-
-/* The merged text in UTF-8. Room: FLEECELATCH_MERGE_FILES_TEXT_ROOM bytes. Counts: bytes. */
-fleecelatch_answer fleecelatch_merge_files_text(const uint8_t *original, size_t original_len, const uint8_t *left, size_t left_len,
-    const uint8_t *right, size_t right_len, uint8_t *out, size_t out_len);
-
-/* Who added and who removed what: the spans into history, their text, one behind the other, into text. Rooms: FLEECELATCH_MERGE_FILES_SPANS_ROOM
-   spans, FLEECELATCH_MERGE_FILES_POINTS_ROOM code points. Counts: spans, code points. */
-fleecelatch_answer fleecelatch_merge_files_history(const uint8_t *original, size_t original_len, const uint8_t *left, size_t left_len,
-    const uint8_t *right, size_t right_len, size_t *history, size_t history_len, uint32_t *text, size_t text_len);
 
 #ifdef __cplusplus
 }

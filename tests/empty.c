@@ -37,7 +37,5 @@ int main(void) {
     SAY(edit_file_write_length, NO, NO);
     SAY(edit_file_write, NO, NO, NO);
     SAY(merge_files, NO, NO, NO, NO);
-    SAY(merge_files_text, NO, NO, NO, NO);
-    SAY(merge_files_history, NO, NO, NO, NO, NO);
     return 0;
 }

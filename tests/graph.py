@@ -1,4 +1,4 @@
-"""The functions and definitions of the crates, and what each of them names. For tests/edit-table, tests/reading, tests/moved and tests/proof-cost."""
+"""The functions and definitions of the crates, and what each of them names. For tests/edit-table, tests/reading and tests/proof-cost."""
 import glob
 import os
 import re
@@ -46,42 +46,6 @@ def definitions():
         for name, (at, end) in places.items():
             node = (crate_of(path), module, name)
             found[node] = (path, at, end, {known[w] for w in WORD.findall(text[at:end]) if w in known} - {node})
-    return found
-
-
-SIGNATURE = re.compile(r"(?:(?:pub|abbrev|unfoldable|record|data) )*([^\s({]+)(?: [({][^=]*)? :(?: |$)")
-
-
-def laws():
-    """Every law of proofs/*.antt, by crate, file and name: what it says, with what its modules are given, and how it is shown."""
-    found = {}
-    for path in files('crates/*/proofs/*.antt'):
-        # the modules around a line: how deep their lines are indented, and what they are given; and the law that the line belongs to
-        depths, given, law, in_head, entries = [0], [''], None, False, {}
-        for line in re.sub(r'--.*', '', read(path)).split('\n'):
-            words, depth = line.strip(), len(line) - len(line.lstrip())
-            if not words or words.startswith(('use ', 'mod ', 'pub mod ')):
-                continue
-            if in_head == 'entered':
-                depths.append(depth)
-                in_head = False
-            while depth < depths[-1]:
-                depths.pop()
-                given.pop()
-            if in_head or words.startswith('module '):
-                given.append(f'{given.pop()} {words}' if in_head else words)
-                law, in_head = None, 'entered' if words.endswith('where') else True
-                continue
-            named = SIGNATURE.match(words) if depth == depths[-1] else None
-            if named and named[1] != law:
-                law = named[1]
-                entries[law] = [given[1:], []]
-            if law:
-                # what is said ends where the first clause begins
-                shown = entries[law][1] or (depth == depths[-1] and not named)
-                entries[law][1 if shown else 0].append(words)
-        module = os.path.splitext(os.path.basename(path))[0]
-        found.update(((crate_of(path), module, name), (' '.join(said), ' '.join(how))) for name, (said, how) in entries.items())
     return found
 
 

@@ -50,6 +50,4 @@ calls! {
     fleecelatch_edit_file_write_length as edit_file_write_length(items: i64, text: u32;);
     fleecelatch_edit_file_write as edit_file_write(items: i64, text: u32; out: u8);
     fleecelatch_merge_files as merge_files(original: u8, left: u8, right: u8; out: u8);
-    fleecelatch_merge_files_text as merge_files_text(original: u8, left: u8, right: u8; out: u8);
-    fleecelatch_merge_files_history as merge_files_history(original: u8, left: u8, right: u8; history: usize, text: u32);
 }

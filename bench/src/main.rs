@@ -9,7 +9,6 @@ mod library;
 mod ours;
 mod rust;
 mod speed;
-mod three_files;
 
 use std::{env, process::ExitCode};
 

@@ -7,7 +7,7 @@ use oracle::paper::cases::edit_files::good;
 use oracle::paper::diff::{covering_replay, replay};
 use oracle::paper::edit_file::{believed, read, write};
 use oracle::paper::lists::{ElongateRooms, List, MergeRooms, RawList, check_list, check_merge};
-use oracle::paper::program::{merge_files, program};
+use oracle::paper::program::program;
 use oracle::paper::refusal::{AMPLE, Refusal};
 use oracle::paper::{calls, cases, utf8};
 use oracle::published::DiffError;
@@ -84,19 +84,6 @@ fn sheets_of_the_program() {
         "form=1\noriginal=6\nresult=5\nitems=6\nkeep=2\ndrop=2\ndrop=1\nadd=58\nadd=59\nkeep=1\n\
          end=6\n"
     );
-    let views = merge_files(b"abcdef", &left, &right).expect("both are good files");
-    assert_eq!(views.text(), Ok(b"abXYf".to_vec()));
-    let history = views.history().expect("a merged list has a history");
-    let spans = [
-        [0, 0, 0, 2], // unchanged ab
-        [2, 0, 2, 2], // removed left cd
-        [2, 1, 4, 1], // removed right e
-        [1, 0, 5, 1], // added left X
-        [1, 1, 6, 1], // added right Y
-        [0, 0, 7, 1], // unchanged f
-    ];
-    assert_eq!(history.spans, spans.concat());
-    assert_eq!(history.text, points("abcdeXYf"));
 
     let replayed = |original: &str, left: &[u8], right: &[u8]| {
         let merged = merged(original, left, right);
@@ -150,17 +137,6 @@ fn the_program_refuses_in_order() {
         line("10")
     );
     assert_eq!(program(Some(b"ab"), Some(&keep), Some(&keep)), line("2"));
-    // What each carries.
-    let refusal = |original: &[u8], left: &[u8], right: &[u8]| {
-        merge_files(original, left, right)
-            .err()
-            .map(|refusal| (refusal.number(), refusal.values()))
-    };
-    assert_eq!(refusal(b"a", &oversize, &bad_utf8), Some((3, vec![])));
-    assert_eq!(refusal(b"ab\xC3", &keep, &keep), Some((10, vec![2])));
-    assert_eq!(refusal(b"a", &keep, &keep[..9]), Some((8, vec![2])));
-    assert_eq!(refusal(b"ab", &keep, &misfit), Some((2, vec![1])));
-    assert_eq!(refusal(b"a", &keep, &misfit), Some((2, vec![0])));
     // The largest size passes.
     let original = vec![b'a'; 2_048];
     let whole = file(&[number(2_048)], "");

@@ -1,11 +1,7 @@
-//! Edit files, read and written, beside a plain reader and writer that go over their input once; and the merge of three
-//! files, beside plain Rust made of these and of the Rust's merge.
+//! Edit files, read and written, beside a plain reader and writer that go over their input once; and the program's work,
+//! beside the oracle's reading of it.
 
-use oracle::{
-    flat::{HISTORY_STRIDE, ITEM_STRIDE},
-    generate::Merge,
-    random::Random,
-};
+use oracle::{flat::ITEM_STRIDE, generate::Merge, paper::program::program, random::Random};
 
 use super::{keep, lists, number};
 use crate::{
@@ -14,7 +10,6 @@ use crate::{
     inputs::{self, Sizes},
     library,
     ours::Viewing,
-    rust, three_files,
 };
 
 const ORIGINAL: &[u8] = include_bytes!("../../../examples/recipe.txt");
@@ -46,9 +41,9 @@ pub fn contests(eighths: usize, seed: u64) -> Vec<Contest> {
 pub fn small() -> Vec<Contest> {
     let mut contests = files("a sheet of words", lists::words());
     contests.extend(contest_of("examples/laptop.edit", LAPTOP));
-    contests.extend(merges_of("the README's files", ORIGINAL, LAPTOP, PANEL));
+    contests.push(program_on("the README's files", ORIGINAL, LAPTOP, PANEL));
     let (original, left, right) = two_kilobytes();
-    contests.extend(merges_of(
+    contests.push(program_on(
         "files of nearly 2,048 bytes",
         &original,
         &left,
@@ -139,47 +134,19 @@ fn two_kilobytes() -> (Vec<u8>, Vec<u8>, Vec<u8>) {
     (original, left, right)
 }
 
-/// The merge of three files, in each of its views.
-fn merges_of(kind: &str, original: &[u8], left: &[u8], right: &[u8]) -> Vec<Contest> {
-    let triple: &[Vec<u8>; 3] = keep([original, left, right].map(<[u8]>::to_vec));
-    let [original, left, right] = triple;
-    let mut file = vec![0; 14_393];
-    let mut text = vec![0; 16_384];
-    let (mut spans, mut points) = (vec![0; 2_728], vec![0; 6_144]);
+fn program_on(kind: &str, original: &[u8], left: &[u8], right: &[u8]) -> Contest {
+    let files: &[Vec<u8>; 3] = keep([original, left, right].map(<[u8]>::to_vec));
+    let [original, left, right] = files;
+    let rust = || program(Some(original), Some(left), Some(right));
+    let mut out = vec![0; 65_536];
+    let [length, refused, _] = library::merge_files(original, left, right, &mut out).counts();
+    assert_eq!(refused, 0, "{kind}");
+    assert_eq!(out[..length], rust());
 
-    let [length, _, _] = library::merge_files(original, left, right, &mut file).counts();
-    let rust = three_files::merge_files(original, left, right).expect("the files are good");
-    assert_eq!(file[..length], rust, "{kind}");
-    let [length, _, _] = library::merge_files_text(original, left, right, &mut text).counts();
-    let rust = three_files::merge_text(original, left, right).expect("the files are good");
-    assert_eq!(text[..length], *rust.as_bytes(), "{kind}");
-    let [count, length, _] =
-        library::merge_files_history(original, left, right, &mut spans, &mut points).counts();
-    let rust = three_files::merge_history(original, left, right).expect("the files are good");
-    let told = rust::history(&spans[..HISTORY_STRIDE * count], &points[..length]);
-    assert_eq!(told, rust, "{kind}");
-
-    let input = kind.to_owned();
-    vec![
-        Contest {
-            call: "merge_files",
-            input: input.clone(),
-            ours: calls(move || library::merge_files(original, left, right, &mut file)),
-            rust: calls(|| three_files::merge_files(original, left, right)),
-        },
-        Contest {
-            call: "merge_files_text",
-            input: input.clone(),
-            ours: calls(move || library::merge_files_text(original, left, right, &mut text)),
-            rust: calls(|| three_files::merge_text(original, left, right)),
-        },
-        Contest {
-            call: "merge_files_history",
-            input,
-            ours: calls(move || {
-                library::merge_files_history(original, left, right, &mut spans, &mut points)
-            }),
-            rust: calls(|| three_files::merge_history(original, left, right)),
-        },
-    ]
+    Contest {
+        call: "the program's work",
+        input: kind.to_owned(),
+        ours: calls(move || library::merge_files(original, left, right, &mut out)),
+        rust: calls(rust),
+    }
 }

@@ -1,59 +1,35 @@
-//! Merges two edits of a recipe sheet and prints the merge's history and the merged edit file.
+//! Merges two edits of a recipe sheet and prints the merged text's history and the merged edit file.
 //!
 //! usage: recipe ORIGINAL LEFT RIGHT
-//!
-//! Ends with 0; with 1 where the merge is refused; with 2 where a file cannot be read.
 
-use fleecelatch::{Change, merge_files, merge_history};
-use std::path::PathBuf;
-use std::process::ExitCode;
-use std::{env, fs};
+use fleecelatch::{Diff, Lists, Span, history, merge, read_edit_file, read_utf8, string, to_diff, write_edit_file};
+use std::{env, error::Error, fs};
 
-/// A text inside quotes. No two texts print alike, and nothing but printable ASCII reaches the terminal: a line feed is `\n`, a quote and a backslash
-/// stand behind a backslash, and every other code point is `\u{its number in hexadecimal}`.
-fn escaped(text: &str) -> String {
-    text.chars()
-        .map(|point| match point {
-            '\n' => "\\n".to_string(),
-            '"' | '\\' => format!("\\{point}"),
-            ' '..='~' => point.to_string(),
-            _ => format!("\\u{{{:x}}}", u32::from(point)),
-        })
-        .collect()
+fn read_diff(name: &str) -> Result<Diff, Box<dyn Error>> {
+    Ok(read_edit_file(&fs::read(name)?)?)
 }
 
-fn main() -> ExitCode {
-    let names: Vec<PathBuf> = env::args_os().skip(1).map(PathBuf::from).collect();
-    if names.len() != 3 {
-        eprintln!("usage: recipe ORIGINAL LEFT RIGHT");
-        return ExitCode::from(2);
-    }
-    let mut files = Vec::new();
-    for name in &names {
-        match fs::read(name) {
-            Ok(bytes) => files.push(bytes),
-            Err(why) => {
-                eprintln!("{}: cannot be read: {why}", name.display());
-                return ExitCode::from(2);
-            }
-        }
-    }
-    let (original, left, right) = (&files[0], &files[1], &files[2]);
-    let merged = merge_history(original, left, right).and_then(|history| Ok((history, merge_files(original, left, right)?)));
-    let (history, file) = match merged {
-        Ok(merged) => merged,
-        Err(refusal) => {
-            eprintln!("{refusal}");
-            return ExitCode::from(1);
-        }
+fn main() -> Result<(), Box<dyn Error>> {
+    let names: Vec<String> = env::args().skip(1).collect();
+    let [original, left, right] = names.as_slice() else {
+        return Err("usage: recipe ORIGINAL LEFT RIGHT".into());
     };
-    for change in history.changes() {
-        match change {
-            Change::Unchanged(text) => println!("unchanged \"{}\"", escaped(&text)),
-            Change::Added(side, text) => println!("added {side} \"{}\"", escaped(&text)),
-            Change::Removed(side, text) => println!("removed {side} \"{}\"", escaped(&text)),
-        }
+    let original = read_utf8(&fs::read(original)?)?;
+    let lists = Lists::from_diffs(&read_diff(left)?, &read_diff(right)?)?;
+    let lent = lists.lent(&original);
+    let merged = merge(lent, &lists.left, &lists.right, &[], &[])?;
+
+    let history = history(lent, &merged.operations)?;
+    for span in &history.spans {
+        let side = ["left", "right"][span.side];
+        let who = match span.kind {
+            Span::ADDED => format!("added {side}"),
+            Span::REMOVED => format!("removed {side}"),
+            _ => "unchanged".to_string(),
+        };
+        println!("{who} \"{}\"", string(history.text_of(span)).unwrap_or_default().replace('\n', "\\n"));
     }
-    print!("{}", String::from_utf8_lossy(&file));
-    ExitCode::SUCCESS
+    let file = write_edit_file(&to_diff(lent, &merged.operations)?)?;
+    print!("{}", String::from_utf8(file)?);
+    Ok(())
 }

@@ -256,26 +256,4 @@ unsafe extern "C" {
         out: *mut u8,
         out_len: usize,
     ) -> Answer;
-    pub fn fleecelatch_merge_files_text(
-        original: *const u8,
-        original_len: usize,
-        left: *const u8,
-        left_len: usize,
-        right: *const u8,
-        right_len: usize,
-        out: *mut u8,
-        out_len: usize,
-    ) -> Answer;
-    pub fn fleecelatch_merge_files_history(
-        original: *const u8,
-        original_len: usize,
-        left: *const u8,
-        left_len: usize,
-        right: *const u8,
-        right_len: usize,
-        history: *mut usize,
-        history_len: usize,
-        text: *mut u32,
-        text_len: usize,
-    ) -> Answer;
 }

@@ -24,9 +24,6 @@ pub struct Lists {
 
 impl Lists {
     /// The lists of two diffs, as [`read_edit_file`](crate::read_edit_file) gives them.
-    ///
-    /// # Errors
-    /// [`Refusal::Record`] with the index of an item that makes no operation, and what [`elongate`](crate::elongate) refuses.
     pub fn from_diffs(left: &Diff, right: &Diff) -> Result<Lists, Refusal> {
         // A keep's or drop's token ranges over the one lent text too, so that text is as long as the longest.
         let longest =

@@ -1,6 +1,6 @@
 //! The calls with rooms of their own: each lends vectors of the right length and hands them back.
 
-use crate::records::{Cursor, Item, Lent, Operation, RawOperation, Side, Span, SpanKind, Token};
+use crate::records::{Cursor, Item, Lent, Operation, RawOperation, Span, Token};
 use crate::refusal::Refusal;
 use crate::rooms;
 use std::ops::Range;
@@ -32,9 +32,6 @@ pub fn string(text: &[u32]) -> Option<String> {
 /// assert_eq!(write_utf8(&[0x6e, 0xe9]), Ok("né".as_bytes().to_vec()));
 /// assert_eq!(write_utf8(&[0xd800]), Err(Refusal::CodePoint { index: 0 }));
 /// ```
-///
-/// # Errors
-/// [`Refusal::Utf8`].
 pub fn read_utf8(bytes: &[u8]) -> Result<Vec<u32>, Refusal> {
     let mut out = room(rooms::utf8_read_length(bytes)?);
     rooms::utf8_read(bytes, &mut out)?;
@@ -42,9 +39,6 @@ pub fn read_utf8(bytes: &[u8]) -> Result<Vec<u32>, Refusal> {
 }
 
 /// Writes code points as UTF-8.
-///
-/// # Errors
-/// [`Refusal::CodePoint`].
 pub fn write_utf8(text: &[u32]) -> Result<Vec<u8>, Refusal> {
     let mut out = room(rooms::utf8_write_length(text)?);
     rooms::utf8_write(text, &mut out)?;
@@ -52,9 +46,6 @@ pub fn write_utf8(text: &[u32]) -> Result<Vec<u8>, Refusal> {
 }
 
 /// The longest beginning of `new` that occurs in `old`, at its first occurrence; `0..0` if none. At most 8,192 keys each.
-///
-/// # Errors
-/// [`Refusal::Size`].
 pub fn overlap(old: &[u32], new: &[u32]) -> Result<Range<usize>, Refusal> {
     rooms::find_longest_prefix_contained_within(old, new, &mut room(new.len()))
 }
@@ -73,9 +64,6 @@ pub struct Elongated {
 }
 
 /// Elongates a raw list: in each stretch without a retain all deletes come first, then all inserts, and neighbours that may join do.
-///
-/// # Errors
-/// [`Refusal::Size`], [`Refusal::CodePoint`] or [`Refusal::Record`], the first in this order.
 pub fn elongate(raw: &[RawOperation], tokens: &[Token], keys: &[u32], joins: &[u8], text: &[u32]) -> Result<Elongated, Refusal> {
     let most = raw.iter().fold(0, |sum: usize, o| sum.saturating_add(o.count)).min(TOKENS_MOST);
     let mut made = Elongated { operations: room(raw.len()), tokens: room(most), keys: room(most), joins: room(most) };
@@ -114,9 +102,6 @@ pub struct Merged {
 /// # Ok(())
 /// # }
 /// ```
-///
-/// # Errors
-/// [`Refusal::Size`], [`Refusal::CodePoint`], [`Refusal::Record`], [`Refusal::Tiling`] or [`Refusal::Cursor`], the first in this order.
 pub fn merge(lent: Lent<'_>, left: &[Operation], right: &[Operation], left_cursors: &[Cursor], right_cursors: &[Cursor]) -> Result<Merged, Refusal> {
     let inserted = |list: &[Operation]| {
         let counts = list.iter().filter(|o| o.kind == Operation::INSERT).map(|o| o.count);
@@ -140,9 +125,6 @@ pub struct Applied {
 }
 
 /// A list's text, with cursors that lie in it.
-///
-/// # Errors
-/// [`Refusal::Size`], [`Refusal::CodePoint`], [`Refusal::Record`], [`Refusal::Tiling`] or [`Refusal::Cursor`], the first in this order.
 pub fn apply(lent: Lent<'_>, operations: &[Operation], cursors: &[Cursor]) -> Result<Applied, Refusal> {
     let (text, count) = rooms::apply_lengths(lent, operations, cursors)?;
     let mut made = Applied { text: room(text), cursors: room(count) };
@@ -159,40 +141,14 @@ pub struct History {
     pub text: Vec<u32>,
 }
 
-/// What became of a piece of text.
-#[derive(Clone, Debug, PartialEq, Eq, Hash)]
-pub enum Change {
-    /// Original text that is kept.
-    Unchanged(String),
-    /// Text that a side added.
-    Added(Side, String),
-    /// Original text that a side removed.
-    Removed(Side, String),
-}
-
 impl History {
-    /// The text of a span; none where it is no span of this history: where its range passes the text, or what stands there is no text.
-    pub fn text_of(&self, span: &Span) -> Option<String> {
-        string(self.text.get(span.start..)?.get(..span.length)?)
-    }
-
-    /// What became of each piece of text, in order. A span that the library did not make, of an unknown kind or side or with no text here, is left out.
-    pub fn changes(&self) -> impl Iterator<Item = Change> {
-        self.spans.iter().filter_map(|span| {
-            let text = self.text_of(span)?;
-            Some(match span.kind().ok()? {
-                SpanKind::Unchanged => Change::Unchanged(text),
-                SpanKind::Added => Change::Added(span.side().ok()?, text),
-                SpanKind::Removed => Change::Removed(span.side().ok()?, text),
-            })
-        })
+    /// The text of a span of this history.
+    pub fn text_of(&self, span: &Span) -> &[u32] {
+        &self.text[span.start..][..span.length]
     }
 }
 
 /// A list's history: which text is unchanged, and which was added and removed by which side.
-///
-/// # Errors
-/// [`Refusal::Size`], [`Refusal::CodePoint`], [`Refusal::Record`] or [`Refusal::Tiling`], the first in this order.
 pub fn history(lent: Lent<'_>, operations: &[Operation]) -> Result<History, Refusal> {
     let (spans, text) = rooms::apply_with_history_lengths(lent, operations)?;
     let mut made = History { spans: room(spans), text: room(text) };
@@ -210,9 +166,6 @@ pub struct All {
 }
 
 /// Text, cursors and history of a list, in one pass over its operations.
-///
-/// # Errors
-/// [`Refusal::Size`], [`Refusal::CodePoint`], [`Refusal::Record`], [`Refusal::Tiling`] or [`Refusal::Cursor`], the first in this order.
 pub fn apply_with_all(lent: Lent<'_>, operations: &[Operation], cursors: &[Cursor]) -> Result<All, Refusal> {
     let (text, spans, history_text) = rooms::apply_with_all_lengths(lent, operations, cursors)?;
     let mut applied = Applied { text: room(text), cursors: room(cursors.len()) };
@@ -231,9 +184,6 @@ pub struct Diff {
 }
 
 /// The diff of a list.
-///
-/// # Errors
-/// [`Refusal::Size`], [`Refusal::CodePoint`], [`Refusal::Record`] or [`Refusal::Tiling`], the first in this order.
 pub fn to_diff(lent: Lent<'_>, operations: &[Operation]) -> Result<Diff, Refusal> {
     let (items, text) = rooms::to_diff_lengths(lent, operations)?;
     let mut made = Diff { items: room(items), text: room(text) };
@@ -250,9 +200,6 @@ pub fn to_diff(lent: Lent<'_>, operations: &[Operation]) -> Result<Diff, Refusal
 /// assert_eq!(replay(&original, &diff), Ok(code_points("abX")));
 /// assert_eq!(replay_covering(&original, &diff), Err(Refusal::Unmentioned { left: 1 }));
 /// ```
-///
-/// # Errors
-/// [`Refusal::Size`], [`Refusal::CodePoint`], [`Refusal::Record`] or [`Refusal::Short`], the first in this order.
 pub fn replay(original: &[u32], diff: &Diff) -> Result<Vec<u32>, Refusal> {
     let mut out = room(rooms::from_diff_length(original, &diff.items, &diff.text)?);
     rooms::from_diff(original, &diff.items, &diff.text, &mut out)?;
@@ -260,9 +207,6 @@ pub fn replay(original: &[u32], diff: &Diff) -> Result<Vec<u32>, Refusal> {
 }
 
 /// Replays a diff that mentions all of the original; another is [`Refusal::Unmentioned`].
-///
-/// # Errors
-/// [`Refusal::Size`], [`Refusal::CodePoint`], [`Refusal::Record`], [`Refusal::Short`] or [`Refusal::Unmentioned`], the first in this order.
 pub fn replay_covering(original: &[u32], diff: &Diff) -> Result<Vec<u32>, Refusal> {
     let mut out = room(rooms::from_covering_diff_length(original, &diff.items, &diff.text)?);
     rooms::from_covering_diff(original, &diff.items, &diff.text, &mut out)?;
@@ -279,9 +223,6 @@ pub fn replay_covering(original: &[u32], diff: &Diff) -> Result<Vec<u32>, Refusa
 /// assert_eq!(read_edit_file(&file[..file.len() - 9]), Err(Refusal::Line { line: 6 }));
 /// # Ok::<(), Refusal>(())
 /// ```
-///
-/// # Errors
-/// [`Refusal::Line`].
 pub fn read_edit_file(bytes: &[u8]) -> Result<Diff, Refusal> {
     let (items, text) = rooms::edit_file_read_lengths(bytes)?;
     let mut made = Diff { items: room(items), text: room(text) };
@@ -290,70 +231,55 @@ pub fn read_edit_file(bytes: &[u8]) -> Result<Diff, Refusal> {
 }
 
 /// Writes a diff as an edit file.
-///
-/// # Errors
-/// [`Refusal::Size`], [`Refusal::CodePoint`] or [`Refusal::Record`], the first in this order.
 pub fn write_edit_file(diff: &Diff) -> Result<Vec<u8>, Refusal> {
     let mut out = room(rooms::edit_file_write_length(&diff.items, &diff.text)?);
     rooms::edit_file_write(&diff.items, &diff.text, &mut out)?;
     Ok(out)
 }
 
-/// Merges two edit files of a text in UTF-8, each of the three of at most 2,048 bytes, into one edit file, as the program `fleecelatch` does.
-///
-/// ```
-/// use fleecelatch::{merge_files, Refusal};
-/// let same = b"form=1\noriginal=1\nresult=1\nitems=1\nkeep=1\nend=1\n";
-/// assert_eq!(merge_files(b"a", same, same), Ok(same.to_vec()));
-/// assert_eq!(merge_files(b"a", same, b"form=1\n"), Err(Refusal::Line { line: 2 }));
-/// assert_eq!(merge_files(b"ab", same, same), Err(Refusal::Tiling { index: 1 }));
-/// ```
-///
-/// # Errors
-/// [`Refusal::Size`], [`Refusal::Utf8`], [`Refusal::Line`] or [`Refusal::Tiling`], the first in this order.
-pub fn merge_files(original: &[u8], left: &[u8], right: &[u8]) -> Result<Vec<u8>, Refusal> {
-    let mut out = room(rooms::MERGE_FILES_ROOM);
-    let length = rooms::merge_files(original, left, right, &mut out)?;
-    out.truncate(length);
-    Ok(out)
+/// What the program writes.
+#[derive(Clone, Debug, PartialEq, Eq)]
+pub enum Files {
+    /// The merged edit file.
+    Merged(Vec<u8>),
+    /// A line `refused=` with the number of a refusal.
+    Refused(Vec<u8>),
 }
 
-/// The text that two edit files merge to, of the same three files as [`merge_files`].
+/// Merges two edit files of a text in UTF-8, each of the three of at most 2,048 bytes, as the program `fleecelatch` does.
+///
+/// ```
+/// use fleecelatch::{merge_files, Files};
+/// let same = b"form=1\noriginal=1\nresult=1\nitems=1\nkeep=1\nend=1\n";
+/// assert_eq!(merge_files(b"a", same, same), Files::Merged(same.to_vec()));
+/// assert_eq!(merge_files(b"a", same, b"form=1\n"), Files::Refused(b"refused=8\n".to_vec()));
+/// ```
+pub fn merge_files(original: &[u8], left: &[u8], right: &[u8]) -> Files {
+    let mut length = 65536;
+    loop {
+        let mut out = room(length);
+        match rooms::merge_files(original, left, right, &mut out) {
+            Ok((bytes, refused)) => {
+                out.truncate(bytes);
+                return if refused { Files::Refused(out) } else { Files::Merged(out) };
+            }
+            Err(_) => length *= 2,
+        }
+    }
+}
+
+/// The text that two edit files of a text merge to; or what is refused, as [`merge`] and [`read_edit_file`] refuse it.
 ///
 /// ```
 /// let left = b"form=1\noriginal=6\nresult=5\nitems=4\nkeep=2\ndrop=2\nadd=58\nkeep=2\nend=4\n";
 /// let right = b"form=1\noriginal=6\nresult=5\nitems=4\nkeep=3\ndrop=2\nadd=59\nkeep=1\nend=4\n";
-/// assert_eq!(fleecelatch::merge_text(b"abcdef", left, right), Ok("abXYf".to_string()));
+/// assert_eq!(fleecelatch::merge_text("abcdef", left, right), Ok("abXYf".to_string()));
 /// ```
-///
-/// # Errors
-/// [`Refusal::Size`], [`Refusal::Utf8`], [`Refusal::Line`] or [`Refusal::Tiling`], the first in this order.
-pub fn merge_text(original: &[u8], left: &[u8], right: &[u8]) -> Result<String, Refusal> {
-    let mut out = room(rooms::MERGE_FILES_TEXT_ROOM);
-    let length = rooms::merge_files_text(original, left, right, &mut out)?;
-    out.truncate(length);
-    // What the library writes is proved to be UTF-8.
-    String::from_utf8(out).map_err(|why| Refusal::Utf8 { offset: why.utf8_error().valid_up_to() })
-}
-
-/// Who added and who removed what in the merge of two edit files, of the same three files as [`merge_files`].
-///
-/// ```
-/// use fleecelatch::{Change, Side, merge_history};
-/// let left = b"form=1\noriginal=2\nresult=3\nitems=3\nkeep=1\nadd=58\nkeep=1\nend=3\n";
-/// let right = b"form=1\noriginal=2\nresult=1\nitems=2\ndrop=1\nkeep=1\nend=2\n";
-/// let changes: Vec<Change> = merge_history(b"ab", left, right)?.changes().collect();
-/// let due = [Change::Removed(Side::Right, "a".into()), Change::Added(Side::Left, "X".into()), Change::Unchanged("b".into())];
-/// assert_eq!(changes, due);
-/// # Ok::<(), fleecelatch::Refusal>(())
-/// ```
-///
-/// # Errors
-/// [`Refusal::Size`], [`Refusal::Utf8`], [`Refusal::Line`] or [`Refusal::Tiling`], the first in this order.
-pub fn merge_history(original: &[u8], left: &[u8], right: &[u8]) -> Result<History, Refusal> {
-    let mut made = History { spans: room(rooms::MERGE_FILES_SPANS_ROOM), text: room(rooms::MERGE_FILES_POINTS_ROOM) };
-    let (spans, text) = rooms::merge_files_history(original, left, right, &mut made.spans, &mut made.text)?;
-    made.spans.truncate(spans);
-    made.text.truncate(text);
-    Ok(made)
+pub fn merge_text(original: &str, left: &[u8], right: &[u8]) -> Result<String, Refusal> {
+    let original = code_points(original);
+    let lists = crate::Lists::from_diffs(&read_edit_file(left)?, &read_edit_file(right)?)?;
+    let lent = lists.lent(&original);
+    let merged = merge(lent, &lists.left, &lists.right, &[], &[])?;
+    let text = apply(lent, &merged.operations, &[])?.text;
+    Ok(string(&text).expect("the library hands out code points alone"))
 }

@@ -1,102 +1,4 @@
 //! The records that are lent, as the library lays them out: each is as many numbers as it has fields, in their order.
-//!
-//! A record holds numbers, since a lent list may hold anything; [`Kind`], [`Side`] and [`SpanKind`] are their names. Each is made of a number with
-//! `try_from` and made a number with `usize::from`; a number that has no name is [`Unknown`], which keeps it.
-
-use std::fmt;
-
-/// A number that is no kind or no side.
-#[derive(Clone, Copy, Debug, PartialEq, Eq, Hash)]
-pub struct Unknown(
-    /// The number.
-    pub usize,
-);
-
-impl fmt::Display for Unknown {
-    fn fmt(&self, f: &mut fmt::Formatter<'_>) -> fmt::Result {
-        write!(f, "{} is the number of no kind or side", self.0)
-    }
-}
-
-impl std::error::Error for Unknown {}
-
-// An enum whose values are the numbers of a field, with both conversions.
-macro_rules! names {
-    ($(#[$about:meta])* $name:ident { $($(#[$of:meta])* $value:ident = $number:literal,)* }) => {
-        $(#[$about])*
-        #[derive(Clone, Copy, Debug, PartialEq, Eq, Hash)]
-        pub enum $name {
-            $($(#[$of])* $value = $number,)*
-        }
-
-        impl From<$name> for usize {
-            fn from(name: $name) -> usize {
-                name as usize
-            }
-        }
-
-        impl TryFrom<usize> for $name {
-            type Error = Unknown;
-
-            fn try_from(number: usize) -> Result<$name, Unknown> {
-                match number {
-                    $($number => Ok($name::$value),)*
-                    other => Err(Unknown(other)),
-                }
-            }
-        }
-    };
-}
-
-names! {
-    /// The kind of an operation.
-    ///
-    /// ```
-    /// use fleecelatch::{Kind, Operation, Unknown};
-    /// assert_eq!(Operation::retain(0, 1).kind(), Ok(Kind::Retain));
-    /// assert_eq!(usize::from(Kind::Retain), Operation::RETAIN);
-    /// assert_eq!(Operation { kind: 7, ..Operation::default() }.kind(), Err(Unknown(7)));
-    /// ```
-    Kind {
-        /// Original text is left out.
-        Delete = 0,
-        /// Text is added.
-        Insert = 1,
-        /// Original text is kept.
-        Retain = 2,
-    }
-}
-
-names! {
-    /// The side that an edit is of.
-    Side {
-        /// The first list or file of a merge.
-        Left = 0,
-        /// The second.
-        Right = 1,
-    }
-}
-
-impl fmt::Display for Side {
-    fn fmt(&self, f: &mut fmt::Formatter<'_>) -> fmt::Result {
-        f.write_str(match self {
-            Side::Left => "left",
-            Side::Right => "right",
-        })
-    }
-}
-
-names! {
-    /// The kind of a history's span.
-    SpanKind {
-        /// Original text that is kept.
-        Unchanged = 0,
-        /// Text that a side added.
-        Added = 1,
-        /// Original text that a side removed.
-        Removed = 2,
-    }
-}
 
 /// The number of the left side.
 pub const LEFT: usize = 0;
@@ -149,22 +51,6 @@ impl Operation {
     pub fn insert(first: usize, count: usize) -> Self {
         Operation { kind: Self::INSERT, first, count, ..Self::default() }
     }
-
-    /// The name of its kind.
-    ///
-    /// # Errors
-    /// [`Unknown`], with the number, where it is the number of no kind.
-    pub fn kind(&self) -> Result<Kind, Unknown> {
-        self.kind.try_into()
-    }
-
-    /// The name of its side.
-    ///
-    /// # Errors
-    /// [`Unknown`], with the number, where it is the number of no side.
-    pub fn side(&self) -> Result<Side, Unknown> {
-        self.side.try_into()
-    }
 }
 
 /// An operation of a raw list: of any kind, with its tokens.
@@ -177,16 +63,6 @@ pub struct RawOperation {
     pub first: usize,
     /// How many tokens it has.
     pub count: usize,
-}
-
-impl RawOperation {
-    /// The name of its kind.
-    ///
-    /// # Errors
-    /// [`Unknown`], with the number, where it is the number of no kind.
-    pub fn kind(&self) -> Result<Kind, Unknown> {
-        self.kind.try_into()
-    }
 }
 
 /// A token's range of the lent text. Its key stands at the same place of the lent keys, and tokens are equal when their keys are.
@@ -230,22 +106,6 @@ impl Span {
     pub const ADDED: usize = 1;
     /// Original text that a side removed.
     pub const REMOVED: usize = 2;
-
-    /// The name of its kind.
-    ///
-    /// # Errors
-    /// [`Unknown`], with the number, where it is the number of no kind.
-    pub fn kind(&self) -> Result<SpanKind, Unknown> {
-        self.kind.try_into()
-    }
-
-    /// The name of its side, which means nothing where it is unchanged.
-    ///
-    /// # Errors
-    /// [`Unknown`], with the number, where it is the number of no side.
-    pub fn side(&self) -> Result<Side, Unknown> {
-        self.side.try_into()
-    }
 }
 
 /// An item of a diff: a number of code points to keep, or to drop where it is negative; or a range of the diff's text to add.

@@ -8,21 +8,6 @@ use crate::records::{Cursor, Item, Lent, Operation, RawOperation, Span, Token, n
 use crate::refusal::{Refusal, counts};
 use std::ops::Range;
 
-/// Bytes of each file of [`merge_files`], [`merge_files_text`] and [`merge_files_history`] at most.
-pub const FILE_MOST: usize = 2048;
-/// Bytes that are a room for every answer of [`merge_files`].
-pub const MERGE_FILES_ROOM: usize = 14393;
-/// Bytes that are a room for every answer of [`merge_files_text`].
-pub const MERGE_FILES_TEXT_ROOM: usize = 16384;
-/// Spans that are a room for every answer of [`merge_files_history`].
-pub const MERGE_FILES_SPANS_ROOM: usize = 682;
-/// Code points that are a room for the text of every answer of [`merge_files_history`].
-pub const MERGE_FILES_POINTS_ROOM: usize = 6144;
-/// Bytes of stack that any call but these three takes at most.
-pub const STACK: usize = 32768;
-/// Bytes of stack that each of these three takes at most.
-pub const MERGE_FILES_STACK: usize = 196608;
-
 // Calls the archive with slices lent for reading; and, behind the semicolon, slices lent for writing.
 macro_rules! call {
     ($name:ident($($read:ident),*; $($room:ident),*)) => {
@@ -45,33 +30,21 @@ fn three([first, second, third]: [usize; 3]) -> (usize, usize, usize) {
 }
 
 /// How many code points bytes hold: the room of [`utf8_read`].
-///
-/// # Errors
-/// [`Refusal::Utf8`].
 pub fn utf8_read_length(bytes: &[u8]) -> Result<usize, Refusal> {
     call!(fleecelatch_utf8_read_length(bytes;)).map(one)
 }
 
 /// Reads UTF-8 into `out`: how many code points.
-///
-/// # Errors
-/// [`Refusal::Utf8`] or [`Refusal::Room`], the first in this order.
 pub fn utf8_read(bytes: &[u8], out: &mut [u32]) -> Result<usize, Refusal> {
     call!(fleecelatch_utf8_read(bytes; out)).map(one)
 }
 
 /// How many bytes code points take: the room of [`utf8_write`].
-///
-/// # Errors
-/// [`Refusal::CodePoint`].
 pub fn utf8_write_length(text: &[u32]) -> Result<usize, Refusal> {
     call!(fleecelatch_utf8_write_length(text;)).map(one)
 }
 
 /// Writes code points as UTF-8 into `out`: how many bytes.
-///
-/// # Errors
-/// [`Refusal::CodePoint`] or [`Refusal::Room`], the first in this order.
 pub fn utf8_write(text: &[u32], out: &mut [u8]) -> Result<usize, Refusal> {
     call!(fleecelatch_utf8_write(text; out)).map(one)
 }
@@ -82,18 +55,12 @@ pub fn utf8_write(text: &[u32], out: &mut [u8]) -> Result<usize, Refusal> {
 /// let mut work = [0; 5];
 /// assert_eq!(fleecelatch::rooms::find_longest_prefix_contained_within(&[0, 1, 9, 0, 2, 5], &[9, 0, 2, 5, 1], &mut work), Ok(2..6));
 /// ```
-///
-/// # Errors
-/// [`Refusal::Size`] or [`Refusal::Room`], the first in this order.
 pub fn find_longest_prefix_contained_within(old: &[u32], new: &[u32], work: &mut [u32]) -> Result<Range<usize>, Refusal> {
     call!(fleecelatch_find_longest_prefix_contained_within(old, new; work)).map(|[start, end, _]| start..end)
 }
 
 /// Elongates a raw list and gives each operation its order and length: how many operations and tokens. The rooms take as many operations, and each of
 /// the three last as many tokens, as the raw list has.
-///
-/// # Errors
-/// [`Refusal::Size`], [`Refusal::CodePoint`], [`Refusal::Record`] or [`Refusal::Room`], the first in this order.
 #[allow(clippy::too_many_arguments)]
 pub fn elongate(
     raw: &[RawOperation],
@@ -113,9 +80,6 @@ pub fn elongate(
 
 /// Merges two lists of edits of one original, with their cursors: how many operations and cursors. `operations` and `cursors` take as many as both lists
 /// have, `work` twice the insert tokens of both.
-///
-/// # Errors
-/// [`Refusal::Size`], [`Refusal::CodePoint`], [`Refusal::Record`], [`Refusal::Tiling`], [`Refusal::Cursor`] or [`Refusal::Room`], the first in this order.
 #[allow(clippy::too_many_arguments)]
 pub fn merge(
     lent: Lent<'_>,
@@ -135,9 +99,6 @@ pub fn merge(
 }
 
 /// How many code points and cursors [`apply`] writes.
-///
-/// # Errors
-/// [`Refusal::Size`], [`Refusal::CodePoint`], [`Refusal::Record`], [`Refusal::Tiling`] or [`Refusal::Cursor`], the first in this order.
 pub fn apply_lengths(lent: Lent<'_>, operations: &[Operation], cursors: &[Cursor]) -> Result<(usize, usize), Refusal> {
     let Lent { original, text, tokens, keys } = lent;
     let (tokens, operations, cursors) = (numbers(tokens), numbers(operations), numbers(cursors));
@@ -145,9 +106,6 @@ pub fn apply_lengths(lent: Lent<'_>, operations: &[Operation], cursors: &[Cursor
 }
 
 /// A list's text into `out` and its cursors, sorted by index, into `moved`: how many of each.
-///
-/// # Errors
-/// [`Refusal::Size`], [`Refusal::CodePoint`], [`Refusal::Record`], [`Refusal::Tiling`], [`Refusal::Cursor`] or [`Refusal::Room`], the first in this order.
 pub fn apply(lent: Lent<'_>, operations: &[Operation], cursors: &[Cursor], out: &mut [u32], moved: &mut [Cursor]) -> Result<(usize, usize), Refusal> {
     let Lent { original, text, tokens, keys } = lent;
     let (tokens, operations, cursors) = (numbers(tokens), numbers(operations), numbers(cursors));
@@ -156,9 +114,6 @@ pub fn apply(lent: Lent<'_>, operations: &[Operation], cursors: &[Cursor], out: 
 }
 
 /// How many spans and code points [`apply_with_history`] writes.
-///
-/// # Errors
-/// [`Refusal::Size`], [`Refusal::CodePoint`], [`Refusal::Record`] or [`Refusal::Tiling`], the first in this order.
 pub fn apply_with_history_lengths(lent: Lent<'_>, operations: &[Operation]) -> Result<(usize, usize), Refusal> {
     let Lent { original, text, tokens, keys } = lent;
     let (tokens, operations) = (numbers(tokens), numbers(operations));
@@ -166,9 +121,6 @@ pub fn apply_with_history_lengths(lent: Lent<'_>, operations: &[Operation]) -> R
 }
 
 /// A list's history: one span for each operation into `history`, the text of all spans into `out`: how many of each.
-///
-/// # Errors
-/// [`Refusal::Size`], [`Refusal::CodePoint`], [`Refusal::Record`], [`Refusal::Tiling`] or [`Refusal::Room`], the first in this order.
 pub fn apply_with_history(lent: Lent<'_>, operations: &[Operation], history: &mut [Span], out: &mut [u32]) -> Result<(usize, usize), Refusal> {
     let Lent { original, text, tokens, keys } = lent;
     let (tokens, operations) = (numbers(tokens), numbers(operations));
@@ -177,9 +129,6 @@ pub fn apply_with_history(lent: Lent<'_>, operations: &[Operation], history: &mu
 }
 
 /// How many code points of text, spans and code points of the history [`apply_with_all`] writes; its cursors are as many as are lent.
-///
-/// # Errors
-/// [`Refusal::Size`], [`Refusal::CodePoint`], [`Refusal::Record`], [`Refusal::Tiling`] or [`Refusal::Cursor`], the first in this order.
 pub fn apply_with_all_lengths(lent: Lent<'_>, operations: &[Operation], cursors: &[Cursor]) -> Result<(usize, usize, usize), Refusal> {
     let Lent { original, text, tokens, keys } = lent;
     let (tokens, operations, cursors) = (numbers(tokens), numbers(operations), numbers(cursors));
@@ -187,9 +136,6 @@ pub fn apply_with_all_lengths(lent: Lent<'_>, operations: &[Operation], cursors:
 }
 
 /// What [`apply`] and [`apply_with_history`] write: how many code points of text, spans and code points of the history.
-///
-/// # Errors
-/// [`Refusal::Size`], [`Refusal::CodePoint`], [`Refusal::Record`], [`Refusal::Tiling`], [`Refusal::Cursor`] or [`Refusal::Room`], the first in this order.
 #[allow(clippy::too_many_arguments)]
 pub fn apply_with_all(
     lent: Lent<'_>,
@@ -207,9 +153,6 @@ pub fn apply_with_all(
 }
 
 /// How many items and code points [`to_diff`] writes.
-///
-/// # Errors
-/// [`Refusal::Size`], [`Refusal::CodePoint`], [`Refusal::Record`] or [`Refusal::Tiling`], the first in this order.
 pub fn to_diff_lengths(lent: Lent<'_>, operations: &[Operation]) -> Result<(usize, usize), Refusal> {
     let Lent { original, text, tokens, keys } = lent;
     let (tokens, operations) = (numbers(tokens), numbers(operations));
@@ -217,9 +160,6 @@ pub fn to_diff_lengths(lent: Lent<'_>, operations: &[Operation]) -> Result<(usiz
 }
 
 /// A list's diff: its items into `items`, their text into `out`: how many of each.
-///
-/// # Errors
-/// [`Refusal::Size`], [`Refusal::CodePoint`], [`Refusal::Record`], [`Refusal::Tiling`] or [`Refusal::Room`], the first in this order.
 pub fn to_diff(lent: Lent<'_>, operations: &[Operation], items: &mut [Item], out: &mut [u32]) -> Result<(usize, usize), Refusal> {
     let Lent { original, text, tokens, keys } = lent;
     let (tokens, operations) = (numbers(tokens), numbers(operations));
@@ -228,53 +168,35 @@ pub fn to_diff(lent: Lent<'_>, operations: &[Operation], items: &mut [Item], out
 }
 
 /// The length of the text that [`from_diff`] writes.
-///
-/// # Errors
-/// [`Refusal::Size`], [`Refusal::CodePoint`], [`Refusal::Record`] or [`Refusal::Short`], the first in this order.
 pub fn from_diff_length(original: &[u32], items: &[Item], text: &[u32]) -> Result<usize, Refusal> {
     let items = numbers(items);
     call!(fleecelatch_from_diff_length(original, items, text;)).map(one)
 }
 
 /// Replays a diff into `out`, dropping original text that it leaves unmentioned: how many code points.
-///
-/// # Errors
-/// [`Refusal::Size`], [`Refusal::CodePoint`], [`Refusal::Record`], [`Refusal::Short`] or [`Refusal::Room`], the first in this order.
 pub fn from_diff(original: &[u32], items: &[Item], text: &[u32], out: &mut [u32]) -> Result<usize, Refusal> {
     let items = numbers(items);
     call!(fleecelatch_from_diff(original, items, text; out)).map(one)
 }
 
 /// The length of the text that [`from_covering_diff`] writes.
-///
-/// # Errors
-/// [`Refusal::Size`], [`Refusal::CodePoint`], [`Refusal::Record`], [`Refusal::Short`] or [`Refusal::Unmentioned`], the first in this order.
 pub fn from_covering_diff_length(original: &[u32], items: &[Item], text: &[u32]) -> Result<usize, Refusal> {
     let items = numbers(items);
     call!(fleecelatch_from_covering_diff_length(original, items, text;)).map(one)
 }
 
 /// Replays a diff into `out`, refusing one that leaves original text unmentioned: how many code points.
-///
-/// # Errors
-/// [`Refusal::Size`], [`Refusal::CodePoint`], [`Refusal::Record`], [`Refusal::Short`], [`Refusal::Unmentioned`] or [`Refusal::Room`], the first in this order.
 pub fn from_covering_diff(original: &[u32], items: &[Item], text: &[u32], out: &mut [u32]) -> Result<usize, Refusal> {
     let items = numbers(items);
     call!(fleecelatch_from_covering_diff(original, items, text; out)).map(one)
 }
 
 /// How many items and code points [`edit_file_read`] writes.
-///
-/// # Errors
-/// [`Refusal::Line`].
 pub fn edit_file_read_lengths(bytes: &[u8]) -> Result<(usize, usize), Refusal> {
     call!(fleecelatch_edit_file_read_lengths(bytes;)).map(two)
 }
 
 /// Reads an edit file: its items into `items`, their text into `text`: how many of each.
-///
-/// # Errors
-/// [`Refusal::Line`] or [`Refusal::Room`], the first in this order.
 pub fn edit_file_read(bytes: &[u8], items: &mut [Item], text: &mut [u32]) -> Result<(usize, usize), Refusal> {
     let items = numbers_mut(items);
     call!(fleecelatch_edit_file_read(bytes; items, text)).map(two)
@@ -295,45 +217,19 @@ pub fn believed(bytes: &[u8], original: usize) -> bool {
 }
 
 /// How many bytes [`edit_file_write`] writes.
-///
-/// # Errors
-/// [`Refusal::Size`], [`Refusal::CodePoint`] or [`Refusal::Record`], the first in this order.
 pub fn edit_file_write_length(items: &[Item], text: &[u32]) -> Result<usize, Refusal> {
     let items = numbers(items);
     call!(fleecelatch_edit_file_write_length(items, text;)).map(one)
 }
 
 /// Writes a diff as an edit file into `out`: how many bytes.
-///
-/// # Errors
-/// [`Refusal::Size`], [`Refusal::CodePoint`], [`Refusal::Record`] or [`Refusal::Room`], the first in this order.
 pub fn edit_file_write(items: &[Item], text: &[u32], out: &mut [u8]) -> Result<usize, Refusal> {
     let items = numbers(items);
     call!(fleecelatch_edit_file_write(items, text; out)).map(one)
 }
 
-/// The merge of two edit files of an original as an edit file, into `out`: how many bytes. [`MERGE_FILES_ROOM`] bytes are always enough.
-///
-/// # Errors
-/// [`Refusal::Size`], [`Refusal::Utf8`], [`Refusal::Line`], [`Refusal::Tiling`] or [`Refusal::Room`], the first in this order.
-pub fn merge_files(original: &[u8], left: &[u8], right: &[u8], out: &mut [u8]) -> Result<usize, Refusal> {
-    call!(fleecelatch_merge_files(original, left, right; out)).map(one)
-}
-
-/// The text of the same merge in UTF-8, into `out`: how many bytes. [`MERGE_FILES_TEXT_ROOM`] bytes are always enough.
-///
-/// # Errors
-/// [`Refusal::Size`], [`Refusal::Utf8`], [`Refusal::Line`], [`Refusal::Tiling`] or [`Refusal::Room`], the first in this order.
-pub fn merge_files_text(original: &[u8], left: &[u8], right: &[u8], out: &mut [u8]) -> Result<usize, Refusal> {
-    call!(fleecelatch_merge_files_text(original, left, right; out)).map(one)
-}
-
-/// The history of the same merge: its spans into `history`, the text of all spans into `text`: how many of each. [`MERGE_FILES_SPANS_ROOM`] spans and
-/// [`MERGE_FILES_POINTS_ROOM`] code points are always enough.
-///
-/// # Errors
-/// [`Refusal::Size`], [`Refusal::Utf8`], [`Refusal::Line`], [`Refusal::Tiling`] or [`Refusal::Room`], the first in this order.
-pub fn merge_files_history(original: &[u8], left: &[u8], right: &[u8], history: &mut [Span], text: &mut [u32]) -> Result<(usize, usize), Refusal> {
-    let history = numbers_mut(history);
-    call!(fleecelatch_merge_files_history(original, left, right; history, text)).map(two)
+/// The program's work, on three files of at most 2,048 bytes each: the merged edit file into `out`, or a line `refused=` with the number; how many bytes,
+/// and whether they are that line. The only refusal is [`Refusal::Room`].
+pub fn merge_files(original: &[u8], left: &[u8], right: &[u8], out: &mut [u8]) -> Result<(usize, bool), Refusal> {
+    call!(fleecelatch_merge_files(original, left, right; out)).map(|[bytes, refused, _]| (bytes, refused == 1))
 }

@@ -88,15 +88,16 @@ fn the_sheet_of_the_merge() {
     assert_eq!(all.applied, apply(lent, &merged.operations, &merged.cursors).unwrap());
     assert_eq!(all.history, history(lent, &merged.operations).unwrap());
     assert_eq!(string(&all.applied.text).unwrap(), "abXYf");
+    let spans: Vec<(usize, usize, String)> = all.history.spans.iter().map(|s| (s.kind, s.side, string(all.history.text_of(s)).unwrap())).collect();
     let due = [
-        Change::Unchanged("ab".into()),
-        Change::Removed(Side::Left, "cd".into()),
-        Change::Removed(Side::Right, "e".into()),
-        Change::Added(Side::Left, "X".into()),
-        Change::Added(Side::Right, "Y".into()),
-        Change::Unchanged("f".into()),
+        (Span::UNCHANGED, LEFT, "ab"),
+        (Span::REMOVED, LEFT, "cd"),
+        (Span::REMOVED, RIGHT, "e"),
+        (Span::ADDED, LEFT, "X"),
+        (Span::ADDED, RIGHT, "Y"),
+        (Span::UNCHANGED, LEFT, "f"),
     ];
-    assert_eq!(all.history.changes().collect::<Vec<_>>(), due);
+    assert_eq!(spans, due.map(|(kind, side, text)| (kind, side, text.to_string())));
 
     let diff = to_diff(lent, &merged.operations).unwrap();
     assert_eq!(replay_covering(&original, &diff).unwrap(), all.applied.text);
@@ -104,9 +105,7 @@ fn the_sheet_of_the_merge() {
     assert_eq!(write_edit_file(&diff).unwrap(), due);
     let left = file(6, 5, &["keep=2", "drop=2", "add=58", "keep=2"]);
     let right = file(6, 5, &["keep=3", "drop=2", "add=59", "keep=1"]);
-    assert_eq!(merge_files(b"abcdef", &left, &right), Ok(due));
-    assert_eq!(merge_text(b"abcdef", &left, &right).unwrap(), "abXYf");
-    assert_eq!(merge_history(b"abcdef", &left, &right), Ok(all.history));
+    assert_eq!(merge_files(b"abcdef", &left, &right), Files::Merged(due));
 }
 
 #[test]
@@ -129,9 +128,7 @@ fn the_sheet_of_equal_edits() {
 #[test]
 fn empty_everything() {
     let empty = file(0, 0, &[]);
-    assert_eq!(merge_files(b"", &empty, &empty), Ok(empty.clone()));
-    assert_eq!(merge_text(b"", &empty, &empty), Ok(String::new()));
-    assert_eq!(merge_history(b"", &empty, &empty), Ok(History::default()));
+    assert_eq!(merge_files(b"", &empty, &empty), Files::Merged(empty.clone()));
     assert_eq!(merge(Lent::default(), &[], &[], &[], &[]), Ok(Merged::default()));
     assert_eq!(write_edit_file(&read_edit_file(&empty).unwrap()), Ok(empty));
 }
@@ -196,95 +193,12 @@ fn rooms_are_left_as_said() {
     assert_eq!(rooms::edit_file_read(&bytes, &mut [], &mut []), Err(Refusal::Room));
 
     let mut out = vec![7; bytes.len() + 1];
-    assert_eq!(rooms::merge_files(b"a", &bytes, &bytes, &mut out[..bytes.len() - 1]), Err(Refusal::Room));
-    assert_eq!(rooms::merge_files(b"ab", &bytes, &bytes, &mut out), Err(Refusal::Tiling { index: 1 }));
-    assert!(out.iter().all(|&byte| byte == 7));
-    assert_eq!(rooms::merge_files(b"a", &bytes, &bytes, &mut out), Ok(bytes.len()));
+    assert_eq!(rooms::merge_files(b"a", &bytes, &bytes, &mut out[..1]), Err(Refusal::Room));
+    assert_eq!(out[0], 7);
+    assert_eq!(rooms::merge_files(b"a", &bytes, &bytes, &mut out), Ok((bytes.len(), false)));
     assert_eq!((&out[..bytes.len()], out[bytes.len()]), (&bytes[..], 7));
-
-    let mut out = [7; 3];
-    assert_eq!(rooms::merge_files_text("é".as_bytes(), &bytes, &bytes, &mut out[..1]), Err(Refusal::Room));
-    assert_eq!(out, [7; 3]);
-    assert_eq!(rooms::merge_files_text("é".as_bytes(), &bytes, &bytes, &mut out), Ok(2));
-    assert_eq!(out, [0xc3, 0xa9, 7]);
-
-    let (mut spans, mut text) = ([Span { kind: 9, side: 9, start: 9, length: 9 }; 2], [7; 2]);
-    assert_eq!(rooms::merge_files_history(b"a", &bytes, &bytes, &mut spans, &mut []), Err(Refusal::Room));
-    assert_eq!(rooms::merge_files_history(b"a", &bytes, &bytes, &mut [], &mut text), Err(Refusal::Room));
-    assert_eq!((spans[0].kind, text), (9, [7; 2]));
-    assert_eq!(rooms::merge_files_history(b"a", &bytes, &bytes, &mut spans, &mut text), Ok((1, 1)));
-    assert_eq!((spans[0], spans[1].kind, text), (Span { kind: Span::UNCHANGED, side: 0, start: 0, length: 1 }, 9, [97, 7]));
-}
-
-#[test]
-fn files_are_refused_in_order() {
-    let keep = file(1, 1, &["keep=1"]);
-    let refused = |original: &[u8], left: &[u8], right: &[u8]| {
-        let refusal = merge_files(original, left, right).unwrap_err();
-        assert_eq!(merge_text(original, left, right), Err(refusal));
-        assert_eq!(merge_history(original, left, right), Err(refusal));
-        refusal
-    };
-    assert_eq!(refused(b"a\xff", b"form=2\n", &[b'a'; rooms::FILE_MOST + 1]), Refusal::Size);
-    assert_eq!(refused(b"a\xff", b"form=2\n", b"\xff"), Refusal::Utf8 { offset: 1 });
-    assert_eq!(refused(b"ab", &keep, b"form=1\noriginal=01\n"), Refusal::Line { line: 2 });
-    assert_eq!(refused(b"ab", &keep, &keep), Refusal::Tiling { index: 1 });
-    assert_eq!(refused(b"", &keep, &keep), Refusal::Tiling { index: 0 });
-}
-
-#[test]
-fn spans_that_are_none_have_no_text() {
-    let history = History { spans: vec![], text: vec![97, 0xd800] };
-    for (start, length, due) in [(0, 1, Some("a")), (2, 0, Some("")), (0, 2, None), (3, 0, None), (1, 2, None), (usize::MAX, usize::MAX, None)] {
-        assert_eq!(history.text_of(&Span { start, length, ..Span::default() }).as_deref(), due);
-    }
-    let unknown = Span { kind: 3, side: 2, start: 0, length: 1 };
-    assert_eq!((unknown.kind(), unknown.side()), (Err(Unknown(3)), Err(Unknown(2))));
-    let spans = vec![unknown, Span { kind: 1, ..unknown }, Span { kind: 0, ..unknown }];
-    assert_eq!(History { spans, ..history }.changes().collect::<Vec<_>>(), [Change::Unchanged("a".into())]);
-}
-
-/// The number that the header gives a name, in an enum or by a define.
-fn in_header(name: &str) -> usize {
-    let header = include_str!("../../../include/fleecelatch.h");
-    let found = header.lines().find_map(|line| {
-        let rest = line.split([',', '{', '}']).find_map(|part| part.trim().trim_start_matches("#define ").trim().strip_prefix(name))?;
-        rest.trim_start_matches([' ', '=']).split(|c: char| !c.is_ascii_digit()).next()?.parse().ok()
-    });
-    found.unwrap_or_else(|| panic!("the header has no {name}"))
-}
-
-#[test]
-fn the_header_has_the_same_numbers() {
-    let version = ["MAJOR", "MINOR", "PATCH"].map(|part| in_header(&format!("FLEECELATCH_VERSION_{part}")).to_string()).join(".");
-    assert_eq!(version, env!("CARGO_PKG_VERSION"));
-    let due = [
-        ("FILE_MOST", rooms::FILE_MOST),
-        ("MERGE_FILES_ROOM", rooms::MERGE_FILES_ROOM),
-        ("MERGE_FILES_TEXT_ROOM", rooms::MERGE_FILES_TEXT_ROOM),
-        ("MERGE_FILES_SPANS_ROOM", rooms::MERGE_FILES_SPANS_ROOM),
-        ("MERGE_FILES_POINTS_ROOM", rooms::MERGE_FILES_POINTS_ROOM),
-        ("STACK", rooms::STACK),
-        ("MERGE_FILES_STACK", rooms::MERGE_FILES_STACK),
-        ("DELETE", Kind::Delete.into()),
-        ("INSERT", Kind::Insert.into()),
-        ("RETAIN", Kind::Retain.into()),
-        ("LEFT", Side::Left.into()),
-        ("RIGHT", Side::Right.into()),
-        ("UNCHANGED", SpanKind::Unchanged.into()),
-        ("ADDED", SpanKind::Added.into()),
-        ("REMOVED", SpanKind::Removed.into()),
-        ("NUMBER", Item::NUMBER as usize),
-        ("TEXT", Item::TEXT as usize),
-        ("LEFT_JOINABLE", LEFT_JOINABLE.into()),
-        ("RIGHT_JOINABLE", RIGHT_JOINABLE.into()),
-    ];
-    for (name, number) in due {
-        assert_eq!(in_header(&format!("FLEECELATCH_{name} ")), number, "{name}");
-    }
-    assert_eq!([Operation::DELETE, Operation::INSERT, Operation::RETAIN], [Kind::Delete, Kind::Insert, Kind::Retain].map(usize::from));
-    assert_eq!([LEFT, RIGHT], [Side::Left, Side::Right].map(usize::from));
-    assert_eq!([Span::UNCHANGED, Span::ADDED, Span::REMOVED], [SpanKind::Unchanged, SpanKind::Added, SpanKind::Removed].map(usize::from));
+    assert_eq!(rooms::merge_files(b"ab", &bytes, &bytes, &mut out), Ok((10, true)));
+    assert_eq!(&out[..10], b"refused=2\n");
 }
 
 #[test]
@@ -294,7 +208,6 @@ fn a_list_made_of_an_edit_file_is_the_programs() {
         seed = seed.wrapping_mul(6364136223846793005).wrapping_add(1442695040888963407);
         (seed >> 33) % below
     };
-    let mut otherwise = 0;
     for _ in 0..500 {
         let length = random(12) as usize;
         let original: String = (0..length).map(|_| ['a', 'b', 'é'][random(3) as usize]).collect();
@@ -325,43 +238,13 @@ fn a_list_made_of_an_edit_file_is_the_programs() {
             file(length, result, &items.iter().map(String::as_str).collect::<Vec<_>>())
         };
         let (left, right) = (edit(), edit());
-        let merged = merge_files(original.as_bytes(), &left, &right).unwrap();
+        let Files::Merged(merged) = merge_files(original.as_bytes(), &left, &right) else { panic!("refused") };
         let lists = Lists::from_diffs(&read_edit_file(&left).unwrap(), &read_edit_file(&right).unwrap()).unwrap();
         let points = points(&original);
         let lent = lists.lent(&points);
         let list = merge(lent, &lists.left, &lists.right, &[], &[]).unwrap().operations;
         assert_eq!(write_edit_file(&to_diff(lent, &list).unwrap()).unwrap(), merged);
         let text = replay_covering(&points, &read_edit_file(&merged).unwrap()).unwrap();
-        assert_eq!(string(&text).unwrap(), merge_text(original.as_bytes(), &left, &right).unwrap());
-        assert_eq!(history(lent, &list).unwrap(), merge_history(original.as_bytes(), &left, &right).unwrap());
-        otherwise += usize::from(text_as_read(&points, &left, &right) != text);
+        assert_eq!(string(&text).unwrap(), merge_text(&original, &left, &right).unwrap());
     }
-    let due = format!("of the 500 random pairs of bindings/rust/tests/calls.rs, {otherwise} do");
-    assert!(include_str!("../../../include/fleecelatch.h").contains(&due), "the header does not say: {due}");
-}
-
-/// The text that two edit files merge to whose items are made operations one by one, and not elongated.
-fn text_as_read(original: &[u32], left: &[u8], right: &[u8]) -> Vec<u32> {
-    let mut words = Words { text: Vec::new(), tokens: Vec::new(), lists: Vec::new() };
-    for diff in [left, right].map(|file| read_edit_file(file).unwrap()) {
-        let (mut operations, mut order) = (Vec::new(), 0);
-        for item in &diff.items {
-            if item.kind == Item::TEXT {
-                let first = words.tokens.len();
-                for &point in &diff.text[item.value as usize..][..item.length as usize] {
-                    words.tokens.push(Token { start: words.text.len() as u32, length: 1 });
-                    words.text.push(point);
-                }
-                operations.push(Operation::insert(first, item.length as usize));
-                continue;
-            }
-            let length = item.value.unsigned_abs() as usize;
-            operations.push(if item.value < 0 { Operation::delete(order, length) } else { Operation::retain(order, length) });
-            order += length;
-        }
-        words.lists.push(operations);
-    }
-    let lent = words.lent(original);
-    let merged = merge(lent, &words.lists[0], &words.lists[1], &[], &[]).unwrap();
-    apply(lent, &merged.operations, &[]).unwrap().text
 }

@@ -2,6 +2,7 @@
 use Rattle.std.specs.Prelude.{ℕ, ◌≡◌, Bool, true, false}
 use Rattle.refusal.specs.Numbers.{number, values, padded}
 use Rattle.refusal.specs.declared.Refusal.{Refusal}
+use Rattle.refusal.specs.declared.Refusal.TheVariants as R
 use Rattle.refusal.specs.declared.Counted.{Counted}
 use Rattle.refusal.specs.declared.Counted.TheVariants as C
 use Rattle.overlap.specs.declared.Found.{Found}
@@ -20,6 +21,8 @@ use Rattle.to_diff.specs.declared.Diffed.{Diffed}
 use Rattle.to_diff.specs.declared.Diffed.TheVariants as D
 use Rattle.edit_read.specs.declared.FileRead.{FileRead}
 use Rattle.edit_read.specs.declared.FileRead.TheVariants as L
+use Rattle.merge_files.specs.declared.Outcome.{Outcome}
+use Rattle.merge_files.specs.declared.Outcome.TheVariants as O
 use Rattle.answer.specs.declared.Answer.{Answer}
 
 -- "Where an answer is an enum, a definition gives this paper's number and values for each of its cases, and the promises use that definition."
@@ -81,6 +84,12 @@ tell_file (L.Refused why) = tell_refusal why
 abbrev pub tell_believed : Bool → Answer
 tell_believed true = tell_counts 1 0 0
 tell_believed false = tell_counts 0 0 0
+
+-- "writes the edit file or a line `refused=` with the number": how many bytes, and whether they are that line
+abbrev pub tell_outcome : Outcome → Answer
+tell_outcome (O.Merged bytes) = tell_counts bytes 0 0
+tell_outcome (O.Refused bytes) = tell_counts bytes 1 0
+tell_outcome O.Room = tell_refusal R.Room
 
 -- "A public call's statement covers its result, numbers of a refusal included": there is an answer that the call's own statement holds of,
 -- and what is told is that answer, told

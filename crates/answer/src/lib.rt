@@ -1,7 +1,7 @@
 // Every answer as four numbers, as C is handed it. How each is told is a definition of specs/, and
 // every statement of an export speaks by it.
 ghost use Rattle.std.specs.Prelude.{◌≡◌};
-ghost use Rattle.answer.specs.Tellings.{tell_all, tell_applied, tell_believed, tell_count, tell_counts, tell_diff, tell_elongated, tell_file, tell_history, tell_merged, tell_range, tell_refusal};
+ghost use Rattle.answer.specs.Tellings.{tell_all, tell_applied, tell_believed, tell_count, tell_counts, tell_diff, tell_elongated, tell_file, tell_history, tell_merged, tell_outcome, tell_range, tell_refusal};
 
 use refusal::{Counted, Refusal};
 
@@ -133,4 +133,14 @@ pub fn tell_believed(answer: bool) -> Answer
         return tell_counts(1, 0, 0);
     }
     tell_counts(0, 0, 0)
+}
+
+pub fn tell_outcome(answer: merge_files::Outcome) -> Answer
+    ensures { result ≡ tell_outcome answer }
+{
+    match answer {
+        merge_files::Outcome::Merged(bytes) => tell_counts(bytes, 0, 0),
+        merge_files::Outcome::Refused(bytes) => tell_counts(bytes, 1, 0),
+        merge_files::Outcome::Room => tell_refusal(Refusal::Room),
+    }
 }

@@ -97,7 +97,7 @@ module _ (lent : Lent) where
   removed_all o z = rw (eq-eqb o.kind 0 z)
 
   -- what is removed is of the original
-  pub removed_from : (os : List Operation) (at : ℕ) → Tiles n os at → at + total removed_by os ≤ n
+  removed_from : (os : List Operation) (at : ℕ) → Tiles n os at → at + total removed_by os ≤ n
   unfolding total Tiles
   removed_from [] at t = omega (arith, t)
   removed_from (o ∷ os) at t =

@@ -1,8 +1,8 @@
--- An accepted file is the written form of its items; and so is each line, whatever follows it.
+-- An accepted file is the written form of its items.
 -- Each step of the reader keeps that the bytes read are those its state is written as. Assumes nothing.
-use mathlib.Core.Path.{◌≡◌, refl, sym, ap, ◌∙◌, subst}
+use mathlib.Core.Path.{◌≡◌, refl, sym, ◌∙◌}
 use mathlib.Core.Bool.{true, false, ◌&&◌}
-use mathlib.Core.List.{List, [], ◌∷◌, ◌++◌, append_assoc, append-nil, append_cancel_left}
+use mathlib.Core.List.{List, [], ◌∷◌, ◌++◌, append_assoc, append-nil}
 use Prim.Native.Nat.{ℕ, zero, suc, ◌+◌, ◌<◌}
 use native.Mathlib.Omega.{arith}
 use lib.ListN.{length, take, get_or}
@@ -12,7 +12,7 @@ use borrow.Author.Tests.{ltb-true, ltb-false, eqb-true, eqb-false}
 use Rattle.edit_format.specs.Digits.{digit_of, is_digit, digits}
 use Rattle.edit_format.specs.Items.{Item, Keep, Drop, Add, kept, dropped, added}
 use Rattle.edit_format.specs.Written.{Head, form_key, original_key, result_key, items_key, end_key, add_key, keep_key, drop_key, number_line, item_line, item_lines, head_lines, head_of, written}
-use Rattle.edit_format.specs.Reading.{Line, form, original, result, items, item, ending, keeping, dropping, adding, State, bad, key, gap, num, open', after, kind_key, key_of, base, several, hexes, fits, item_of, opened, next, begun, keyed, numbered, kind_of, step, run, Leads, Found, Accepted, finish, read_file}
+use Rattle.edit_format.specs.Reading.{Line, form, original, result, items, item, ending, keeping, dropping, adding, State, bad, key, gap, num, open', after, kind_key, key_of, base, several, hexes, fits, item_of, opened, next, begun, keyed, numbered, kind_of, step, run, Found, Accepted, finish, read_file}
 use Rattle.room.proofs.Choices.{pick_elim, no_way}
 use Rattle.room.proofs.Bools.{and_left, and_right}
 use Rattle.edit_format.proofs.NoBeginning.{never}
@@ -139,20 +139,3 @@ accepted (after h js) p {is} r e =
 pub canonical : (p : List ℕ) {is : List Item} → read_file p ≡ Accepted is → p ≡ written is
 unfolding read_file
 canonical p e = accepted (run (key form 0) p) p (run_reads (key form 0) [] p (refl, tt)) e
-
-opened_wrote : (h : Head) (is : List Item) (p : List ℕ) → Reads (opened h is) p → p ≡ head_lines h ++ item_lines is
-unfolding opened
-opened_wrote h is p =
-    pick_elim (λ (t : State). Reads t p → p ≡ head_lines h ++ item_lines is) (eqb (length is) h.count)
-    (λ e r. r.0 ∙ append-nil (head_lines h ++ item_lines is))
-    (λ e r. r)
-
--- the bytes that lead to one item more are that item's line, whatever follows them
-pub line_bytes : (h : Head) (is : List Item) (x : Item) (bs cs : List ℕ) → Leads (open' h is) bs (opened h (is ++ x ∷ [])) cs → bs ≡ item_line x ++ cs
-line_bytes h is x bs cs a = a.split ∙ ap (λ (u : List ℕ). u ++ cs) (append_cancel_left (head_lines h ++ item_lines is) a.bytes (item_line x) wrote)
-  where
-    wrote : (head_lines h ++ item_lines is) ++ a.bytes ≡ (head_lines h ++ item_lines is) ++ item_line x
-    wrote =
-        opened_wrote h (is ++ x ∷ []) ((head_lines h ++ item_lines is) ++ a.bytes)
-        (subst (λ (t : State). Reads t ((head_lines h ++ item_lines is) ++ a.bytes)) a.reach (run_reads (open' h is) (head_lines h ++ item_lines is) a.bytes refl))
-        ∙ rw (items_snoc is x) (sym (append_assoc (head_lines h) (item_lines is) (item_line x)))

@@ -14,22 +14,22 @@ use Rattle.room.specs.Choice.{pick}
 use Rattle.edit_format.specs.Digits.{is_digit}
 use Rattle.edit_format.specs.Items.{Item, kept, dropped, added}
 use Rattle.edit_format.specs.Written.{Head}
-use Rattle.edit_format.specs.Reading.{Kind, keeping, dropping, adding, Line, form, original, result, items, item, ending, State, bad, key, gap, num, open', after, line, first_item, result_line, line_no, kind_key, key_of, base, several, fits, kind_of, item_of, opened, next, begun, keyed, numbered, step, run, Found, Accepted, Refused, finish, read_file}
+use Rattle.edit_format.specs.Reading.{Kind, keeping, dropping, adding, Line, form, original, result, items, item, ending, State, bad, key, gap, num, open', after, line_no, kind_key, key_of, base, several, fits, kind_of, item_of, opened, next, begun, keyed, numbered, step, run, Found, Accepted, Refused, finish, read_file}
 use Rattle.edit_format.specs.Charge.{ends, Starts, Charged}
 use Rattle.room.proofs.Choices.{pick_elim, no_way}
 use Rattle.edit_format.proofs.DigitLaws.{no_digit_lf}
 use Rattle.edit_format.proofs.NoBeginning.{run_append}
 
--- not past the end line
-abbrev pub Due : State → Type 0
-Due (bad l) = Unit {0}
-Due (key l i) = Unit {0}
-Due (gap l cs) = Unit {0}
-Due (num l cs n) = Unit {0}
-Due (open' h is) = Unit {0}
-Due (after h is) = ⊥
+-- the line that the reader is in
+abbrev line : State → ℕ
+line (bad l) = l
+line (key l i) = line_no l
+line (gap l cs) = line_no l
+line (num l cs n) = line_no l
+line (open' h is) = length is + 5
+line (after h is) = length is + 6
 
-abbrev pub Alive : State → Type 0
+abbrev Alive : State → Type 0
 Alive (bad l) = ⊥
 Alive (key l i) = Unit {0}
 Alive (gap l cs) = Unit {0}
@@ -54,7 +54,7 @@ starts_alive l (num k cs n) a = tt
 starts_alive l (open' h is) a = tt
 starts_alive l (after h is) a = tt
 
-pub starts_line : (l : ℕ) (s : State) → Starts l s → line s ≡ l
+starts_line : (l : ℕ) (s : State) → Starts l s → line s ≡ l
 starts_line l (bad k) a = absurd a
 starts_line l (key k i) a = a.1
 starts_line l (gap k cs) a = absurd a
@@ -63,8 +63,8 @@ starts_line l (open' h is) a = a
 starts_line l (after h is) a = a
 
 -- after the byte b in line n: still in it, and b is no LF unless the line is bad; or b is LF, at the start of the next
-abbrev pub Moves : ℕ → ℕ → State → Type 0
-Moves n b t = ((line t ≡ n) × Due t × (Alive t → eqb b 10 ≡ false)) ⊎ ((eqb b 10 ≡ true) × Starts (n + 1) t)
+abbrev Moves : ℕ → ℕ → State → Type 0
+Moves n b t = ((line t ≡ n) × (Alive t → eqb b 10 ≡ false)) ⊎ ((eqb b 10 ≡ true) × Starts (n + 1) t)
 
 -- no key has an LF
 plain : List ℕ → Bool
@@ -104,49 +104,49 @@ digit_plain m b e = go (eqb b 10) refl
     go false f = f
 
 bad_moves : (n b : ℕ) → Moves n b (bad n)
-bad_moves n b = inl (refl, tt, λ a. absurd a)
+bad_moves n b = inl (refl, λ a. absurd a)
 
 begun_moves : (l : Line) (cs : List ℕ) (b : ℕ) → Moves (line_no l) b (begun l cs b)
 unfolding begun
-begun_moves l cs b = pick_elim (Moves (line_no l) b) (is_digit (base l) b) (λ e. inl (refl, tt, λ a. digit_plain (base l) b e)) (λ e. bad_moves (line_no l) b)
+begun_moves l cs b = pick_elim (Moves (line_no l) b) (is_digit (base l) b) (λ e. inl (refl, λ a. digit_plain (base l) b e)) (λ e. bad_moves (line_no l) b)
 
 keyed_moves : (l : Line) (i b : ℕ) → Moves (line_no l) b (keyed l i b)
 unfolding keyed
 keyed_moves l i b =
     pick_elim (Moves (line_no l) b) (ltb i (length (key_of l)))
-    (λ e. pick_elim (Moves (line_no l) b) (eqb b (get_or (key_of l) i 0)) (λ f. inl (refl, tt, λ a. rw (eqb-true b (get_or (key_of l) i 0) f) (plain_at (key_of l) i (plain_key l)))) (λ f. bad_moves (line_no l) b))
+    (λ e. pick_elim (Moves (line_no l) b) (eqb b (get_or (key_of l) i 0)) (λ f. inl (refl, λ a. rw (eqb-true b (get_or (key_of l) i 0) f) (plain_at (key_of l) i (plain_key l)))) (λ f. bad_moves (line_no l) b))
     (λ e. begun_moves l [] b)
 
-opened_starts : (h : Head) (is : List Item) (n : ℕ) → first_item h + length is ≡ n → Starts n (opened h is)
+opened_starts : (h : Head) (is : List Item) (n : ℕ) → length is + 5 ≡ n → Starts n (opened h is)
 unfolding opened line_no
 opened_starts h is n e = pick_elim (Starts n) (eqb (length is) h.count) (λ f. (refl, e)) (λ f. e)
 
 next_starts : (l : Line) (cs : List ℕ) (n : ℕ) → Starts (line_no l + 1) (next l cs n)
-unfolding next line_no first_item
+unfolding next line_no
 next_starts form cs n = (refl, refl)
 next_starts original cs n = (refl, refl)
 next_starts (result o) cs n = (refl, refl)
 next_starts (items o r) cs n = opened_starts (record { original = o; result = r; count = n }) [] 5 refl
-next_starts (item h is k) cs n = opened_starts h (is ++ item_of k cs n ∷ []) (first_item h + length is + 1) (omega (arith, length-append is (item_of k cs n ∷ [])))
+next_starts (item h is k) cs n = opened_starts h (is ++ item_of k cs n ∷ []) (length is + 5 + 1) (omega (arith, length-append is (item_of k cs n ∷ [])))
 next_starts (ending h is) cs n = omega arith
 
 numbered_moves : (l : Line) (cs : List ℕ) (n b : ℕ) → Moves (line_no l) b (numbered l cs n b)
 unfolding numbered
 numbered_moves l cs n b =
     pick_elim (Moves (line_no l) b) (is_digit (base l) b)
-    (λ e. pick_elim (Moves (line_no l) b) (eqb n 0) (λ f. bad_moves (line_no l) b) (λ f. inl (refl, tt, λ a. digit_plain (base l) b e)))
+    (λ e. pick_elim (Moves (line_no l) b) (eqb n 0) (λ f. bad_moves (line_no l) b) (λ f. inl (refl, λ a. digit_plain (base l) b e)))
     (λ e.
     pick_elim (Moves (line_no l) b) (fits l cs n)
     (λ f.
     pick_elim (Moves (line_no l) b) (eqb b 10) (λ g. inr (g, next_starts l cs n))
-    (λ g. pick_elim (Moves (line_no l) b) (several l && eqb b 32) (λ k. inl (refl, tt, λ a. g)) (λ k. bad_moves (line_no l) b)))
+    (λ g. pick_elim (Moves (line_no l) b) (several l && eqb b 32) (λ k. inl (refl, λ a. g)) (λ k. bad_moves (line_no l) b)))
     (λ f. bad_moves (line_no l) b))
 
-item_line : (h : Head) (is : List Item) (k : Kind) → line_no (item h is k) ≡ first_item h + length is
+item_line : (h : Head) (is : List Item) (k : Kind) → line_no (item h is k) ≡ length is + 5
 unfolding line_no
 item_line h is k = refl
 
-pub step_moves : (s : State) (b : ℕ) → Moves (line s) b (step s b)
+step_moves : (s : State) (b : ℕ) → Moves (line s) b (step s b)
 unfolding step
 step_moves (bad l) b = bad_moves l b
 step_moves (key l i) b = keyed_moves l i b
@@ -154,9 +154,9 @@ step_moves (gap l cs) b = begun_moves l cs b
 step_moves (num l cs n) b = numbered_moves l cs n b
 step_moves (open' h is) b = item_moves
   where
-    item_moves : Moves (first_item h + length is) b (keyed (item h is (kind_of b)) 0 b)
+    item_moves : Moves (length is + 5) b (keyed (item h is (kind_of b)) 0 b)
     item_moves = subst (λ (n : ℕ). Moves n b (keyed (item h is (kind_of b)) 0 b)) (item_line h is (kind_of b)) (keyed_moves (item h is (kind_of b)) 0 b)
-step_moves (after h is) b = bad_moves (first_item h + length is + 1) b
+step_moves (after h is) b = bad_moves (length is + 6) b
 
 -- every line up to the reader's own has a start
 record Lines (p : List ℕ) (s : State) : Type 0 where
@@ -179,12 +179,12 @@ step_lines p b w = rw (run_append (key form 0) p (b ∷ [])) (⊎_elim stays beg
     s : State
     s = run (key form 0) p
 
-    stays : (line (step s b) ≡ line s) × Due (step s b) × (Alive (step s b) → eqb b 10 ≡ false) → Lines (p ++ b ∷ []) (step s b)
+    stays : (line (step s b) ≡ line s) × (Alive (step s b) → eqb b 10 ≡ false) → Lines (p ++ b ∷ []) (step s b)
     stays m = record {
       some = omega (arith, m.0, w.some);
       each = λ k a c. longer b (w.each k a (omega (arith, m.0)));
       count = λ a.
-          let e : eqb b 10 ≡ false = m.2 a in
+          let e : eqb b 10 ≡ false = m.1 a in
           let f : ends (p ++ b ∷ []) ≡ ends p + 0 = ends_snoc p b ∙ rw e in
           omega (arith, m.0, w.count (alive_back s b a));
     }
@@ -227,18 +227,18 @@ at_line : {p : List ℕ} {s : State} {l : ℕ} (k : ℕ) → Lines p s → 1 ≤
 at_line {p} k w a b e = subst (λ (n : ℕ). Charged n p) (same_line e) (w.each k a b)
 
 finish_charged : (p : List ℕ) (s : State) {l : ℕ} → Lines p s → finish s ≡ Refused l → Charged l p
-unfolding finish first_item result_line
+unfolding finish
 finish_charged p (bad k) w e = at_line k w w.some (omega arith) e
 finish_charged p (key k i) w e = at_line (line_no k) w w.some (omega arith) e
 finish_charged p (gap k cs) w e = at_line (line_no k) w w.some (omega arith) e
 finish_charged p (num k cs n) w e = at_line (line_no k) w w.some (omega arith) e
-finish_charged p (open' h is) w e = at_line (first_item h + length is) w w.some (omega arith) e
+finish_charged p (open' h is) w e = at_line (length is + 5) w w.some (omega arith) e
 finish_charged p (after h is) {l} w e =
     (pick_elim (λ (x : Found). x ≡ Refused l → Charged l p) (eqb (kept is + dropped is) h.original)
     (λ a.
     pick_elim (λ (x : Found). x ≡ Refused l → Charged l p) (eqb (kept is + added is) h.result)
     (λ b z. absurd (never z))
-    (λ b z. at_line (result_line h) w (omega arith) (omega arith) z))
+    (λ b z. at_line 3 w (omega arith) (omega arith) z))
     (λ a z. at_line 2 w (omega arith) (omega arith) z))
     e
 

@@ -4,7 +4,6 @@ pub mod NoBeginning
 pub mod Canonical
 pub mod ReadBack
 pub mod Accepts
-pub mod Leading
 pub mod Finding
 pub mod TextLaws
 pub mod Rests

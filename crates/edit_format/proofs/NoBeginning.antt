@@ -6,7 +6,7 @@ use Prim.Native.Nat.{ℕ, ◌+◌}
 use native.Mathlib.Omega.{arith}
 use lib.ListN.{length}
 use Rattle.edit_format.specs.Items.{Item}
-use Rattle.edit_format.specs.Reading.{State, bad, key, gap, num, open', after, form, first_item, step, run, Found, Accepted, Refused, finish, read_file}
+use Rattle.edit_format.specs.Reading.{State, bad, key, gap, num, open', after, form, step, run, Found, Accepted, Refused, finish, read_file}
 
 pub run_append : (s : State) (p q : List ℕ) → run s (p ++ q) ≡ run (run s p) q
 unfolding run
@@ -29,7 +29,7 @@ more (key l i) b q e = absurd (never e)
 more (gap l cs) b q e = absurd (never e)
 more (num l cs n) b q e = absurd (never e)
 more (open' h is) b q e = absurd (never e)
-more (after h is) b q e = (first_item h + length is + 1, rw (run_bad (first_item h + length is + 1) q))
+more (after h is) b q e = (length is + 6, rw (run_bad (length is + 6) q))
 
 pub no_beginning : (p : List ℕ) (b : ℕ) (q : List ℕ) {is js : List Item} → read_file p ≡ Accepted is → read_file (p ++ b ∷ q) ≡ Accepted js → ⊥
 unfolding read_file

@@ -36,11 +36,11 @@ key_read (item h is adding) = refl
 key_read (ending h is) = refl
 
 -- past its key a line begins its first number
-pub key_past : (l : Line) (b : ℕ) → step (key l (length (key_of l))) b ≡ begun l [] b
+key_past : (l : Line) (b : ℕ) → step (key l (length (key_of l))) b ≡ begun l [] b
 unfolding step keyed
 key_past l b = rw (le-ltb (length (key_of l)) (length (key_of l)) (omega arith))
 
-pub gap_past : (l : Line) (cs : List ℕ) (b : ℕ) → step (gap l cs) b ≡ begun l cs b
+gap_past : (l : Line) (cs : List ℕ) (b : ℕ) → step (gap l cs) b ≡ begun l cs b
 unfolding step
 gap_past l cs b = refl
 
@@ -75,11 +75,11 @@ number_read l cs s t (suc f) n h =
         let k : n % base l < base l = mod-lt n pos in
         omega arith
 
-pub lf_read : (l : Line) (cs : List ℕ) (n : ℕ) → fits l cs n ≡ true → step (num l cs n) 10 ≡ next l cs n
+lf_read : (l : Line) (cs : List ℕ) (n : ℕ) → fits l cs n ≡ true → step (num l cs n) 10 ≡ next l cs n
 unfolding step numbered
 lf_read l cs n f = rw (no_digit_lf (base l), f)
 
-pub space_read : (l : Line) (cs : List ℕ) (n : ℕ) → several l ≡ true → fits l cs n ≡ true → step (num l cs n) 32 ≡ gap l (cs ++ n ∷ [])
+space_read : (l : Line) (cs : List ℕ) (n : ℕ) → several l ≡ true → fits l cs n ≡ true → step (num l cs n) 32 ≡ gap l (cs ++ n ∷ [])
 unfolding step numbered
 space_read l cs n s f = rw (no_digit_space (base l), f, s)
 

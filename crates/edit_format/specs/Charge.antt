@@ -1,7 +1,7 @@
 -- What it is for the lines before a line to be good. Assumes nothing.
 use Rattle.std.specs.Prelude.{◌≡◌, ℕ, ◌+◌, List, [], ◌∷◌, ◌++◌, length, eqb}
 use Rattle.room.specs.Choice.{pick}
-use Rattle.edit_format.specs.Reading.{State, bad, key, gap, num, open', after, form, first_item, line_no, run}
+use Rattle.edit_format.specs.Reading.{State, bad, key, gap, num, open', after, form, line_no, run}
 
 -- "Lines end in LF": how many lines end in these bytes
 unfoldable pub ends : List ℕ → ℕ
@@ -14,8 +14,8 @@ Starts l (bad k) = ⊥
 Starts l (key k i) = (i ≡ 0) × (line_no k ≡ l)
 Starts l (gap k cs) = ⊥
 Starts l (num k cs n) = ⊥
-Starts l (open' h is) = first_item h + length is ≡ l
-Starts l (after h is) = first_item h + length is + 1 ≡ l
+Starts l (open' h is) = length is + 5 ≡ l
+Starts l (after h is) = length is + 6 ≡ l
 
 -- q is all lines before line l, and each of them is good
 pub record Before (l : ℕ) (q : List ℕ) : Type 0 where

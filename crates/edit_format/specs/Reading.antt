@@ -1,6 +1,6 @@
 -- What a reader finds in any bytes: the line that is being read, the rules of each line, and one step a byte. Its state holds the items
 -- read, so what is found so far is in plain sight, and a file read in parts takes the same steps. Assumes nothing.
-use Rattle.std.specs.Prelude.{◌≡◌, ℕ, suc, ◌+◌, ◌*◌, Bool, true, false, not, ◌&&◌, List, [], ◌∷◌, ◌++◌, length, get_or, ltb, leb, eqb}
+use Rattle.std.specs.Prelude.{ℕ, suc, ◌+◌, ◌*◌, Bool, true, false, not, ◌&&◌, List, [], ◌∷◌, ◌++◌, length, get_or, ltb, leb, eqb}
 use Rattle.room.specs.Choice.{pick}
 use Rattle.edit_format.specs.Digits.{digit_of, is_digit}
 use Rattle.numbers.specs.Points.{is_point}
@@ -19,31 +19,14 @@ pub data Line : Type 0 where
   item : Head → List Item → Kind → Line
   ending : Head → List Item → Line
 
--- "`form=1`, `original=`, `result=`, `items=`, that many of ..": the line of the first item, behind the header's lines
-unfoldable pub first_item : Head → ℕ
-first_item h = 5
-
--- "a false sum is charged to line 2, then 3": the line of `result=`
-unfoldable pub result_line : Head → ℕ
-result_line h = 3
-
--- "`form=1`, `original=`, `result=`, `items=`": the lines of the header
-unfoldable pub heading : Line → Bool
-heading form = true
-heading original = true
-heading (result o) = true
-heading (items o r) = true
-heading (item h is k) = false
-heading (ending h is) = false
-
 -- "first bad line, from 1"
 unfoldable pub line_no : Line → ℕ
 line_no form = 1
 line_no original = 2
 line_no (result o) = 3
 line_no (items o r) = 4
-line_no (item h is k) = first_item h + length is
-line_no (ending h is) = first_item h + length is
+line_no (item h is k) = length is + 5
+line_no (ending h is) = length is + 5
 
 -- "`keep=`, `drop=` or `add=`": the key of each kind
 unfoldable pub kind_key : Kind → List ℕ
@@ -114,15 +97,6 @@ pub data State : Type 0 where
   -- the end line was read
   after : Head → List Item → State
 
--- "first bad line, from 1": the line that the reader is in
-abbrev pub line : State → ℕ
-line (bad l) = l
-line (key l i) = line_no l
-line (gap l cs) = line_no l
-line (num l cs n) = line_no l
-line (open' h is) = first_item h + length is
-line (after h is) = first_item h + length is + 1
-
 -- "`keep=`, `drop=` or `add=`": an item's kind, by the first byte of its line; a byte that begins no key is found to be bad by the key
 unfoldable pub kind_of : ℕ → Kind
 kind_of b = pick (eqb b 107) keeping (pick (eqb b 100) dropping adding)
@@ -175,18 +149,12 @@ step (key l i) b = keyed l i b
 step (gap l cs) b = begun l cs b
 step (num l cs n) b = numbered l cs n b
 step (open' h is) b = keyed (item h is (kind_of b)) 0 b
-step (after h is) b = bad (first_item h + length is + 1)
+step (after h is) b = bad (length is + 6)
 
 -- "Lines end in LF, in this order": one step for each byte
 unfoldable pub run : State → List ℕ → State
 run s [] = s
 run s (b ∷ bs) = run (step s b) bs
-
--- from state s, with the bytes bs left, the reader gets to state t, with the bytes cs left: by the bytes between the two, and no other
-pub record Leads (s : State) (bs : List ℕ) (t : State) (cs : List ℕ) : Type 0 where
-  pub bytes : List ℕ
-  pub split : bs ≡ bytes ++ cs
-  pub reach : run s bytes ≡ t
 
 -- "Edit files: 8 then 7": what is found in a file, before any room is looked at
 pub data Found : Type 0 where
@@ -200,10 +168,10 @@ finish (bad l) = Refused l
 finish (key l i) = Refused (line_no l)
 finish (gap l cs) = Refused (line_no l)
 finish (num l cs n) = Refused (line_no l)
-finish (open' h is) = Refused (first_item h + length is)
+finish (open' h is) = Refused (length is + 5)
 finish (after h is) =
     pick (eqb (kept is + dropped is) h.original)
-    (pick (eqb (kept is + added is) h.result) (Accepted is) (Refused (result_line h)))
+    (pick (eqb (kept is + added is) h.result) (Accepted is) (Refused 3))
     (Refused 2)
 
 -- what is found in the bytes that are left

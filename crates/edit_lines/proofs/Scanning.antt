@@ -1,4 +1,4 @@
--- The leaves' findings against the reader's steps: where a number, a line or a code point leads it, or that it never leaves the line.
+-- The leaves' findings against the reader's steps: what is left after a number, a line or a code point decides what was left before it.
 -- By induction on the bytes; a number is held exactly or as the cap, and no rule tells a number at the cap from a larger one. Assumes nothing.
 use mathlib.Core.Path.{◌≡◌, refl, sym, ap, ◌∙◌}
 use mathlib.Core.Bool.{Bool, true, false, not, ◌&&◌}
@@ -19,13 +19,12 @@ use Rattle.numbers.specs.Points.{is_point}
 use Rattle.numbers.proofs.Points.{point_most}
 use Rattle.edit_format.specs.Items.{Item, Add, added}
 use Rattle.edit_format.specs.Written.{Head}
-use Rattle.edit_format.specs.Reading.{Line, item, adding, key, gap, num, first_item, line_no, line, key_of, base, several, hexes, fits, fits_item, next, item_of, opened, step, run, Leads}
+use Rattle.edit_format.specs.Reading.{Line, item, adding, key, gap, num, line_no, key_of, base, several, hexes, fits, fits_item, next, item_of, opened, Refused, finish, run, found}
 use Rattle.edit_format.proofs.DigitLaws.{digit_below}
 use Rattle.room.proofs.Choices.{pick_elim}
 use Rattle.numbers.proofs.Orders.{leb_same}
-use Rattle.edit_format.proofs.Leading.{leads_none, leads_byte, leads_on, stays_on, bad_byte}
-use Rattle.edit_format.proofs.Finding.{key_on, key_off, past_leads, past_stays, gap_num, gap_digit, gap_other, num_digit, num_zero, num_unfit, num_other}
-use Rattle.edit_format.proofs.ReadBack.{base_ten, lf_read, space_read}
+use Rattle.edit_format.proofs.Finding.{key_on, key_off, gap_digit, gap_other, num_digit, num_zero, num_lf, num_space, num_unfit, num_other}
+use Rattle.edit_format.proofs.ReadBack.{base_ten}
 use Rattle.edit_lines.specs.Scan.{cap, more, scan, closed_at, line_at, ended_at, point_at}
 use Rattle.edit_lines.proofs.Leaves.{at_byte}
 use Rattle.edit_lines.specs.declared.Number.{Number}
@@ -55,36 +54,36 @@ no_digit_end m = refl
 -- v and j were found from a number's digits on, n having been read before the bytes bs
 abbrev NumFound : Line → List ℕ → ℕ → ℕ → List ℕ → Number → Type 0
 NumFound l cs n i bs (Value v j) =
-    (k : ℕ) × (m : ℕ) × (j ≡ i + k) × (k ≤ length bs) × (v ≡ cap m) × Leads (num l cs n) bs (num l cs m) (drop k bs) × (is_digit (base l) (get_or bs k 0) ≡ false)
-NumFound l cs n i bs Bad = line (run (num l cs n) bs) ≡ line_no l
+    (k : ℕ) × (m : ℕ) × (j ≡ i + k) × (k ≤ length bs) × (v ≡ cap m) × (found (num l cs n) bs ≡ found (num l cs m) (drop k bs)) × (is_digit (base l) (get_or bs k 0) ≡ false)
+NumFound l cs n i bs Bad = found (num l cs n) bs ≡ Refused (line_no l)
 
 -- one digit more
-num_step : (l : Line) (cs : List ℕ) (n i b : ℕ) (bs : List ℕ) (r : Number) → step (num l cs n) b ≡ num l cs (n * base l + digit_of b) → NumFound l cs (n * base l + digit_of b) (i + 1) bs r → NumFound l cs n i (b ∷ bs) r
-num_step l cs n i b bs (Value v j) e (k, m, a, f, w, q, d) = (suc k, m, omega arith, omega arith, w, leads_on (leads_byte (num l cs n) refl e) q, d)
-num_step l cs n i b bs Bad e f = stays_on {cs = bs} (leads_byte (num l cs n) refl e) f
+num_step : (l : Line) (cs : List ℕ) (n i b : ℕ) (bs : List ℕ) (r : Number) → found (num l cs n) (b ∷ bs) ≡ found (num l cs (n * base l + digit_of b)) bs → NumFound l cs (n * base l + digit_of b) (i + 1) bs r → NumFound l cs n i (b ∷ bs) r
+num_step l cs n i b bs (Value v j) e (k, m, a, f, w, q, d) = (suc k, m, omega arith, omega arith, w, e ∙ q, d)
+num_step l cs n i b bs Bad e f = e ∙ f
 
 more_found : (l : Line) (cs : List ℕ) (n v i : ℕ) (bs : List ℕ) → 1 < base l → v ≡ cap n → NumFound l cs n i bs (more (base l) v i bs)
 unfolding more
-more_found l cs n v i [] h e = (0, n, omega arith, zero-le, e, leads_none (num l cs n) [], no_digit_end (base l))
+more_found l cs n v i [] h e = (0, n, omega arith, zero-le, e, refl, no_digit_end (base l))
 more_found l cs n v i (b ∷ bs) h e =
     go (is_digit (base l) b) (eqb v 0) refl refl (more_found l cs (n * base l + digit_of b) (cap (v * base l + digit_of b)) (i + 1) bs h (rw e (sym (cap_more (base l) n (digit_of b) h))))
   where
     go : (t u : Bool) → is_digit (base l) b ≡ t → eqb v 0 ≡ u → NumFound l cs (n * base l + digit_of b) (i + 1) bs (more (base l) (cap (v * base l + digit_of b)) (i + 1) bs) → NumFound l cs n i (b ∷ bs) (pick t (pick u Bad (more (base l) (cap (v * base l + digit_of b)) (i + 1) bs)) (Value v i))
-    go false u f g r = (0, n, omega arith, zero-le, e, leads_none (num l cs n) (b ∷ bs), f)
-    go true true f g r = bad_byte (num l cs n) {cs = bs} refl (num_zero l cs n b f (cap_zero n true (rw e at g)))
-    go true false f g r = num_step l cs n i b bs (more (base l) (cap (v * base l + digit_of b)) (i + 1) bs) (num_digit l cs n b f (cap_zero n false (rw e at g))) r
+    go false u f g r = (0, n, omega arith, zero-le, e, refl, f)
+    go true true f g r = num_zero l cs n b bs f (cap_zero n true (rw e at g))
+    go true false f g r = num_step l cs n i b bs (more (base l) (cap (v * base l + digit_of b)) (i + 1) bs) (num_digit l cs n b bs f (cap_zero n false (rw e at g))) r
 
 -- a number from place i of p on
 abbrev pub Scanned : Line → List ℕ → List ℕ → ℕ → Number → Type 0
 Scanned l cs p i (Value v j) =
-    (m : ℕ) × (i < j) × (j ≤ length p) × (v ≡ cap m) × Leads (gap l cs) (drop i p) (num l cs m) (drop j p) × (is_digit (base l) (get_or p j 0) ≡ false)
-Scanned l cs p i Bad = line (run (gap l cs) (drop i p)) ≡ line_no l
+    (m : ℕ) × (i < j) × (j ≤ length p) × (v ≡ cap m) × (found (gap l cs) (drop i p) ≡ found (num l cs m) (drop j p)) × (is_digit (base l) (get_or p j 0) ≡ false)
+Scanned l cs p i Bad = found (gap l cs) (drop i p) ≡ Refused (line_no l)
 
-from_here : (l : Line) (cs p : List ℕ) (i n : ℕ) (r : Number) → i < length p → Leads (gap l cs) (drop i p) (num l cs n) (drop (i + 1) p) → NumFound l cs n (i + 1) (drop (i + 1) p) r → Scanned l cs p i r
+from_here : (l : Line) (cs p : List ℕ) (i n : ℕ) (r : Number) → i < length p → found (gap l cs) (drop i p) ≡ found (num l cs n) (drop (i + 1) p) → NumFound l cs n (i + 1) (drop (i + 1) p) r → Scanned l cs p i r
 from_here l cs p i n (Value v j) h e (k, m, a, f, w, q, d) =
     let g : k ≤ length p - (i + 1) = rw (length-drop (i + 1) p) at f in
-    (m, omega arith, omega arith, w, leads_on e (rw (drop-drop k (i + 1) p, ← a) at q), rw (get_or-drop (i + 1) p k 0, ← a) at d)
-from_here l cs p i n Bad h e f = stays_on e f
+    (m, omega arith, omega arith, w, e ∙ q ∙ rw (drop-drop k (i + 1) p, ← a), rw (get_or-drop (i + 1) p k 0, ← a) at d)
+from_here l cs p i n Bad h e f = e ∙ f
 
 base_big : (l : Line) → 1 < base l
 unfolding base
@@ -95,35 +94,35 @@ unfolding base
 base_16 l = pick_elim (λ (m : ℕ). m ≤ 16) (several l) (λ e. omega arith) (λ e. omega arith)
 
 pub scanned : (l : Line) (cs p : List ℕ) (i : ℕ) → Scanned l cs p i (scan (base l) i (drop i p))
-unfolding scan run
+unfolding scan finish run
 scanned l cs p i = elim (dec_lt i (length p)) [
-  | no h ↦ let g : length p ≤ i = omega arith in rw (drop_of_length-le p g) (ap (λ (x : List ℕ). line (run (gap l cs) x)) (drop_of_length-le p g))
+  | no h ↦ let g : length p ≤ i = omega arith in rw (drop_of_length-le p g) (ap (found (gap l cs)) (drop_of_length-le p g))
   | yes h ↦ rw (at_byte p i h) (go h (is_digit (base l) (get_or p i 0)) refl)
 ]
   where
     go : i < length p → (t : Bool) → is_digit (base l) (get_or p i 0) ≡ t → Scanned l cs p i (pick t (more (base l) (digit_of (get_or p i 0)) (i + 1) (drop (i + 1) p)) Bad)
-    go h false e = bad_byte (gap l cs) (at_byte p i h) (gap_other l cs (get_or p i 0) e)
+    go h false e = ap (found (gap l cs)) (at_byte p i h) ∙ gap_other l cs (get_or p i 0) (drop (i + 1) p) e
     go h true e =
         let b : ℕ = get_or p i 0 in
         let w : digit_of b < base l = digit_below (base l) b e in
         from_here l cs p i (digit_of b) (more (base l) (digit_of b) (i + 1) (drop (i + 1) p)) h
-        (leads_byte (gap l cs) (at_byte p i h) (gap_digit l cs b e))
+        (ap (found (gap l cs)) (at_byte p i h) ∙ gap_digit l cs b (drop (i + 1) p) e)
         (more_found l cs (digit_of b) (digit_of b) (i + 1) (drop (i + 1) p) (base_big l) (omega (arith, base_16 l)))
 
 -- a number that ends the bytes, or breaks a rule, or is followed by a byte that may not follow it
-num_cut : (l : Line) (cs p : List ℕ) (m j : ℕ) → length p ≤ j → line (run (num l cs m) (drop j p)) ≡ line_no l
-unfolding run
-num_cut l cs p m j h = ap (λ (x : List ℕ). line (run (num l cs m) x)) (drop_of_length-le p h)
+num_cut : (l : Line) (cs p : List ℕ) (m j : ℕ) → length p ≤ j → found (num l cs m) (drop j p) ≡ Refused (line_no l)
+unfolding finish run
+num_cut l cs p m j h = ap (found (num l cs m)) (drop_of_length-le p h)
 
-num_stop : (l : Line) (cs p : List ℕ) (m j : ℕ) → is_digit (base l) (get_or p j 0) ≡ false → fits l cs m ≡ false → line (run (num l cs m) (drop j p)) ≡ line_no l
+num_stop : (l : Line) (cs p : List ℕ) (m j : ℕ) → is_digit (base l) (get_or p j 0) ≡ false → fits l cs m ≡ false → found (num l cs m) (drop j p) ≡ Refused (line_no l)
 num_stop l cs p m j d f = elim (dec_lt j (length p)) [
-  | yes h ↦ bad_byte (num l cs m) (at_byte p j h) (num_unfit l cs m (get_or p j 0) d f)
+  | yes h ↦ ap (found (num l cs m)) (at_byte p j h) ∙ num_unfit l cs m (get_or p j 0) (drop (j + 1) p) d f
   | no h ↦ num_cut l cs p m j (omega arith)
 ]
 
-num_odd : (l : Line) (cs p : List ℕ) (m j : ℕ) → is_digit (base l) (get_or p j 0) ≡ false → eqb (get_or p j 0) 10 ≡ false → several l && eqb (get_or p j 0) 32 ≡ false → line (run (num l cs m) (drop j p)) ≡ line_no l
+num_odd : (l : Line) (cs p : List ℕ) (m j : ℕ) → is_digit (base l) (get_or p j 0) ≡ false → eqb (get_or p j 0) 10 ≡ false → several l && eqb (get_or p j 0) 32 ≡ false → found (num l cs m) (drop j p) ≡ Refused (line_no l)
 num_odd l cs p m j d f g = elim (dec_lt j (length p)) [
-  | yes h ↦ bad_byte (num l cs m) (at_byte p j h) (num_other l cs m (get_or p j 0) d f g)
+  | yes h ↦ ap (found (num l cs m)) (at_byte p j h) ∙ num_other l cs m (get_or p j 0) (drop (j + 1) p) d f g
   | no h ↦ num_cut l cs p m j (omega arith)
 ]
 
@@ -140,28 +139,25 @@ byte_at p j b e h = at_byte p j (before_end p j b e h) ∙ rw (eqb-true (get_or 
 -- a line of one number, up to the rule of its line
 abbrev pub Lined : Line → List ℕ → ℕ → Number → Type 0
 Lined l p at (Value v j) =
-    (m : ℕ) × (at < j) × (j ≤ length p) × (v ≡ cap m) × (fits l [] m ≡ true → Leads (key l 0) (drop at p) (next l [] m) (drop j p))
-    × (fits l [] m ≡ false → line (run (key l 0) (drop at p)) ≡ line_no l)
-Lined l p at Bad = line (run (key l 0) (drop at p)) ≡ line_no l
+    (m : ℕ) × (at < j) × (j ≤ length p) × (v ≡ cap m) × (fits l [] m ≡ true → found (key l 0) (drop at p) ≡ found (next l [] m) (drop j p))
+    × (fits l [] m ≡ false → found (key l 0) (drop at p) ≡ Refused (line_no l))
+Lined l p at Bad = found (key l 0) (drop at p) ≡ Refused (line_no l)
 
-close : (l : Line) (p : List ℕ) (at s : ℕ) (r : Number) → several l ≡ false → at ≤ s → Leads (key l 0) (drop at p) (key l (length (key_of l))) (drop s p) → Scanned l [] p s r → Lined l p at (closed_at p r)
+close : (l : Line) (p : List ℕ) (at s : ℕ) (r : Number) → several l ≡ false → at ≤ s → found (key l 0) (drop at p) ≡ found (gap l []) (drop s p) → Scanned l [] p s r → Lined l p at (closed_at p r)
 unfolding closed_at
-close l p at s Bad v g e f = stays_on e (past_stays l (drop s p) ∙ f)
+close l p at s Bad v g e f = e ∙ f
 close l p at s (Value n j) v g e (m, a, b, w, q, d) = go (eqb (get_or p j 0) 10) refl
   where
-    number : Leads (key l 0) (drop at p) (num l [] m) (drop j p)
-    number = leads_on e (past_leads l gap_num q)
-
     go : (t : Bool) → eqb (get_or p j 0) 10 ≡ t → Lined l p at (pick t (Value n (j + 1)) Bad)
     go true f = (
       m,
       omega arith,
       (let h : j < length p = before_end p j 10 f (omega arith) in omega arith),
       w,
-      (λ k. leads_on number (leads_byte (num l [] m) (byte_at p j 10 f (omega arith)) (lf_read l [] m k))),
-      (λ k. stays_on number (num_stop l [] p m j d k)),
+      (λ k. e ∙ q ∙ ap (found (num l [] m)) (byte_at p j 10 f (omega arith)) ∙ num_lf l [] m (drop (j + 1) p) k),
+      (λ k. e ∙ q ∙ num_stop l [] p m j d k),
     )
-    go false f = stays_on number (num_odd l [] p m j d f (rw v))
+    go false f = e ∙ q ∙ num_odd l [] p m j d f (rw v)
 
 pub lined : (l : Line) (p : List ℕ) (at : ℕ) → several l ≡ false → Lined l p at (line_at (key_of l) p at)
 unfolding line_at
@@ -171,14 +167,14 @@ lined l p at v = go (begins (key_of l) (drop at p)) refl
     go false e = key_off l (drop at p) e
     go true e =
         close l p at (at + length (key_of l)) (scan 10 (at + length (key_of l)) (drop (at + length (key_of l)) p)) v (omega arith)
-        (rw (drop-drop (length (key_of l)) at p) at (key_on l (drop at p) e))
+        (key_on l (drop at p) e ∙ rw (drop-drop (length (key_of l)) at p))
         (rw (base_ten l v) at (scanned l [] p (at + length (key_of l))))
 
 -- a code point of an add line, after the items is and the code points cs
 abbrev pub Pointed : Head → List Item → List ℕ → List ℕ → ℕ → Point → Type 0
-Pointed h is cs p i (Last v j) = (j ≤ length p) × Leads (gap (item h is adding) cs) (drop i p) (opened h (is ++ Add (cs ++ v ∷ []) ∷ [])) (drop j p)
-Pointed h is cs p i (More v j) = (j ≤ length p) × Leads (gap (item h is adding) cs) (drop i p) (gap (item h is adding) (cs ++ v ∷ [])) (drop j p)
-Pointed h is cs p i NoPoint = line (run (gap (item h is adding) cs) (drop i p)) ≡ first_item h + length is
+Pointed h is cs p i (Last v j) = (j ≤ length p) × (found (gap (item h is adding) cs) (drop i p) ≡ found (opened h (is ++ Add (cs ++ v ∷ []) ∷ [])) (drop j p))
+Pointed h is cs p i (More v j) = (j ≤ length p) × (found (gap (item h is adding) cs) (drop i p) ≡ found (gap (item h is adding) (cs ++ v ∷ [])) (drop j p))
+Pointed h is cs p i NoPoint = found (gap (item h is adding) cs) (drop i p) ≡ Refused (length is + 5)
 
 cap_le : (n k : ℕ) → k < 2000000 → leb (cap n) k ≡ leb n k
 cap_le n k h = leb_same (cap n) k n k (λ e. omega arith) (λ e. omega arith)
@@ -219,27 +215,27 @@ module _ (h : Head) (is : List Item) (few : length is < 8192) where
       l = item h is adding
 
       go : (t : Bool) → is_point (cap m) ≡ t → (u : Bool) → eqb (get_or p j 0) 10 ≡ u → (x : Bool) → eqb (get_or p j 0) 32 ≡ x → Pointed h is cs p i (pick t (pick u (Last (cap m) (j + 1)) (pick x (More (cap m) (j + 1)) NoPoint)) NoPoint)
-      go false e u f x k = stays_on q (num_stop l cs p m j d (point_fits cs m false (sym (cap_point m) ∙ e) g))
+      go false e u f x k = q ∙ num_stop l cs p m j d (point_fits cs m false (sym (cap_point m) ∙ e) g)
       go true e true f x k =
           let o : is_point m ≡ true = sym (cap_point m) ∙ e in
           let y : j < length p = before_end p j 10 f (omega arith) in
           rw (point_exact m o)
-          (omega arith, leads_on q (leads_byte (num l cs m) (byte_at p j 10 f (omega arith)) (lf_read l cs m (point_fits cs m true o g))))
+          (omega arith, q ∙ ap (found (num l cs m)) (byte_at p j 10 f (omega arith)) ∙ num_lf l cs m (drop (j + 1) p) (point_fits cs m true o g))
       go true e false f true k =
           let o : is_point m ≡ true = sym (cap_point m) ∙ e in
           let y : j < length p = before_end p j 32 k (omega arith) in
           rw (point_exact m o)
-          (omega arith, leads_on q (leads_byte (num l cs m) (byte_at p j 32 k (omega arith)) (space_read l cs m refl (point_fits cs m true o g))))
-      go true e false f false k = stays_on q (num_odd l cs p m j d f k)
+          (omega arith, q ∙ ap (found (num l cs m)) (byte_at p j 32 k (omega arith)) ∙ num_space l cs m (drop (j + 1) p) refl (point_fits cs m true o g))
+      go true e false f false k = q ∙ num_odd l cs p m j d f k
 
 pub pointed : (h : Head) (is : List Item) → length is < 8192 → (cs p : List ℕ) (i : ℕ) → added is + length cs + 1 ≤ 131070 → Pointed h is cs p i (point_at p i)
 unfolding point_at base several hexes
 pointed h is few cs p i g = ended h is few cs p i (scan 16 i (drop i p)) g (scanned (item h is adding) cs p i)
 
-pub crowded : (h : Head) (is : List Item) → length is < 8192 → (cs p : List ℕ) (i : ℕ) → 131070 < added is + length cs + 1 → line (run (gap (item h is adding) cs) (drop i p)) ≡ first_item h + length is
+pub crowded : (h : Head) (is : List Item) → length is < 8192 → (cs p : List ℕ) (i : ℕ) → 131070 < added is + length cs + 1 → found (gap (item h is adding) cs) (drop i p) ≡ Refused (length is + 5)
 unfolding line_no
 crowded h is few cs p i g = go (scan (base (item h is adding)) i (drop i p)) (scanned (item h is adding) cs p i)
   where
-    go : (r : Number) → Scanned (item h is adding) cs p i r → line (run (gap (item h is adding) cs) (drop i p)) ≡ first_item h + length is
+    go : (r : Number) → Scanned (item h is adding) cs p i r → found (gap (item h is adding) cs) (drop i p) ≡ Refused (length is + 5)
     go Bad f = f
-    go (Value v j) (m, a, b, w, q, d) = stays_on q (num_stop (item h is adding) cs p m j d (no_room h is few cs m g))
+    go (Value v j) (m, a, b, w, q, d) = q ∙ num_stop (item h is adding) cs p m j d (no_room h is few cs m g)

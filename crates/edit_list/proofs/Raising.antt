@@ -3,16 +3,18 @@
 use mathlib.Core.Path.{◌≡◌, refl, sym, ap, ◌∙◌}
 use mathlib.Core.Bool.{false}
 use mathlib.Core.List.{List, [], ◌++◌}
-use Prim.Native.Nat.{ℕ, zero, suc, ◌+◌, ◌-◌, ◌*◌, ◌≤◌, ◌<◌}
+use Prim.Native.Nat.{ℕ, ◌+◌, ◌-◌, ◌*◌, ◌≤◌, ◌<◌}
 use native.Mathlib.Nat.{zero-add}
 use native.Mathlib.Omega.{arith}
-use lib.ListN.{length, take, drop, replicate, length-append, length-replicate, get_or-replicate}
+use lib.ListN.{length, take, drop, length-append, length-replicate, get_or-replicate}
 use lib.Seq.{length-take-le}
 use borrow.Rule.Slice.PartMut.{mid_of, put_mid}
 use Rattle.room.specs.Placed.{answered}
 use Rattle.room.proofs.Answers.{same_room}
+use Rattle.refusal.specs.declared.Refusal.{Refusal}
 use Rattle.records.specs.Operations.{flat_operations}
 use Rattle.records.proofs.Operations.{length_flat}
+use Rattle.verdict.specs.declared.Verdict.{Verdict}
 use Rattle.verdict.specs.declared.Verdict.TheVariants.{Accepted as Fine}
 use Rattle.verdict.specs.Points.{points_from}
 use Rattle.raw_lists.specs.declared.Raw.{Raw}
@@ -20,26 +22,26 @@ use Rattle.raw_lists.specs.Raws.{Run, pieces_lent, flat_spans, flat_keys, raws_o
 use Rattle.raw_lists.specs.Good.{counts}
 use Rattle.raw_lists.proofs.Pieces.{length_spans, length_keys}
 use Rattle.elongate.specs.declared.Written.{Written}
+use Rattle.elongate.specs.declared.Answer.{Answer}
 use Rattle.elongate.specs.declared.Answer.TheVariants as A
 use Rattle.elongate.specs.Elongated.{arranged, elongated, cooked_from, all_tokens}
 use Rattle.elongate.specs.Places.{kind_of}
 use Rattle.elongate.specs.Verdicts.{Elongates, verdict_on}
-use Rattle.elongate.specs.Writes.{Ready, Wrote}
-use Rattle.elongate.proofs.Answering.{passed_ready, passed_writes}
-use Rattle.numbers.specs.Points.{is_point}
+use Rattle.room.proofs.Placing.{placed_length}
 use Rattle.elongate.proofs.Arranging.{total_arranged, counts_total, runs_arranged}
 use Rattle.elongate.proofs.Joining.{tokens_joined, cooked_length}
 use Rattle.elongate.proofs.Walking.{length_tokens}
 use Rattle.elongate.proofs.Laws.{no_longer}
-use Rattle.edit_format.specs.Items.{Item}
+use Rattle.edit_format.specs.Items.{Item, texts}
 use Rattle.edit_format.specs.Reading.{read_file}
 use Rattle.edit_format.proofs.TextLaws.{texts_length}
 use Rattle.edit_list.specs.declared.Made.{Made}
 use Rattle.edit_list.specs.Raws.{runs_of, list_of, items_in}
 use Rattle.edit_list.specs.Lists.{Listable, Lists}
-use Rattle.edit_list.specs.Steps.{flat_raws, RawsMade, shifted_from, Shiftable, joinable, ample, Elongable, Stands, Raised}
+use Rattle.edit_list.specs.Steps.{flat_raws, RawsMade, shifted_from, Shiftable, joinable, Elongable, Stands, Raised}
 use Rattle.edit_list.proofs.Back.{raw_list, raws_back, runs_back, length_raws, list_length, list_counts}
 use Rattle.edit_list.proofs.Runs.{runs_length, runs_join, runs_size, runs_good}
+use Rattle.edit_list.proofs.Points.{good_text}
 use Rattle.edit_list.proofs.Passing.{Sized, list_lent, passes}
 use Rattle.edit_list.proofs.Shifting.{shifts, firsts}
 use Rattle.edit_list.proofs.Making.{rest_length, rest_placed, few, little, tokens_few, good}
@@ -79,63 +81,59 @@ shiftable E o o₁ first n t e l g h =
       small = λ j m. rw e (omega (arith, firsts E q 0 0 j (omega (arith, m, l)), g));
     }
 
--- the ample text
-
-ample_long : length ample ≡ 131070
-unfolding ample
-ample_long = length-replicate {A = ℕ} 131070 0
-
-zeros_fine : (n i : ℕ) → points_from (replicate n 0) i ≡ Fine
-unfolding points_from is_point
-zeros_fine zero i = refl
-zeros_fine (suc n) i = zeros_fine n (i + 1)
-
-ample_fine : points_from ample 0 ≡ Fine
-unfolding ample
-ample_fine = zeros_fine 131070 0
-
 -- `elongate_at`
 
-module _ {raw s k : List ℕ} {first : ℕ} {o s₀ k₀ : List ℕ} (f : Elongable raw s k first o s₀ k₀) (j₀ : List ℕ) (lj : length j₀ ≡ 1024) where
-  fine : verdict_on raw s k joinable ample o (mid_of (first * 2) (length s₀ - first * 2) s₀) (mid_of first (length k₀ - first) k₀) j₀ ≡ Fine
+module _ {raw s k text : List ℕ} {first : ℕ} {o s₀ k₀ : List ℕ} (f : Elongable raw s k text first o s₀ k₀) (j₀ : List ℕ) (lj : length j₀ ≡ 1024) where
+  abbrev v : Verdict
+  v = verdict_on raw s k joinable text o (mid_of (first * 2) (length s₀ - first * 2) s₀) (mid_of first (length k₀ - first) k₀) j₀
+
+  fine : v ≡ Fine
   fine = rw (rest_length s₀ (first * 2), rest_length k₀ first, lj) f.fine
 
   abbrev E : List Run
   E = elongated (runsLent s k joinable (raws_of raw))
 
-  pub can_write : Ready s k joinable 131070 (arranged kind_of (raws_of raw)) o (mid_of (first * 2) (length s₀ - first * 2) s₀) (mid_of first (length k₀ - first) k₀) j₀
-  can_write = rw ample_long at (passed_ready raw s k joinable ample o (mid_of (first * 2) (length s₀ - first * 2) s₀) (mid_of first (length k₀ - first) k₀) j₀ fine)
+  module _ {o₁ s₁ k₁ j₁ : List ℕ} {r : Answer}
+      (h : Elongates raw s k joinable text o (mid_of (first * 2) (length s₀ - first * 2) s₀)
+      (mid_of first (length k₀ - first) k₀) j₀ o₁ s₁ k₁ j₁ v r) where
+    counted : r ≡ A.Counts (record { operations = length E; tokens = counts (raws_of raw) })
+    counted = h.answer ∙ rw fine
 
-  module _ {o₁ s₁ k₁ j₁ : List ℕ} {w : Written} (h : Wrote s k joinable (arranged kind_of (raws_of raw)) o (mid_of (first * 2) (length s₀ - first * 2) s₀)
-      (mid_of first (length k₀ - first) k₀) j₀ o₁ s₁ k₁ j₁ w) where
-    told : Elongates raw s k joinable ample o (mid_of (first * 2) (length s₀ - first * 2) s₀) (mid_of first (length k₀ - first) k₀) j₀ o₁ s₁ k₁ j₁ Fine (A.Counts w)
-    told =
-        rw fine at (passed_writes raw s k joinable ample o (mid_of (first * 2) (length s₀ - first * 2) s₀) (mid_of first (length k₀ - first) k₀) j₀ fine o₁ s₁ k₁ j₁ w h)
+    pub never_refused : (x : Refusal) → r ≡ A.Refused x → ⊥
+    never_refused x e =
+        let q : A.Refused x ≡ A.Counts (record { operations = length E; tokens = counts (raws_of raw) }) = sym e ∙ counted in
+        let z : ◌≡◌ {A = ℕ} 0 1 = cc in
+        omega arith
 
-    same : w ≡ record { operations = length E; tokens = counts (raws_of raw) }
-    same = let q : A.Counts w ≡ A.Counts (record { operations = length E; tokens = counts (raws_of raw) }) = told.answer in cc
+    cooked_are : o₁ ≡ answered (flat_operations (cooked_from E 0 0)) o
+    cooked_are = h.operations ∙ rw fine
 
-    many_operations : w.operations ≡ length E
-    many_operations = ap (λ (x : Written). x.operations) same
+    module _ (w : Written) (e : r ≡ A.Counts w) where
+      same : w ≡ record { operations = length E; tokens = counts (raws_of raw) }
+      same = let q : A.Counts w ≡ A.Counts (record { operations = length E; tokens = counts (raws_of raw) }) = sym e ∙ counted in cc
 
-    many_tokens : w.tokens ≡ counts (raws_of raw)
-    many_tokens = ap (λ (x : Written). x.tokens) same
+      many_operations : w.operations ≡ length E
+      many_operations = ap (λ (x : Written). x.operations) same
 
-    pub can_shift : first < 9000000000000000000 → Shiftable o₁ w.operations first
-    can_shift l = shiftable E o o₁ first w.operations (counts (raws_of raw)) told.operations many_operations (tokens_same s k joinable (raws_of raw))
-        (omega (arith, f.few))
+      many_tokens : w.tokens ≡ counts (raws_of raw)
+      many_tokens = ap (λ (x : Written). x.tokens) same
 
-    pub raises : {o₂ : List ℕ} → o₂ ≡ shifted_from o₁ first 0 w.operations
-        → Raised raw s k first o s₀ k₀ o₂ (put_mid (first * 2) (length s₀ - first * 2) s₀ s₁) (put_mid first (length k₀ - first) k₀ k₁) w
-    raises {o₂} g = record {
-      stands = record {
-        operations_are = shifted_list E o o₁ o₂ first w.operations told.operations many_operations g;
-        spans_are = rest_placed s₀ s₁ (flat_spans (all_tokens E)) (first * 2) f.in_spans told.in_spans;
-        keys_are = rest_placed k₀ k₁ (flat_keys (all_tokens E)) first f.in_keys told.in_keys;
-      };
-      many_operations = many_operations;
-      many_tokens = many_tokens;
-    }
+      pub can_shift : first < 9000000000000000000 → Shiftable o₁ w.operations first
+      can_shift l = shiftable E o o₁ first w.operations (counts (raws_of raw)) cooked_are many_operations (tokens_same s k joinable (raws_of raw))
+          (omega (arith, f.few))
+
+      pub raises : {o₂ : List ℕ} → o₂ ≡ shifted_from o₁ first 0 w.operations
+          → Raised raw s k first o s₀ k₀ o₂ (put_mid (first * 2) (length s₀ - first * 2) s₀ s₁) (put_mid first (length k₀ - first) k₀ k₁)
+          (record { operations = w.operations; tokens = w.tokens })
+      raises {o₂} g = record {
+        stands = record {
+          operations_are = shifted_list E o o₁ o₂ first w.operations cooked_are many_operations g;
+          spans_are = rest_placed s₀ s₁ (flat_spans (all_tokens E)) (first * 2) f.in_spans (h.in_spans ∙ rw fine);
+          keys_are = rest_placed k₀ k₁ (flat_keys (all_tokens E)) first f.in_keys (h.in_keys ∙ rw fine);
+        };
+        many_operations = many_operations;
+        many_tokens = many_tokens;
+      }
 
 -- `list_of`
 
@@ -181,7 +179,10 @@ module _ {file : List ℕ} {at first : ℕ} {text o s₀ k₀ : List ℕ} (p : L
       h.raws.in_keys (runs_join at is)
       (λ i l. get_or-replicate 1024 i 3 0 (omega (arith, l, tokens_most)))
 
-  pub elongable : Elongable (take (z.items * 3) raw') s' k' first o s₀ k₀
+  text_long : length text' ≡ length text
+  text_long = ap length h.text_is ∙ placed_length text at (texts is) (omega (arith, little file is p.accepted p.short, p.text_fits))
+
+  pub elongable : Elongable (take (z.items * 3) raw') s' k' text' first o s₀ k₀
   elongable =
       let c = list_counts 0 rs in
       let l = list_length 0 rs in
@@ -189,8 +190,8 @@ module _ {file : List ℕ} {at first : ℕ} {text o s₀ k₀ : List ℕ} (p : L
       let added_is = texts_length is in
       let tm = little file is p.accepted p.short in
       let sums = (good file is p.accepted p.short).original in
-      let sized : Sized (raw_list 0 rs) s' k' joinable ample (length o) (length s₀ - first * 2) (length k₀ - first) 1024 = record {
-        text_most = omega (arith, ample_long);
+      let sized : Sized (raw_list 0 rs) s' k' joinable text' (length o) (length s₀ - first * 2) (length k₀ - first) 1024 = record {
+        text_most = omega (arith, text_long, p.most);
         few = omega (arith, l, length_is, items_few);
         tokens = omega (arith, c, tokens_most);
         used = rw runs_are (omega (arith, runs_size at is, sums, tm, added_is));
@@ -200,10 +201,11 @@ module _ {file : List ℕ} {at first : ℕ} {text o s₀ k₀ : List ℕ} (p : L
         in_keys = omega (arith, c, tokens_most, p.keys_fit);
         in_joins = omega (arith, c, tokens_most);
       } in
-      let g = runs_good (length ample) false at is (good file is p.accepted p.short).each (omega (arith, ample_long, sums))
-      (omega (arith, added_is, tm, ample_long, p.text_fits, p.most)) in
+      let q : points_from text' 0 ≡ Fine = rw h.text_is (good_text text at is p.good (good file is p.accepted p.short).each) in
+      let g = runs_good (length text') false at is (good file is p.accepted p.short).each (omega (arith, text_long, p.long))
+      (omega (arith, added_is, tm, text_long, p.text_fits)) in
       record {
-        fine = rw raws_are (passes (raw_list 0 rs) s' k' joinable ample (length o) (length s₀ - first * 2) (length k₀ - first) 1024 sized ample_fine (rw runs_are g));
+        fine = rw raws_are (passes (raw_list 0 rs) s' k' joinable text' (length o) (length s₀ - first * 2) (length k₀ - first) 1024 sized q (rw runs_are g));
         in_spans = omega (arith, p.spans_fit);
         in_keys = omega (arith, p.keys_fit);
         few = rw raws_are (omega (arith, c, tokens_most));

@@ -2,6 +2,8 @@
 use Rattle.std.specs.Prelude.{ℕ, ◌+◌, ◌*◌, ◌≤◌, ◌≡◌, List, length}
 use Rattle.room.specs.Placed.{placed, answered}
 use Rattle.records.specs.Operations.{flat_operations}
+use Rattle.verdict.specs.declared.Verdict.TheVariants.{Accepted as Fine}
+use Rattle.verdict.specs.Points.{points_from}
 use Rattle.raw_lists.specs.Raws.{flat_spans, flat_keys}
 use Rattle.elongate.specs.Elongated.{cooked_from, all_tokens}
 use Rattle.edit_format.specs.Items.{Item, kept, dropped, texts}
@@ -13,10 +15,13 @@ use Rattle.edit_list.specs.Raws.{list_of, items_in}
 abbrev pub used_by : List ℕ → ℕ
 used_by file = kept (items_in (read_file file)) + dropped (items_in (read_file file))
 
--- "at most 2,048 bytes each", and rooms for all that so short a file can hold: its items are at most 341, its code points and its tokens at most 1,024
+-- "at most 2,048 bytes each"; a text that is long enough for every keep and drop, and rooms for all that so short a file can hold: its items
+-- are at most 341, its code points and its tokens at most 1,024
 pub record Listable (file : List ℕ) (at first : ℕ) (text operations spans keys : List ℕ) : Type 0 where
   pub accepted : read_file file ≡ Accepted (items_in (read_file file))
   pub short : length file ≤ 2048
+  pub good : points_from text 0 ≡ Fine
+  pub long : used_by file ≤ length text
   pub most : length text ≤ 131070
   pub text_fits : at + 1024 ≤ length text
   pub operations_fit : 2046 ≤ length operations

@@ -135,13 +135,9 @@ pub record Shiftable (o : List ℕ) (count by : ℕ) : Type 0 where
 abbrev pub joinable : List ℕ
 joinable = replicate 1024 3
 
--- a text that is long enough for every keep and drop; nothing of it is looked at
-unfoldable pub ample : List ℕ
-ample = replicate 131070 0
-
--- a raw list that is not refused over so long a text, with tokens for the places from `first` on
-pub record Elongable (raw s k : List ℕ) (first : ℕ) (o s' k' : List ℕ) : Type 0 where
-  pub fine : raw_verdict ample s k joinable (raws_of raw) (length o) (length s' - first * 2) (length k' - first) 1024 ≡ Fine
+-- a raw list that is not refused, with tokens for the places from `first` on
+pub record Elongable (raw s k text : List ℕ) (first : ℕ) (o s' k' : List ℕ) : Type 0 where
+  pub fine : raw_verdict text s k joinable (raws_of raw) (length o) (length s' - first * 2) (length k' - first) 1024 ≡ Fine
   pub in_spans : first * 2 ≤ length s'
   pub in_keys : first ≤ length k'
   pub few : counts (raws_of raw) ≤ 1024

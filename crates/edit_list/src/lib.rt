@@ -189,36 +189,47 @@ fn shift(operations: &mut [usize], count: usize, by: usize)
     }
 }
 
-// A raw list elongated, its tokens to place `first` of the lent tokens. All tokens are joinable. A keep's or drop's token ranges over a text as
-// long as any may be, of which nothing is looked at: so a keep that is too long for the original is for the merge to refuse.
+// A raw list elongated, its tokens to place `first` of the lent tokens. All tokens are joinable.
 fn elongate_at(
     raw: &[usize],
     raw_spans: &[u32],
     raw_keys: &[u32],
+    text: &[u32],
     first: usize,
     operations: &mut [usize],
     spans: &mut [u32],
     keys: &mut [u32],
 ) -> elongate::Written
-    requires { Elongable raw.now raw_spans.now raw_keys.now first operations.old spans.old keys.old }
+    requires { Elongable raw.now raw_spans.now raw_keys.now text.now first operations.old spans.old keys.old }
     ensures { Raised raw.now raw_spans.now raw_keys.now first operations.old spans.old keys.old operations.new spans.new keys.new result }
 {
     let joins = [3u8; 1024];
     let mut joined = [0u8; 1024];
     let low = first * 2;
-    let written = elongate::write(
+    match elongate::elongate(
         raw,
         raw_spans,
         raw_keys,
         &joins,
-        131070,
+        text,
         operations,
         &mut spans[low..],
         &mut keys[first..],
         &mut joined,
-    );
-    shift(operations, written.operations, first);
-    written
+    ) {
+        elongate::Answer::Counts(written) => {
+            let count = written.operations;
+            shift(operations, count, first);
+            elongate::Written {
+                operations: count,
+                tokens: written.tokens,
+            }
+        }
+        elongate::Answer::Refused(_) => elongate::Written {
+            operations: 0,
+            tokens: 0,
+        },
+    }
 }
 
 // The file's text goes to place `at` of the lent text, its tokens to place `first` of the lent tokens,
@@ -244,6 +255,7 @@ pub fn list_of(
         &raw[..end],
         &raw_spans,
         &raw_keys,
+        text,
         first,
         operations,
         spans,

@@ -1,5 +1,5 @@
 -- The code points of an add line: the loop's invariant, and one law for each way through a turn.
--- The bytes so far lead from the line's first code point to where the next must begin; `pointed` takes it one further. Assumes nothing.
+-- What is left after the code points so far decides what was left at the line's first; `pointed` takes it one further. Assumes nothing.
 use mathlib.Core.Path.{◌≡◌, refl, ◌∙◌}
 use mathlib.Core.List.{List, [], ◌∷◌, ◌++◌}
 use Prim.Native.Nat.{ℕ, ◌+◌, ◌≤◌, ◌<◌}
@@ -7,8 +7,7 @@ use native.Mathlib.Omega.{arith}
 use lib.ListN.{length, drop, length-append}
 use Rattle.edit_format.specs.Items.{Item, added}
 use Rattle.edit_format.specs.Written.{Head}
-use Rattle.edit_format.specs.Reading.{gap, item, adding, Leads}
-use Rattle.edit_format.proofs.Leading.{leads_none, leads_on, stays_on}
+use Rattle.edit_format.specs.Reading.{gap, item, adding, found}
 use Rattle.edit_lines.specs.Scan.{point_at}
 use Rattle.edit_read.specs.Judged.{PointsRead}
 use Rattle.edit_lines.specs.declared.Point.{Point}
@@ -38,10 +37,10 @@ pub record SoFar (p : List ℕ) (at a k i : ℕ) : Type 0 where
   pub room : a + k ≤ 131070
   pub reads :
       (h : Head) (is : List Item) → added is ≡ a → length is < 8192
-      → (cs : List ℕ) × (length cs ≡ k) × Leads (gap (item h is adding) []) (drop at p) (gap (item h is adding) cs) (drop i p)
+      → (cs : List ℕ) × (length cs ≡ k) × (found (gap (item h is adding) []) (drop at p) ≡ found (gap (item h is adding) cs) (drop i p))
 
 pub starts : (p : List ℕ) (at a : ℕ) → at ≤ length p → a ≤ 131070 → SoFar p at a 0 at
-starts p at a h g = record { most = h; room = omega arith; reads = λ x is e f. ([], refl, leads_none (gap (item x is adding) []) (drop at p)) }
+starts p at a h g = record { most = h; room = omega arith; reads = λ x is e f. ([], refl, refl) }
 
 module _ (p : List ℕ) (at a k i : ℕ) (s : SoFar p at a k i) where
   pub goes_on : {v j : ℕ} → a + k < 131070 → point_at p i ≡ More v j → SoFar p at a (k + 1) j
@@ -53,11 +52,11 @@ module _ (p : List ℕ) (at a k i : ℕ) (s : SoFar p at a k i) where
     where
       turned :
           (h : Head) (is : List Item) → added is ≡ a → length is < 8192
-          → (cs : List ℕ) × (length cs ≡ k) × Leads (gap (item h is adding) []) (drop at p) (gap (item h is adding) cs) (drop i p)
-          → (cs : List ℕ) × (length cs ≡ k + 1) × Leads (gap (item h is adding) []) (drop at p) (gap (item h is adding) cs) (drop j p)
+          → (cs : List ℕ) × (length cs ≡ k) × (found (gap (item h is adding) []) (drop at p) ≡ found (gap (item h is adding) cs) (drop i p))
+          → (cs : List ℕ) × (length cs ≡ k + 1) × (found (gap (item h is adding) []) (drop at p) ≡ found (gap (item h is adding) cs) (drop j p))
       turned h is f w (cs, l, q) =
           let t : Pointed h is cs p i (More v j) = rw e at (pointed h is w cs p i (omega arith)) in
-          (cs ++ v ∷ [], length-append cs (v ∷ []) ∙ omega arith, leads_on q t.1)
+          (cs ++ v ∷ [], length-append cs (v ∷ []) ∙ omega arith, q ∙ t.1)
 
   pub ends : {v j : ℕ} → a + k < 131070 → point_at p i ≡ Last v j → PointsRead p at a (GoodPoints (k + 1) j)
   ends {v} {j} g e = record {
@@ -66,7 +65,7 @@ module _ (p : List ℕ) (at a k i : ℕ) (s : SoFar p at a k i) where
         let r = s.reads h is f w in
         let l : length r.0 ≡ k = r.1 in
         let t : Pointed h is r.0 p i (Last v j) = rw e at (pointed h is w r.0 p i (omega arith)) in
-        (r.0 ++ v ∷ [], length-append r.0 (v ∷ []) ∙ omega arith, leads_on r.2 t.1);
+        (r.0 ++ v ∷ [], length-append r.0 (v ∷ []) ∙ omega arith, r.2 ∙ t.1);
   }
 
   pub fails : a + k < 131070 → point_at p i ≡ NoPoint → PointsRead p at a BadPoints
@@ -76,7 +75,7 @@ module _ (p : List ℕ) (at a k i : ℕ) (s : SoFar p at a k i) where
         let r = s.reads h is f w in
         let l : length r.0 ≡ k = r.1 in
         let t : Pointed h is r.0 p i NoPoint = rw e at (pointed h is w r.0 p i (omega arith)) in
-        stays_on r.2 t;
+        r.2 ∙ t;
   }
 
   pub is_full : 131070 ≤ a + k → PointsRead p at a BadPoints
@@ -85,5 +84,5 @@ module _ (p : List ℕ) (at a k i : ℕ) (s : SoFar p at a k i) where
     says = λ h is f w.
         let r = s.reads h is f w in
         let l : length r.0 ≡ k = r.1 in
-        stays_on r.2 (crowded h is w r.0 p i (omega arith));
+        r.2 ∙ crowded h is w r.0 p i (omega arith);
   }

@@ -19,11 +19,10 @@ pub use Rattle.item_records.proofs.Storing.{three_stores}
 use Rattle.edit_format.specs.Tests.{begins}
 use Rattle.edit_format.specs.Items.{Item, Add, kept, dropped, added, texts, ends_keep}
 use Rattle.edit_format.specs.Written.{Head, add_key}
-use Rattle.edit_format.specs.Reading.{Kind, keeping, dropping, adding, Line, item, key, gap, open', first_item, line_no, line, kind_key, key_of, hexes, several, fits, fits_item, kind_of, item_of, next, Accepted, finish, run, found}
+use Rattle.edit_format.specs.Reading.{Kind, keeping, dropping, adding, item, key, gap, open', kind_key, key_of, hexes, several, fits, fits_item, kind_of, item_of, next, Accepted, finish, run, found}
 use Rattle.edit_format.specs.Records.{record_of, size}
 use Rattle.edit_format.proofs.NoBeginning.{never}
-use Rattle.edit_format.proofs.Leading.{leads_found, stays_found}
-use Rattle.edit_format.proofs.Finding.{key_on, key_off, past_found, open_found}
+use Rattle.edit_format.proofs.Finding.{key_on, key_off, open_as}
 use Rattle.edit_format.proofs.Rests.{one_more}
 use Rattle.edit_lines.proofs.Leaves.{at_byte}
 use Rattle.edit_lines.specs.Scan.{scan, closed_at, line_at, point_at, Stands}
@@ -46,19 +45,11 @@ placed_more d cs at v h =
     (set_at (take at d ++ cs) (get_or d (at + length cs) 0) (drop (suc (at + length cs)) d) v (at + length cs) e
     ∙ sym (ap (λ (l : List ℕ). l ++ drop (suc (at + length cs)) d) (sym (append_assoc (take at d) cs (v ∷ []))) ∙ append_assoc (take at d ++ cs) (v ∷ []) (drop (suc (at + length cs)) d)))
 
--- no line of an accepted file is one that the reader never leaves
-left_gap : (h : Head) (is : List Item) (cs bs : List ℕ) {js : List Item} → found (gap (item h is adding) cs) bs ≡ Accepted js → line (run (gap (item h is adding) cs) bs) ≡ first_item h + length is → ⊥
-unfolding line_no
-left_gap h is cs bs e s = never (sym (stays_found (gap (item h is adding) cs) bs tt refl s) ∙ e)
-
-left_key : (l : Line) (bs : List ℕ) {js : List Item} → found (key l 0) bs ≡ Accepted js → line (run (key l 0) bs) ≡ line_no l → ⊥
-left_key l bs e s = never (sym (stays_found (key l 0) bs tt refl s) ∙ e)
-
 -- an accepted add line passes no size
 roomy : (h : Head) (is : List Item) → length is < 8192 → (cs p : List ℕ) (i : ℕ) {js : List Item} → found (gap (item h is adding) cs) (drop i p) ≡ Accepted js → added is + length cs + 1 ≤ 131070
 roomy h is few cs p i e = elim (dec_le (added is + length cs + 1) 131070) [
   | yes g ↦ g
-  | no g ↦ absurd (left_gap h is cs (drop i p) e (crowded h is few cs p i (omega arith)))
+  | no g ↦ absurd (never (sym (crowded h is few cs p i (omega arith)) ∙ e))
 ]
 
 pub record Putting (p : List ℕ) (at start : ℕ) (d o : List ℕ) (place i : ℕ) : Type 0 where
@@ -91,7 +82,7 @@ module _ {p : List ℕ} {at start : ℕ} {d o : List ℕ} {place i : ℕ} (q : P
           r.0 ++ v ∷ [],
           (rw (length-append r.0 (v ∷ [])) (omega arith)),
           (rw (r.2, l) (placed_more d r.0 start v (omega (arith, q.same)))),
-          sym (leads_found t.1) ∙ r.3,
+          sym t.1 ∙ r.3,
         );
   }
 
@@ -105,7 +96,7 @@ module _ {p : List ℕ} {at start : ℕ} {d o : List ℕ} {place i : ℕ} (q : P
           r.0 ++ v ∷ [],
           (rw (length-append r.0 (v ∷ [])) (omega arith)),
           (rw (r.2, l) (placed_more d r.0 start v (omega (arith, q.same)))),
-          sym (leads_found t.1) ∙ r.3,
+          sym t.1 ∙ r.3,
         );
   }
 
@@ -114,7 +105,7 @@ module _ {p : List ℕ} {at start : ℕ} {d o : List ℕ} {place i : ℕ} (q : P
   stands a e =
       let r = q.reads a.head a.done a.items a.few a.place a.text a.left in
       let t : Pointed a.head a.done r.0 p i NoPoint = rw e at (pointed a.head a.done a.few r.0 p i (roomy a.head a.done a.few r.0 p i r.3)) in
-      left_gap a.head a.done r.0 (drop i p) r.3 t
+      never (sym t ∙ r.3)
 
   pub fails : point_at p i ≡ NoPoint → PointsPut p at start d o BadSpot
   fails e = record {
@@ -122,7 +113,7 @@ module _ {p : List ℕ} {at start : ℕ} {d o : List ℕ} {place i : ℕ} (q : P
     says = λ h is js a b c f.
         let r = q.reads h is js a b c f in
         let t : Pointed h is r.0 p i NoPoint = rw e at (pointed h is a r.0 p i (roomy h is a r.0 p i r.3)) in
-        left_gap h is r.0 (drop i p) r.3 t;
+        never (sym t ∙ r.3);
   }
 
   pub is_full : length o ≤ place → PointsPut p at start d o BadSpot
@@ -149,14 +140,14 @@ number_size dropping m o = (refl, refl)
 number_size adding m o = no_way (sym o)
 
 module _ (p : List ℕ) (k : Kind) (one : hexes k ≡ false) (at : ℕ) where
-  found_line : (h : Head) (is : List Item) (r : Number) → line_at (kind_key k) p at ≡ r → Lined (item h is k) p at r
+  line : (h : Head) (is : List Item) (r : Number) → line_at (kind_key k) p at ≡ r → Lined (item h is k) p at r
   unfolding key_of several
-  found_line h is r e = rw e at (lined (item h is k) p at one)
+  line h is r e = rw e at (lined (item h is k) p at one)
 
   -- so its number stands behind its key
   stands_as : (h : Head) (is js : List Item) → found (key (item h is k) 0) (drop at p) ≡ Accepted js → {v j : ℕ} → line_at (kind_key k) p at ≡ Value v j → length (kind_key k) ≡ 5 → (t : Lined (item h is k) p at (Value v j)) (u : Bool) → fits (item h is k) [] t.0 ≡ u → Numbered k p at
   unfolding fits
-  stands_as h is js g e l (m, b, c, w, y, n) false u = absurd (left_key (item h is k) (drop at p) g (n u))
+  stands_as h is js g e l (m, b, c, w, y, n) false u = absurd (never (sym (n u) ∙ g))
   stands_as h is js g {v} {j} e l (m, b, c, w, y, n) true u =
       let s : m ≤ 65535 = number_small is k m one (and_right (ltb (length is) 8192) _ u) in
       let q = line_parts (kind_key k) p at v j e in
@@ -166,8 +157,8 @@ module _ (p : List ℕ) (k : Kind) (one : hexes k ≡ false) (at : ℕ) where
   number_stands l h is js g = go (line_at (kind_key k) p at) refl
     where
       go : (r : Number) → line_at (kind_key k) p at ≡ r → Numbered k p at
-      go Bad e = absurd (left_key (item h is k) (drop at p) g (found_line h is Bad e))
-      go (Value v j) e = let t = found_line h is (Value v j) e in stands_as h is js g e l t (fits (item h is k) [] t.0) refl
+      go Bad e = absurd (never (sym (line h is Bad e) ∙ g))
+      go (Value v j) e = let t = line h is (Value v j) e in stands_as h is js g e l t (fits (item h is k) [] t.0) refl
 
   -- and is that of the line
   pub number_line : length (kind_key k) ≡ 5 → Numbered k p at → {v j : ℕ} → closed_at p (scan 10 (at + 5) (drop (at + 5) p)) ≡ Value v j → line_at (kind_key k) p at ≡ Value v j
@@ -177,20 +168,20 @@ module _ (p : List ℕ) (k : Kind) (one : hexes k ≡ false) (at : ℕ) where
 module _ (p : List ℕ) (k : Kind) (one : hexes k ≡ false) (at start place : ℕ) (d : List ℤ) where
   fitted : {d' : List ℤ} {v j : ℕ} → d' ≡ placed d place (record_of start (item_of k [] v)) → (h : Head) (is js : List Item) → found (key (item h is k) 0) (drop at p) ≡ Accepted js → (t : Lined (item h is k) p at (Value v j)) (u : Bool) → fits (item h is k) [] t.0 ≡ u → NumberIn h is js p start place d d' (GoodSpot start j)
   unfolding fits next
-  fitted f h is js g (m, b, c, w, y, n) false u = absurd (left_key (item h is k) (drop at p) g (n u))
+  fitted f h is js g (m, b, c, w, y, n) false u = absurd (never (sym (n u) ∙ g))
   fitted {d'} {v} {j} f h is js g (m, b, c, w, y, n) true u =
       let s : m ≤ 65535 = number_small is k m one (and_right (ltb (length is) 8192) _ u) in
       let x : v ≡ m = omega arith in
-      (item_of k [] m, refl, (number_size k m one).0, (number_size k m one).1, f ∙ rw x, sym (leads_found (y u)) ∙ g)
+      (item_of k [] m, refl, (number_size k m one).0, (number_size k m one).1, f ∙ rw x, sym (y u) ∙ g)
 
   pub number_put : {d' : List ℤ} {v j : ℕ} → line_at (kind_key k) p at ≡ Value v j → d' ≡ placed d place (record_of start (item_of k [] v)) → NumberPut p k at start place d d' (GoodSpot start j)
-  number_put {d'} {v} {j} e f = record { says = λ h is js a g. let t = found_line p k one at h is (Value v j) e in fitted f h is js g t (fits (item h is k) [] t.0) refl }
+  number_put {d'} {v} {j} e f = record { says = λ h is js a g. let t = line p k one at h is (Value v j) e in fitted f h is js g t (fits (item h is k) [] t.0) refl }
 
 -- what stands at a place, and what is left there, as the line's kind and its key are read
 module _ (p : List ℕ) (at : ℕ) where
   to_points : (h : Head) (is : List Item) → begins add_key (drop at p) ≡ true → found (key (item h is adding) 0) (drop at p) ≡ found (gap (item h is adding) []) (drop (at + 4) p)
   unfolding key_of kind_key
-  to_points h is b = leads_found (key_on (item h is adding) (drop at p) b) ∙ past_found (item h is adding) (drop 4 (drop at p)) ∙ rw (drop-drop 4 at p)
+  to_points h is b = key_on (item h is adding) (drop at p) b ∙ rw (drop-drop 4 at p)
 
   -- an accepted add line has its key
   pub add_keyed : {start m : ℕ} → Accepting (λ (h : Head). λ (is : List Item). key (item h is adding) 0) p at start m → begins add_key (drop at p) ≡ true
@@ -199,7 +190,7 @@ module _ (p : List ℕ) (at : ℕ) where
     where
       go : (t : Bool) → begins add_key (drop at p) ≡ t → begins add_key (drop at p) ≡ true
       go true e = e
-      go false e = absurd (left_key (item a.head a.done adding) (drop at p) a.left (key_off (item a.head a.done adding) (drop at p) e))
+      go false e = absurd (never (sym (key_off (item a.head a.done adding) (drop at p) e) ∙ a.left))
 
   pub to_text : {start m : ℕ} → begins add_key (drop at p) ≡ true → Accepting (λ (h : Head). λ (is : List Item). key (item h is adding) 0) p at start m → Accepting (λ (h : Head). λ (is : List Item). gap (item h is adding) []) p (at + 4) start m
   to_text b a = record {
@@ -222,7 +213,7 @@ module _ (p : List ℕ) (at : ℕ) where
 
   -- the kind by the line's first byte
   same_line : (k : Kind) (h : Head) (is : List Item) → at < length p → kind_of (get_or p at 0) ≡ k → found (open' h is) (drop at p) ≡ found (key (item h is k) 0) (drop at p)
-  same_line k h is g f = open_found h is (at_byte p at g) f
+  same_line k h is g f = rw (at_byte p at g) (open_as h is (get_or p at 0) (drop (at + 1) p) ∙ rw f)
 
   pub to_add : {start m : ℕ} → at < length p → kind_of (get_or p at 0) ≡ adding → Accepting open' p at start m → Accepting (λ (h : Head). λ (is : List Item). key (item h is adding) 0) p at start m
   to_add g f a = record {

@@ -12,12 +12,10 @@ use borrow.Author.Tests.{lt-ltb, le-leb, lt-leb}
 use Rattle.room.proofs.Bools.{and_false}
 use Rattle.edit_format.specs.Tests.{begins}
 use Rattle.edit_format.specs.Items.{Item, Keep, Drop, Add, kept, dropped, added, is_keep, ends_keep}
-use Rattle.edit_format.specs.Written.{Head, add_key, item_line}
-use Rattle.edit_format.specs.Reading.{Kind, keeping, dropping, adding, item, key, open', line_no, line, kind_key, key_of, hexes, several, fits, fits_item, kind_of, item_of, next, run, Leads}
+use Rattle.edit_format.specs.Written.{Head, add_key}
+use Rattle.edit_format.specs.Reading.{Kind, keeping, dropping, adding, item, State, key, gap, open', line_no, kind_key, key_of, hexes, several, fits, fits_item, kind_of, item_of, next, finish, run, found}
 use Rattle.edit_format.proofs.ReadBack.{kept_append, dropped_append, added_append, ends_snoc}
-use Rattle.edit_format.proofs.Canonical.{line_bytes}
-use Rattle.edit_format.proofs.Leading.{leads_on, stays_on}
-use Rattle.edit_format.proofs.Finding.{key_on, key_off, past_leads, past_stays, gap_opened, open_leads, open_stays}
+use Rattle.edit_format.proofs.Finding.{key_on, key_off, open_as}
 use Rattle.edit_lines.specs.Scan.{cap, line_at}
 use Rattle.edit_read.specs.Judged.{PointsRead, Holds, Within, ItemFound, ItemRead}
 use Rattle.edit_lines.specs.declared.Number.{Number}
@@ -34,19 +32,19 @@ abbrev pub Reads : Kind → List ℕ → Sums → Turn → Type 0
 Reads k = ItemRead (λ (h : Head). λ (is : List Item). key (item h is k) 0)
 
 module _ (p : List ℕ) (s : Sums) (k : Kind) (one : hexes k ≡ false) where
-  found_line : (h : Head) (is : List Item) (r : Number) → line_at (kind_key k) p s.next ≡ r → Lined (item h is k) p s.next r
+  line : (h : Head) (is : List Item) (r : Number) → line_at (kind_key k) p s.next ≡ r → Lined (item h is k) p s.next r
   unfolding key_of several
-  found_line h is r e = rw e at (lined (item h is k) p s.next one)
+  line h is r e = rw e at (lined (item h is k) p s.next one)
 
   pub no_line : line_at (kind_key k) p s.next ≡ Bad → Reads k p s BadItem
   unfolding line_no
-  no_line e = record { says = λ h is o f. found_line h is Bad e }
+  no_line e = record { says = λ h is o f. line h is Bad e }
 
   pub unfit : {v j : ℕ} → line_at (kind_key k) p s.next ≡ Value v j → ((is : List Item) → Holds s is → (m : ℕ) → v ≡ cap m → fits_item is k [] m ≡ false) → Reads k p s BadItem
   unfolding line_no fits
   unfit {v} {j} e u = record {
     says = λ h is o f.
-        let t : Lined (item h is k) p s.next (Value v j) = found_line h is (Value v j) e in
+        let t : Lined (item h is k) p s.next (Value v j) = line h is (Value v j) e in
         t.5 (rw (u is o t.0 t.3) (and_false (ltb (length is) 8192)));
   }
 
@@ -54,7 +52,7 @@ module _ (p : List ℕ) (s : Sums) (k : Kind) (one : hexes k ≡ false) where
   unfolding next fits
   fit {v} {t} e w u = record {
     says = λ h is o f.
-        let d : Lined (item h is k) p s.next (Value v t.next) = found_line h is (Value v t.next) e in
+        let d : Lined (item h is k) p s.next (Value v t.next) = line h is (Value v t.next) e in
         let x = u is o d.0 d.3 in
         (item_of k [] d.0, x.1, w, d.4 (rw (lt-ltb (length is) 8192 f) x.0));
   }
@@ -86,7 +84,7 @@ module _ (p : List ℕ) (s : Sums) {v j : ℕ} where
 
   -- every number line ends in the bytes
   pub in_bytes : (k : Kind) → hexes k ≡ false → line_at (kind_key k) p s.next ≡ Value v j → j ≤ length p
-  in_bytes k one e = (found_line p s k one (record { original = 0; result = 0; count = 0 }) [] (Value v j) e).2
+  in_bytes k one e = (line p s k one (record { original = 0; result = 0; count = 0 }) [] (Value v j) e).2
 
   pub keep_fits : Within p s → line_at (kind_key keeping) p s.next ≡ Value v j → s.joined ≡ false → 1 ≤ v → s.used + v ≤ 65535
       → Reads keeping p s (GoodItem (record { next = j; used = s.used + v; kept = s.kept + v; added = s.added; joined = true }))
@@ -113,12 +111,12 @@ module _ (p : List ℕ) (s : Sums) where
   unfolding key_of kind_key line_no
   add_off e = record { says = λ h is o f. key_off (item h is adding) (drop s.next p) e }
 
-  add_on : (h : Head) (is : List Item) → begins add_key (drop s.next p) ≡ true → Leads (key (item h is adding) 0) (drop s.next p) (key (item h is adding) (length (key_of (item h is adding)))) (drop (s.next + 4) p)
+  add_on : (h : Head) (is : List Item) → begins add_key (drop s.next p) ≡ true → found (key (item h is adding) 0) (drop s.next p) ≡ found (gap (item h is adding) []) (drop (s.next + 4) p)
   unfolding key_of kind_key
-  add_on h is e = rw (drop-drop 4 s.next p) at (key_on (item h is adding) (drop s.next p) e)
+  add_on h is e = key_on (item h is adding) (drop s.next p) e ∙ rw (drop-drop 4 s.next p)
 
   pub add_fails : begins add_key (drop s.next p) ≡ true → PointsRead p (s.next + 4) s.added BadPoints → Reads adding p s BadItem
-  add_fails e r = record { says = λ h is o f. stays_on (add_on h is e) (past_stays (item h is adding) (drop (s.next + 4) p) ∙ r.says h is (sym o.text) f) }
+  add_fails e r = record { says = λ h is o f. add_on h is e ∙ r.says h is (sym o.text) f }
 
   pub add_fits : {n j : ℕ} → Within p s → begins add_key (drop s.next p) ≡ true → PointsRead p (s.next + 4) s.added (GoodPoints n j)
       → Reads adding p s (GoodItem (record { next = j; used = s.used; kept = s.kept; added = s.added + n; joined = false }))
@@ -131,25 +129,21 @@ module _ (p : List ℕ) (s : Sums) where
           x,
           more_holds _ is x (omega (arith, o.used, kept_append is (x ∷ []), dropped_append is (x ∷ []))) (omega (arith, o.keeps, kept_append is (x ∷ []))) (omega (arith, o.text, added_append is (x ∷ []))) refl,
           record { next = r.fit.1; used = w.used; keeps = w.keeps; text = r.fit.0 },
-          leads_on (add_on h is e) (past_leads (item h is adding) (gap_opened (item h is adding) [] h (is ++ x ∷ [])) q.2),
+          add_on h is e ∙ q.2,
         );
   }
 
+  swap : (a b : State) (h : Head) (is : List Item) (r : Turn) → found a (drop s.next p) ≡ found b (drop s.next p) → ItemFound b h is p s r → ItemFound a h is p s r
+  swap a b h is (GoodItem t) e (x, o, w, q) = (x, o, w, e ∙ q)
+  swap a b h is BadItem e q = e ∙ q
+
   -- the kind by the line's first byte
   pub as_kind : (k : Kind) {r : Turn} → s.next < length p → kind_of (get_or p s.next 0) ≡ k → Reads k p s r → ItemRead open' p s r
-  as_kind k {r} h e q = record { says = λ g is o f. go g is r (q.says g is o f) }
+  as_kind k {r} h e q = record { says = λ g is o f. swap (open' g is) (key (item g is k) 0) g is r (same_line g is) (q.says g is o f) }
     where
-      go : (g : Head) (is : List Item) (r : Turn) → ItemFound (key (item g is k) 0) g is p s r → ItemFound (open' g is) g is p s r
-      go g is (GoodItem t) (x, o, w, d) = (x, o, w, open_leads g is (at_byte p s.next h) e g (is ++ x ∷ []) d)
-      go g is BadItem d = open_stays g is (at_byte p s.next h) e ∙ d
+      same_line : (g : Head) (is : List Item) → found (open' g is) (drop s.next p) ≡ found (key (item g is k) 0) (drop s.next p)
+      same_line g is = rw (at_byte p s.next h) (open_as g is (get_or p s.next 0) (drop (s.next + 1) p) ∙ rw e)
 
   pub cut_off : length p ≤ s.next → ItemRead open' p s BadItem
-  unfolding run
-  cut_off h = record { says = λ g is o f. ap (λ (x : List ℕ). line (run (open' g is) x)) (drop_of_length-le p h) }
-
--- the item taken is the one whose line stands there, also in a file that is refused further on
-pub takes_line : {p : List ℕ} {s t : Sums} {is : List Item} → ItemRead open' p s (GoodItem t) → Holds s is → length is < 8192 → (x : Item) × Holds t (is ++ x ∷ []) × (drop s.next p ≡ item_line x ++ drop t.next p)
-takes_line {p} {s} {t} {is} r o f =
-    let h : Head = record { original = 0; result = 0; count = 0 } in
-    let q = r.says h is o f in
-    (q.0, q.1, line_bytes h is q.0 (drop s.next p) (drop t.next p) q.3)
+  unfolding finish run
+  cut_off h = record { says = λ g is o f. ap (found (open' g is)) (drop_of_length-le p h) }

@@ -1,5 +1,5 @@
 -- The judging pass: its invariant's start and turn, each way out of the end line, and what a verdict says of the two answers.
--- The lines so far lead to where the reader stands, so what is left decides what the file is found to be, and each way out is one step from there. Assumes nothing.
+-- What is left decides what the file is found to be, so each way out is one step from there. Assumes nothing.
 use mathlib.Core.Path.{◌≡◌, refl, sym, ap, ◌∙◌, subst}
 use mathlib.Core.Bool.{false}
 use mathlib.Core.List.{List, [], ◌∷◌, ◌++◌}
@@ -11,8 +11,7 @@ use borrow.Author.Tests.{eq-eqb, ne_eqb}
 use Rattle.refusal.specs.declared.Refusal.TheVariants.{Line as BadLine}
 use Rattle.edit_format.specs.Items.{Item, kept, dropped, added, ends_keep}
 use Rattle.edit_format.specs.Written.{Head, end_key}
-use Rattle.edit_format.specs.Reading.{Line, form, ending, key, open', after, first_item, result_line, line_no, line, key_of, several, fits, opened, next, step, run, Leads, Accepted, Refused, finish, found, read_file, believes}
-use Rattle.edit_format.proofs.Leading.{leads_on, leads_found, stays_found}
+use Rattle.edit_format.specs.Reading.{Line, ending, key, open', after, line_no, key_of, several, fits, opened, next, step, run, Accepted, Refused, finish, found, read_file, believes}
 use Rattle.edit_format.proofs.Finding.{found_bad}
 use Rattle.edit_format.proofs.TextLaws.{texts_length}
 use Rattle.edit_lines.specs.Scan.{cap, line_at}
@@ -61,8 +60,8 @@ unfolding opened
 opened_last h is g = rw (eq-eqb (length is) h.count g)
 
 module _ {p : List ℕ} {t : Header} {s : Sums} {i : ℕ} (j : Judging p t s i) where
-  here : i < t.count → Leads (key form 0) p (open' j.head j.items) (drop s.next p)
-  here g = rw (opened_more j.head j.items (omega (arith, j.many, j.count))) at j.left
+  here : i < t.count → read_file p ≡ found (open' j.head j.items) (drop s.next p)
+  here g = j.left ∙ rw (opened_more j.head j.items (omega (arith, j.many, j.count)))
 
   pub goes_on : {u : Sums} → i < t.count → ItemRead open' p s (GoodItem u) → Judging p t u (i + 1)
   goes_on {u} g r =
@@ -79,16 +78,11 @@ module _ {p : List ℕ} {t : Header} {s : Sums} {i : ℕ} (j : Judging p t s i) 
         holds = q.1;
         within = q.2;
         first = j.first;
-        left = leads_on (here g) q.3;
+        left = here g ∙ q.3;
       }
 
-  pub fails : i < t.count → ItemRead open' p s BadItem → Judged p (No (first_item j.head + i))
-  unfolding read_file
-  fails g r = record {
-    says =
-        leads_found (here g) ∙ stays_found (open' j.head j.items) (drop s.next p) tt refl (r.says j.head j.items j.holds (omega (arith, j.many, j.count, j.few)))
-        ∙ ap (λ (n : ℕ). Refused (first_item j.head + n)) j.many;
-  }
+  pub fails : i < t.count → ItemRead open' p s BadItem → Judged p (No (i + 5))
+  fails g r = record { says = here g ∙ r.says j.head j.items j.holds (omega (arith, j.many, j.count, j.few)) ∙ ap (λ (n : ℕ). Refused (n + 5)) j.many }
 
 -- all items were read
 pub whole : {p : List ℕ} {t : Header} {s : Sums} {i : ℕ} → Judging p t s i → t.count ≤ i → Judging p t s t.count
@@ -101,53 +95,53 @@ module _ {p : List ℕ} {t : Header} {s : Sums} (j : Judging p t s t.count) wher
   all_read : length j.items ≡ j.head.count
   all_read = j.many ∙ j.count
 
-  at_end : Leads (key form 0) p (key l 0) (drop s.next p)
+  at_end : read_file p ≡ found (key l 0) (drop s.next p)
   unfolding l
-  at_end = rw (opened_last j.head j.items all_read) at j.left
+  at_end = j.left ∙ rw (opened_last j.head j.items all_read)
 
   end_line : (r : Number) → line_at end_key p s.next ≡ r → Lined l p s.next r
   unfolding l key_of several
   end_line r e = rw e at (lined l p s.next refl)
 
-  charged : line (run (key l 0) (drop s.next p)) ≡ line_no l → Judged p (No (first_item j.head + t.count))
-  unfolding l line_no read_file
-  charged e = record { says = leads_found at_end ∙ stays_found (key l 0) (drop s.next p) tt refl e ∙ ap (λ (n : ℕ). Refused (first_item j.head + n)) j.many }
+  charged : read_file p ≡ Refused (line_no l) → Judged p (No (t.count + 5))
+  unfolding l line_no
+  charged e = record { says = e ∙ ap (λ (n : ℕ). Refused (n + 5)) j.many }
 
-  pub no_end : line_at end_key p s.next ≡ Bad → Judged p (No (first_item j.head + t.count))
-  no_end e = charged (end_line Bad e)
+  pub no_end : line_at end_key p s.next ≡ Bad → Judged p (No (t.count + 5))
+  no_end e = charged (at_end ∙ end_line Bad e)
 
-  pub other_end : {v k : ℕ} → line_at end_key p s.next ≡ Value v k → (v ≡ t.count → ⊥) → Judged p (No (first_item j.head + t.count))
+  pub other_end : {v k : ℕ} → line_at end_key p s.next ≡ Value v k → (v ≡ t.count → ⊥) → Judged p (No (t.count + 5))
   unfolding l fits
   other_end {v} {k} e n =
       let d : Lined l p s.next (Value v k) = end_line (Value v k) e in
       let w : v ≡ cap d.0 = d.3 in
-      charged (d.5 (ne_eqb d.0 j.head.count (λ z. n (omega (arith, j.count, j.few)))))
+      charged (at_end ∙ d.5 (ne_eqb d.0 j.head.count (λ z. n (omega (arith, j.count, j.few)))))
 
   module _ {v k : ℕ} (e : line_at end_key p s.next ≡ Value v k) (same : v ≡ t.count) where
-    past : Leads (key form 0) p (after j.head j.items) (drop k p)
+    past : read_file p ≡ found (after j.head j.items) (drop k p)
     unfolding l fits next
     past =
         let d : Lined l p s.next (Value v k) = end_line (Value v k) e in
         let w : v ≡ cap d.0 = d.3 in
-        leads_on at_end (d.4 (eq-eqb d.0 j.head.count (omega (arith, j.count, j.few))))
+        at_end ∙ d.4 (eq-eqb d.0 j.head.count (omega (arith, j.count, j.few)))
 
-    pub more_bytes : k < length p → Judged p (No (first_item j.head + t.count + 1))
-    unfolding read_file run step
+    pub more_bytes : k < length p → Judged p (No (t.count + 6))
+    unfolding run step
     more_bytes g = record {
       says =
-          leads_found past ∙ ap (found (after j.head j.items)) (at_byte p k g) ∙ found_bad (first_item j.head + length j.items + 1) (drop (k + 1) p)
-          ∙ ap (λ (n : ℕ). Refused (first_item j.head + n + 1)) j.many;
+          past ∙ ap (found (after j.head j.items)) (at_byte p k g) ∙ found_bad (length j.items + 6) (drop (k + 1) p)
+          ∙ ap (λ (n : ℕ). Refused (n + 6)) j.many;
     }
 
     summed : length p ≤ k → read_file p ≡ finish (after j.head j.items)
-    unfolding read_file run
-    summed g = leads_found past ∙ ap (found (after j.head j.items)) (drop_of_length-le p g)
+    unfolding run
+    summed g = past ∙ ap (found (after j.head j.items)) (drop_of_length-le p g)
 
     pub false_original : length p ≤ k → (s.used ≡ t.original → ⊥) → Judged p (No 2)
     unfolding finish
     false_original g n = record { says = summed g ∙ rw (ne_eqb (kept j.items + dropped j.items) j.head.original (λ z. n (j.holds.used ∙ z ∙ sym j.original))) }
 
-    pub false_result : length p ≤ k → s.used ≡ t.original → (s.kept + s.added ≡ t.result → ⊥) → Judged p (No (result_line j.head))
+    pub false_result : length p ≤ k → s.used ≡ t.original → (s.kept + s.added ≡ t.result → ⊥) → Judged p (No 3)
     unfolding finish
     false_result g a n = record {
       says =
@@ -156,20 +150,16 @@ module _ {p : List ℕ} {t : Header} {s : Sums} (j : Judging p t s t.count) wher
     }
 
     pub accepts : length p ≤ k → s.used ≡ t.original → s.kept + s.added ≡ t.result → Judged p (Yes t.count s.added s.used t.next)
-    unfolding read_file finish
+    unfolding finish
     accepts g a b =
         let f : read_file p ≡ Accepted j.items =
         summed g
         ∙ rw (eq-eqb (kept j.items + dropped j.items) j.head.original (sym j.holds.used ∙ a ∙ j.original), eq-eqb (kept j.items + added j.items) j.head.result (omega (arith, j.holds.keeps, j.holds.text, j.result, j.within.used, j.within.keeps, j.within.text))) in
-        record { says = (j.items, j.head, f, sym j.many, j.holds.text, j.holds.used, sym all_read, sym (leads_found j.first) ∙ f) }
+        record { says = (j.items, j.head, f, sym j.many, j.holds.text, j.holds.used, sym all_read, sym j.first ∙ f) }
 
 -- a header's bad line is the file's
 pub bad_header : {p : List ℕ} {l : ℕ} → HeadRead p (BadHead l) → Judged p (No l)
-unfolding read_file
-bad_header {p} r =
-    let k = r.says.0 in
-    let i = r.says.1 in
-    record { says = leads_found r.says.4 ∙ stays_found (key k 0) (drop i p) tt refl r.says.5 ∙ ap Refused r.says.3 }
+bad_header r = record { says = r.says }
 
 -- what a verdict says of the answers
 pub lengths_yes : {p : List ℕ} {n m o f : ℕ} → Judged p (Yes n m o f) → Counts n m ≡ lengths_of (read_file p)

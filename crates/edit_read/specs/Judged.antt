@@ -1,9 +1,9 @@
--- What the reader knows between two lines: the code's numbers, and the items that they stand for. A good line is said by its bytes and where
--- they led, a bad one by the line that the reader never leaves; so each says the same in a file that is refused further on. Assumes nothing.
-use Rattle.std.specs.Prelude.{◌≡◌, true, ℕ, ◌+◌, ◌≤◌, ◌<◌, List, [], ◌∷◌, ◌++◌, length, drop}
+-- What the reader knows between two lines: the code's numbers, and the items that they stand for. Each record says that what is left of the
+-- bytes still decides what the whole file is found to be. Assumes nothing.
+use Rattle.std.specs.Prelude.{◌≡◌, ℕ, ◌+◌, ◌≤◌, ◌<◌, List, [], ◌∷◌, ◌++◌, length, drop}
 use Rattle.edit_format.specs.Items.{Item, Add, kept, dropped, added, ends_keep}
 use Rattle.edit_format.specs.Written.{Head}
-use Rattle.edit_format.specs.Reading.{State, Line, form, item, adding, key, gap, first_item, heading, line_no, line, opened, run, Leads, Accepted, Refused, found, read_file}
+use Rattle.edit_format.specs.Reading.{State, gap, item, adding, opened, Accepted, Refused, found, read_file}
 use Rattle.edit_lines.specs.Scan.{cap}
 use Rattle.edit_read.specs.declared.Header.{Header}
 use Rattle.edit_read.specs.declared.Heading.{Heading}
@@ -16,23 +16,22 @@ use Rattle.edit_read.specs.declared.Turn.TheVariants.{Good as GoodItem, Bad as B
 use Rattle.edit_read.specs.declared.Verdict.{Verdict}
 use Rattle.edit_read.specs.declared.Verdict.TheVariants.{Accepted as Yes, Refused as No}
 
--- the bytes of a good header lead to where the items begin; else lines of the header lead to one of them that the reader never leaves
+-- a good header, or its first bad line
 abbrev pub HeadFound : List ℕ → Heading → Type 0
 HeadFound p (GoodHead t) =
     (h : Head) × (t.original ≡ h.original) × (t.result ≡ cap h.result) × (t.count ≡ h.count) × (h.count ≤ 8192) × (t.next ≤ length p)
-    × Leads (key form 0) p (opened h []) (drop t.next p)
-HeadFound p (BadHead l) =
-    (k : Line) × (i : ℕ) × (heading k ≡ true) × (line_no k ≡ l) × Leads (key form 0) p (key k 0) (drop i p) × (line (run (key k 0) (drop i p)) ≡ line_no k)
+    × (read_file p ≡ found (opened h []) (drop t.next p))
+HeadFound p (BadHead l) = read_file p ≡ Refused l
 
 -- the statement of the header's reader
 pub record HeadRead (p : List ℕ) (r : Heading) : Type 0 where
   pub says : HeadFound p r
 
--- the code points of an add line from place at on, after items whose text is a code points long: their bytes end the line, or it is never left
+-- the code points of an add line from place at on, after items whose text is a code points long
 abbrev pub PointsFound : Head → List Item → List ℕ → ℕ → ℕ → Points → Type 0
 PointsFound h is p at a (GoodPoints n j) =
-    (cs : List ℕ) × (length cs ≡ n) × Leads (gap (item h is adding) []) (drop at p) (opened h (is ++ Add cs ∷ [])) (drop j p)
-PointsFound h is p at a BadPoints = line (run (gap (item h is adding) []) (drop at p)) ≡ first_item h + length is
+    (cs : List ℕ) × (length cs ≡ n) × (found (gap (item h is adding) []) (drop at p) ≡ found (opened h (is ++ Add cs ∷ [])) (drop j p))
+PointsFound h is p at a BadPoints = found (gap (item h is adding) []) (drop at p) ≡ Refused (length is + 5)
 
 -- their number fits, and the place behind them lies in the bytes
 abbrev pub PointsFit : List ℕ → ℕ → Points → Type 0
@@ -58,11 +57,11 @@ pub record Within (p : List ℕ) (s : Sums) : Type 0 where
   pub keeps : s.kept ≤ s.used
   pub text : s.added ≤ 131070
 
--- the bytes of the line are one item more, or the line is never left
+-- one item more, or a bad line
 abbrev pub ItemFound : State → Head → List Item → List ℕ → Sums → Turn → Type 0
 ItemFound st h is p s (GoodItem t) =
-    (x : Item) × Holds t (is ++ x ∷ []) × Within p t × Leads st (drop s.next p) (opened h (is ++ x ∷ [])) (drop t.next p)
-ItemFound st h is p s BadItem = line (run st (drop s.next p)) ≡ first_item h + length is
+    (x : Item) × Holds t (is ++ x ∷ []) × Within p t × (found st (drop s.next p) ≡ found (opened h (is ++ x ∷ [])) (drop t.next p))
+ItemFound st h is p s BadItem = found st (drop s.next p) ≡ Refused (length is + 5)
 
 -- the statement of the reader of an item
 pub record ItemRead (st : Head → List Item → State) (p : List ℕ) (s : Sums) (r : Turn) : Type 0 where
@@ -80,8 +79,8 @@ pub record Judging (p : List ℕ) (t : Header) (s : Sums) (i : ℕ) : Type 0 whe
   pub most : i ≤ t.count
   pub holds : Holds s items
   pub within : Within p s
-  pub first : Leads (key form 0) p (opened head []) (drop t.next p)
-  pub left : Leads (key form 0) p (opened head items) (drop s.next p)
+  pub first : read_file p ≡ found (opened head []) (drop t.next p)
+  pub left : read_file p ≡ found (opened head items) (drop s.next p)
 
 -- what is found in all of the bytes, and where the first item's line begins
 abbrev pub Verdicts : List ℕ → Verdict → Type 0

@@ -13,12 +13,6 @@ use edit_lines::{Number, Point};
 use item_records::{dropped_number, plain_number, put_record};
 use refusal::Refusal;
 
-// The line of `result=`.
-const RESULT_LINE: usize = 3;
-
-// The first item's line, behind the header's lines.
-const FIRST_ITEM: usize = 5;
-
 // How many code points an add line has, and the place after it.
 #[derive(Drop)]
 pub enum Points {
@@ -244,7 +238,7 @@ fn read_header(bytes: &[u8]) -> Heading
         next: fourth,
     } = edit_lines::number_line(bytes, third, b"result=")
     else {
-        return Heading::Bad(RESULT_LINE);
+        return Heading::Bad(3);
     };
     let Number::Value { value: count, next } = edit_lines::number_line(bytes, fourth, b"items=")
     else {
@@ -269,25 +263,19 @@ fn judge_end(bytes: &[u8], h: Header, s: Sums) -> Verdict
     let at = s.next;
     let items = h.count as usize;
     let Number::Value { value, next } = edit_lines::number_line(bytes, at, b"end=") else {
-        return Verdict::Refused {
-            line: FIRST_ITEM + items,
-        };
+        return Verdict::Refused { line: items + 5 };
     };
     if value != h.count {
-        return Verdict::Refused {
-            line: FIRST_ITEM + items,
-        };
+        return Verdict::Refused { line: items + 5 };
     }
     if next < bytes.len() {
-        return Verdict::Refused {
-            line: FIRST_ITEM + items + 1,
-        };
+        return Verdict::Refused { line: items + 6 };
     }
     if s.used != h.original {
         return Verdict::Refused { line: 2 };
     }
     if s.kept + s.added != h.result {
-        return Verdict::Refused { line: RESULT_LINE };
+        return Verdict::Refused { line: 3 };
     }
     Verdict::Accepted {
         items,
@@ -318,9 +306,7 @@ fn judge_items(bytes: &[u8], h: Header) -> Verdict
                 i += 1;
             }
             Turn::Bad => {
-                return Verdict::Refused {
-                    line: FIRST_ITEM + i,
-                };
+                return Verdict::Refused { line: i + 5 };
             }
         }
     }

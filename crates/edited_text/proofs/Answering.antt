@@ -12,7 +12,7 @@ use Rattle.refusal.specs.declared.Refusal.{Refusal}
 use Rattle.refusal.specs.declared.Refusal.TheVariants as R
 use Rattle.records.specs.Operations.{operations_of}
 use Rattle.records.specs.Cursors.{cursors_of}
-use Rattle.records.proofs.Operations.{length_of_lem as operations_of}
+use Rattle.records.proofs.Operations.{length_of_lem as operations-of}
 use Rattle.records.proofs.Cursors.{length_of_lem as cursors-of}
 use Rattle.sizes.specs.declared.Limits.{Limits}
 use Rattle.verdict.specs.declared.Verdict.{Verdict}
@@ -74,7 +74,7 @@ module _ (original text spans keys left right lcs rcs o c w : List ℕ) where
           && (leb ((length lcs / 2 + length rcs / 2) * 2) (length c) && leb ((m + n) * 2) (length w))
 
       rooms : tested ≡ rooms_fit (operations_of left) (operations_of right) (cursors_of lcs) (cursors_of rcs) (length o) (length c) (length w)
-      rooms = rw (operations_of left, operations_of right, cursors-of lcs, cursors-of rcs, ← claims_left, ← claims_right)
+      rooms = rw (operations-of left, operations-of right, cursors-of lcs, cursors-of rcs, ← claims_left, ← claims_right)
 
       pub no_room : tested ≡ false → MergedBy original text spans keys left right lcs rcs o o c c w w (A.Refused R.Room)
       unfolding merge_verdict
@@ -103,7 +103,7 @@ module _ (original text spans keys left right lcs rcs o c w : List ℕ) where
               mid_is = claims_left;
               half_is = omega (arith, claims_right);
               operations_fit =
-                  omega (arith, leb-true ((length left / 6 + length right / 6) * 6) (length o) (and_left first (second && third) f), operations_of left, operations_of right);
+                  omega (arith, leb-true ((length left / 6 + length right / 6) * 6) (length o) (and_left first (second && third) f), operations-of left, operations-of right);
               cursors_fit = omega (arith, leb-true ((length lcs / 2 + length rcs / 2) * 2) (length c) (and_left second third rest), cursors-of lcs, cursors-of rcs);
               work_fits = leb-true ((m + n) * 2) (length w) (and_right second third rest);
             }

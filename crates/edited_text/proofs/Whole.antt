@@ -26,7 +26,6 @@ use Rattle.merging.specs.OrderRule.{priority_of}
 use Rattle.merging.specs.Meeting.{nothing}
 use Rattle.merging.specs.Merge.{Outcome, run, work, outcome_of, merge_of}
 use Rattle.merging.specs.Tiling.{Inserts}
-use Rattle.merging.proofs.Lawful.{rules_one}
 use Rattle.merging_laws.proofs.Decoding.{Run as Lends, Listed as Read, tiled, runs, tokens_total, length_total}
 use Rattle.merging_laws.proofs.Encoding.{length_records}
 use Rattle.merging_laws.proofs.Accepted.{merged_operations_most, merged_cursors_all}
@@ -98,30 +97,30 @@ module _ {original text spans keys left right lcs rcs : List ℕ} {mid half : �
   abbrev L : Lent
   L = lent_of original text spans keys
 
-  ends : outcome 1 L priority left right lefts rights ≡ outcome_of (rules_of L) (list_of left) (list_of right) (cursors_of lcs) (cursors_of rcs)
+  ends : outcome L priority left right lefts rights ≡ outcome_of (rules_of L) (list_of left) (list_of right) (cursors_of lcs) (cursors_of rcs)
   unfolding outcome_of
   ends =
       let e : priority ≡ priority_of L (list_of left) (list_of right) = ep ∙ sym (priority_of L (list_of left) (list_of right)) in
-      λ i. run (rules_one L i) (e i) (work (list_of left) + work (list_of right)) (record {
+      λ i. run (rules_of L) (e i) (work (list_of left) + work (list_of right)) (record {
         left = record { next = list_of left; last = nothing; seen = 0; cursors = el i };
         right = record { next = list_of right; last = nothing; seen = 0; cursors = er i };
         merged = 0;
         consumed = 0;
       })
 
-  same_operations : records_of L (outcome 1 L priority left right lefts rights).outs ≡ (merge_on original text spans keys left right lcs rcs).operations
+  same_operations : records_of L (outcome L priority left right lefts rights).outs ≡ (merge_on original text spans keys left right lcs rcs).operations
   unfolding merge_of
   same_operations = ap (λ (x : Outcome). records_of L x.outs) ends
 
-  same_cursors : sorted (outcome 1 L priority left right lefts rights).cursors ≡ (merge_on original text spans keys left right lcs rcs).cursors
+  same_cursors : sorted (outcome L priority left right lefts rights).cursors ≡ (merge_on original text spans keys left right lcs rcs).cursors
   unfolding merge_of
   same_cursors = ap (λ (x : Outcome). sorted x.cursors) ends
 
-  many : length (outcome 1 L priority left right lefts rights).outs ≡ length (merge_on original text spans keys left right lcs rcs).operations
-  many = sym (length_records L (outcome 1 L priority left right lefts rights).outs) ∙ ap length same_operations
+  many : length (outcome L priority left right lefts rights).outs ≡ length (merge_on original text spans keys left right lcs rcs).operations
+  many = sym (length_records L (outcome L priority left right lefts rights).outs) ∙ ap length same_operations
 
   pub runnable : (length lefts / 2 ≡ length (cursors_of lcs)) → (length rights / 2 ≡ length (cursors_of rcs)) → length spans / 2 ≤ most
-      → Runnable 1 original text spans keys left right lefts rights priority w mid half o c
+      → Runnable original text spans keys left right lefts rights priority w mid half o c
   runnable nl nr fit =
       let al = K.left_accepted in
       let ar = K.right_accepted in
@@ -144,27 +143,27 @@ module _ {original text spans keys left right lcs rcs : List ℕ} {mid half : �
         spans_fit = fit;
       }
 
-  all_cursors : length (outcome 1 L priority left right lefts rights).cursors ≡ length (cursors_of lcs) + length (cursors_of rcs)
+  all_cursors : length (outcome L priority left right lefts rights).cursors ≡ length (cursors_of lcs) + length (cursors_of rcs)
   all_cursors =
-      sym (length_sorted (outcome 1 L priority left right lefts rights).cursors)
+      sym (length_sorted (outcome L priority left right lefts rights).cursors)
       ∙ (ap length same_cursors
       ∙ merged_cursors_all L (operations_of left) (operations_of right) (cursors_of lcs) (cursors_of rcs) K.left_accepted K.right_accepted)
 
   -- the cursors that came out are in their room
-  pub in_room : {o' c' : List ℕ} {t : Totals} → Ran 1 original text spans keys left right lefts rights priority o o' c c' t → t.cursors * 2 ≤ length c'
+  pub in_room : {o' c' : List ℕ} {t : Totals} → Ran original text spans keys left right lefts rights priority o o' c c' t → t.cursors * 2 ≤ length c'
   in_room R =
-      let n : length (outcome 1 L priority left right lefts rights).cursors * 2 ≤ length c = omega (arith, all_cursors, K.cursors_fit) in
-      omega (arith, R.cursors, ap length R.moved_is, length_answered (outcome 1 L priority left right lefts rights).cursors c n)
+      let n : length (outcome L priority left right lefts rights).cursors * 2 ≤ length c = omega (arith, all_cursors, K.cursors_fit) in
+      omega (arith, R.cursors, ap length R.moved_is, length_answered (outcome L priority left right lefts rights).cursors c n)
 
   -- what the turns left, the cursors sorted where they stand
-  pub merges : {o' c' c'' : List ℕ} {t : Totals} → Ran 1 original text spans keys left right lefts rights priority o o' c c' t
+  pub merges : {o' c' c'' : List ℕ} {t : Totals} → Ran original text spans keys left right lefts rights priority o o' c c' t
       → c'' ≡ answered (flat_cursors (sorted (cursors_from c' 0 t.cursors))) c'
       → Merges original text spans keys left right lcs rcs o o' c c'' (record { operations = t.operations; cursors = t.cursors })
   merges {c' = c'} {c''} {t} R s =
       record {
         many_operations = R.operations ∙ many;
-        many_cursors = R.cursors ∙ (sym (length_sorted (outcome 1 L priority left right lefts rights).cursors) ∙ ap length same_cursors);
+        many_cursors = R.cursors ∙ (sym (length_sorted (outcome L priority left right lefts rights).cursors) ∙ ap length same_cursors);
         operations = R.out_is ∙ ap (λ (x : List Operation). answered (flat_operations x) o) same_operations;
-        cursors = sorted_answered (outcome 1 L priority left right lefts rights).cursors c c' c'' t.cursors R.cursors R.moved_is s
+        cursors = sorted_answered (outcome L priority left right lefts rights).cursors c c' c'' t.cursors R.cursors R.moved_is s
             ∙ ap (λ (x : List Cursor). answered (flat_cursors x) c) same_cursors;
       }

@@ -42,9 +42,6 @@ fn rooms_fit(
     true
 }
 
-// "the longest beginning of new that occurs in old": an overlap of one token counts.
-const LEAST: usize = 1;
-
 // The merge of two accepted lists: mid is the insert tokens of the left one, half those of both.
 fn merge_accepted(
     original: &[u32],
@@ -77,7 +74,6 @@ fn merge_accepted(
         text,
         spans,
         keys,
-        LEAST,
         left,
         right,
         &lefts[..left_end],

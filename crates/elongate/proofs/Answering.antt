@@ -17,8 +17,7 @@ use Rattle.sizes.specs.Texts.{run_text}
 use Rattle.shapes.proofs.Accepted.{run_length}
 use Rattle.verdict.specs.Points.{points_from}
 use Rattle.room.proofs.Bools.{and_left, and_right}
-use Rattle.verdict.specs.Verdicts.{and_then, roomed}
-use Rattle.verdict.proofs.Chains.{fits, goes_on, has_room, lacks_room, first_passed, rest_passed, size_passed}
+use Rattle.verdict.proofs.Chains.{fits, goes_on, has_room, lacks_room}
 use Rattle.raw_lists.specs.declared.Raw.{Raw}
 use Rattle.raw_lists.specs.Raws.{Run, pieces_lent, pieces_from, raws_of, runs_of}
 use Rattle.raw_lists.specs.Good.{AllGood, counts}
@@ -174,36 +173,3 @@ pub refuses : (xs spans keys joins text o s k j : List ℕ) (v : Verdict) (r : R
     → Elongates xs spans keys joins text o s k j o s k j v (A.Refused r)
 refuses xs spans keys joins text o s k j v r e =
     record { answer = rw e; operations = rw e; in_spans = rw e; in_keys = rw e; in_joins = rw e }
-
--- a raw list that is not refused is ready to be written, and what is written is the answer
-
-room_passed : (b : Bool) → roomed b ≡ Accepted → b ≡ true
-unfolding roomed
-room_passed true h = refl
-room_passed false h = cc
-
-module _ (xs spans keys joins text o s k j : List ℕ) (a : verdict_on xs spans keys joins text o s k j ≡ Accepted) where
-  passed_sizes : raw_fits (length text) spans keys joins (raws_of xs) ≡ true
-  unfolding raw_verdict
-  passed_sizes = size_passed _ (first_passed _ _ a)
-
-  passed_rest : and_then (points_from text 0) (and_then (shapes_from (length text) spans keys joins (raws_of xs) 0)
-      (roomed (rooms_fit (raws_of xs) (length o) (length s) (length k) (length j)))) ≡ Accepted
-  unfolding raw_verdict
-  passed_rest = rest_passed _ _ a
-
-  passed_shapes : shapes_from (length text) spans keys joins (raws_of xs) 0 ≡ Accepted
-  passed_shapes = first_passed _ _ (rest_passed _ _ passed_rest)
-
-  passed_rooms : rooms_fit (raws_of xs) (length o) (length s) (length k) (length j) ≡ true
-  passed_rooms = room_passed _ (rest_passed _ _ (rest_passed _ _ passed_rest))
-
-  pub passed_ready : Ready spans keys joins (length text) (arranged kind_of (raws_of xs)) o s k j
-  passed_ready =
-      let t : ℕ = min 1000000 (total claimed_by (raws_of xs)) in
-      let q : t ≡ counts (raws_of xs) = claims xs spans keys joins text o s k j passed_sizes passed_shapes t refl in
-      ready xs spans keys joins text o s k j passed_sizes passed_shapes t refl (rw (← length_raws xs, q) passed_rooms)
-
-  pub passed_writes : (o' s' k' j' : List ℕ) (r : Written) → Wrote spans keys joins (arranged kind_of (raws_of xs)) o s k j o' s' k' j' r
-      → Elongates xs spans keys joins text o s k j o' s' k' j' (verdict_on xs spans keys joins text o s k j) (A.Counts r)
-  passed_writes o' s' k' j' r h = writes xs spans keys joins text o s k j passed_sizes passed_shapes o' s' k' j' r a h

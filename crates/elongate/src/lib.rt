@@ -211,9 +211,8 @@ pub struct Written {
     pub tokens: usize,
 }
 
-// All operations, elongated and cooked, and their tokens, into their rooms: the work behind the checks. Of the lent text it
-// asks no more than its length n.
-pub fn write(
+// All operations, elongated and cooked, and their tokens, into their rooms.
+fn write(
     raw: &[usize],
     spans: &[u32],
     keys: &[u32],

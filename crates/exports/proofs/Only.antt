@@ -1,12 +1,10 @@
--- Shown: "Any two outcomes it allows are shown equal", of each export that is lent a room; the work room of a call that was not refused is the exception.
+-- Shown: "Any two outcomes it allows are shown equal", of each export that is lent a room; the work room is the exception.
 -- How: each call's own law, under the telling.
-use Prim.Native.Nat.{ℕ, ◌≤◌}
-use mathlib.Core.Path.{◌≡◌, refl, sym, ◌∙◌, ap}
+use Prim.Native.Nat.{ℕ}
+use mathlib.Core.Path.{◌≡◌, sym, ◌∙◌}
 use mathlib.Core.List.{List}
-use native.Mathlib.Omega.{arith}
 use lib.ListN.{length, drop}
 use lib.IntN.{ℤ}
-use Rattle.refusal.specs.declared.Refusal.{Refusal}
 use Rattle.refusal.specs.declared.Counted.{Counted}
 use Rattle.records.specs.declared.Operation.{Operation}
 use Rattle.records.specs.declared.Cursor.{Cursor}
@@ -15,13 +13,11 @@ use Rattle.merging.specs.Lent.{Lent}
 use Rattle.utf8.specs.Answers.{Answered as Coded}
 use Rattle.utf8.proofs.Ways.{only_answer as only-coded}
 use Rattle.overlap.specs.declared.Found.{Found as Range}
-use Rattle.overlap.specs.declared.Found.TheVariants as F
 use Rattle.overlap.specs.Overlap.{Answered, touched}
 use Rattle.overlap.proofs.Overlaps.{only as only-range}
 use Rattle.elongate.specs.declared.Answer.{Answer as Elongated}
 use Rattle.elongate.specs.Verdicts.{Elongates}
 use Rattle.edited_text.specs.declared.Answer.{Answer as Merged}
-use Rattle.edited_text.specs.declared.Answer.TheVariants as M
 use Rattle.edited_text.specs.Merging.{MergedBy}
 use Rattle.edited_text.proofs.Laws.{only_answer as only-merged}
 use Rattle.apply.specs.declared.Applied.{Applied}
@@ -41,10 +37,11 @@ use Rattle.edit_format.specs.Reading.{Found}
 use Rattle.edit_read.specs.declared.FileRead.{FileRead}
 use Rattle.edit_read.specs.Answer.{ReadInto}
 use Rattle.edit_write.specs.Writing.{Wrote}
-use Rattle.merge_files.specs.Program.{Outcome, Told, Written}
+use Rattle.merge_files.specs.declared.Outcome.{Outcome}
+use Rattle.merge_files.specs.Program.{Result, Written}
 use Rattle.reconcile.proofs.Only.{only_elongated, only_read, only_written}
 use Rattle.answer.specs.declared.Answer.{Answer}
-use Rattle.answer.specs.Tellings.{tell_count, tell_range, tell_elongated, tell_merged, tell_applied, tell_history, tell_all, tell_diff, tell_file, ToldBy}
+use Rattle.answer.specs.Tellings.{tell_count, tell_range, tell_elongated, tell_merged, tell_applied, tell_history, tell_all, tell_diff, tell_file, tell_outcome, ToldBy}
 use Rattle.answer.proofs.Laws.{only_told}
 
 -- reading and writing UTF-8
@@ -52,18 +49,12 @@ pub only_utf8 : (due : Counted) (a d d₁ d₂ : List ℕ) {r s : Answer}
     → ToldBy tell_count (λ (x : Counted). Coded due x a d d₁) r → ToldBy tell_count (λ (x : Counted). Coded due x a d d₂) s → (r ≡ s) × (d₁ ≡ d₂)
 only_utf8 due a d d₁ d₂ = only_told (λ (x : Counted). d₁ ≡ d₂) (λ x y p q. only-coded p q)
 
--- what an overlap may change of its work room: on a refusal nothing
-range_kept : (x : Range) (n : ℕ) {r : Answer} {w₁ w₂ : List ℕ} → r ≡ tell_range x → drop (touched x n) w₁ ≡ drop (touched x n) w₂
-    → (drop n w₁ ≡ drop n w₂) × (1 ≤ r.refusal → w₁ ≡ w₂)
-range_kept (F.Range s e) n t h = (h, λ l. absurd (omega (arith, ap (λ (a : Answer). a.refusal) t)))
-range_kept (F.Refused c) n t h = (ap (drop n) h, λ l. h)
-
--- the overlap: the work room past what the search may use, and on a refusal all of it
-pub only_overlap : (old new w w₁ w₂ : List ℕ) {r s : Answer} → ToldBy tell_range (Answered old new w w₁) r → ToldBy tell_range (Answered old new w w₂) s
-    → (r ≡ s) × ((drop (length new) w₁ ≡ drop (length new) w₂) × (1 ≤ r.refusal → w₁ ≡ w₂))
-only_overlap old new w w₁ w₂ x y =
-    let t = only_told (λ (a : Range). drop (touched a (length new)) w₁ ≡ drop (touched a (length new)) w₂) (λ a b p q. only-range p q) x y in
-    (t.0, range_kept x.answer (length new) x.is t.1)
+-- the overlap: the work room past what the search may use
+pub only_overlap : (old new w w₁ w₂ : List ℕ) {r s : Answer} (x : ToldBy tell_range (Answered old new w w₁) r)
+    → ToldBy tell_range (Answered old new w w₂) s
+    → (r ≡ s) × (drop (touched x.answer (length new)) w₁ ≡ drop (touched x.answer (length new)) w₂)
+only_overlap old new w w₁ w₂ =
+    only_told (λ (x : Range). drop (touched x (length new)) w₁ ≡ drop (touched x (length new)) w₂) (λ x y p q. only-range p q)
 
 pub only_elongate : (xs spans keys joins text o s k j o₁ s₁ k₁ j₁ o₂ s₂ k₂ j₂ : List ℕ) (v : Verdict) {r t : Answer}
     → ToldBy tell_elongated (Elongates xs spans keys joins text o s k j o₁ s₁ k₁ j₁ v) r
@@ -72,20 +63,12 @@ pub only_elongate : (xs spans keys joins text o s k j o₁ s₁ k₁ j₁ o₂ s
 only_elongate xs spans keys joins text o s k j o₁ s₁ k₁ j₁ o₂ s₂ k₂ j₂ v =
     only_told (λ (x : Elongated). (o₁ ≡ o₂) × ((s₁ ≡ s₂) × ((k₁ ≡ k₂) × (j₁ ≡ j₂)))) (λ x y p q. only_elongated p q)
 
--- a merge that is told as refused was refused
-merge_refused : {P : Type 0} (x : Merged) {r : Answer} → r ≡ tell_merged x → 1 ≤ r.refusal → ((q : Refusal) → x ≡ M.Refused q → P) → P
-merge_refused (M.Counts n) t l f = absurd (omega (arith, ap (λ (a : Answer). a.refusal) t))
-merge_refused (M.Refused q) t l f = f q refl
-
--- the merge: operations and cursors, and on a refusal the work room too
 pub only_merge : (original text spans keys left right lcs rcs o o₁ o₂ c c₁ c₂ w w₁ w₂ : List ℕ) {r s : Answer}
     → ToldBy tell_merged (MergedBy original text spans keys left right lcs rcs o o₁ c c₁ w w₁) r
     → ToldBy tell_merged (MergedBy original text spans keys left right lcs rcs o o₂ c c₂ w w₂) s
-    → (r ≡ s) × ((o₁ ≡ o₂) × ((c₁ ≡ c₂) × (1 ≤ r.refusal → w₁ ≡ w₂)))
-only_merge original text spans keys left right lcs rcs o o₁ o₂ c c₁ c₂ w w₁ w₂ x y =
-    let t = only_told (λ (a : Merged). (o₁ ≡ o₂) × ((c₁ ≡ c₂) × ((q : Refusal) → a ≡ M.Refused q → w₁ ≡ w₂)))
-    (λ a b p q. only-merged original text spans keys left right lcs rcs o c w p q) x y in
-    (t.0, (t.1.0, (t.1.1.0, λ l. merge_refused x.answer x.is l t.1.1.1)))
+    → (r ≡ s) × ((o₁ ≡ o₂) × (c₁ ≡ c₂))
+only_merge original text spans keys left right lcs rcs o o₁ o₂ c c₁ c₂ w w₁ w₂ =
+    only_told (λ (x : Merged). (o₁ ≡ o₂) × (c₁ ≡ c₂)) (λ x y p q. only-merged original text spans keys left right lcs rcs o c w p q)
 
 pub only_apply : (lent : Lent) (os : List Operation) (cs : List Cursor) (d e d₁ e₁ d₂ e₂ : List ℕ) {r s : Answer}
     → ToldBy tell_applied (Applies lent os cs d e d₁ e₁) r → ToldBy tell_applied (Applies lent os cs d e d₂ e₂) s
@@ -121,13 +104,7 @@ pub only_edit_file_write : (is : List Item) (text d d₁ d₂ : List ℕ) {r s :
     → ToldBy tell_count (Wrote is text d d₁) r → ToldBy tell_count (Wrote is text d d₂) s → (r ≡ s) × (d₁ ≡ d₂)
 only_edit_file_write is text d d₁ d₂ = only_told (λ (x : Counted). d₁ ≡ d₂) (λ x y p q. only_written p q)
 
--- of the edit file and of the text
-pub only_merge_files : (result : Outcome) (d d₁ d₂ : List ℕ) {r s : Answer}
-    → ToldBy tell_count (Written result d d₁) r → ToldBy tell_count (Written result d d₂) s → (r ≡ s) × (d₁ ≡ d₂)
+pub only_merge_files : (result : Result) (d d₁ d₂ : List ℕ) {r s : Answer}
+    → ToldBy tell_outcome (Written result d d₁) r → ToldBy tell_outcome (Written result d d₂) s → (r ≡ s) × (d₁ ≡ d₂)
 only_merge_files result d d₁ d₂ =
-    only_told (λ (x : Counted). d₁ ≡ d₂) (λ x y p q. (p.answer ∙ sym q.answer, p.room ∙ sym q.room))
-
-pub only_merge_files_history : (result : Outcome) (d e d₁ e₁ d₂ e₂ : List ℕ) {r s : Answer}
-    → ToldBy tell_history (Told result d e d₁ e₁) r → ToldBy tell_history (Told result d e d₂ e₂) s → (r ≡ s) × ((d₁ ≡ d₂) × (e₁ ≡ e₂))
-only_merge_files_history result d e d₁ e₁ d₂ e₂ =
-    only_told (λ (x : WithHistory). (d₁ ≡ d₂) × (e₁ ≡ e₂)) (λ x y p q. (p.answer ∙ sym q.answer, (p.spans ∙ sym q.spans, p.points ∙ sym q.points)))
+    only_told (λ (x : Outcome). d₁ ≡ d₂) (λ x y p q. (p.answer ∙ sym q.answer, p.room ∙ sym q.room))

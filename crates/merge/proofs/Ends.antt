@@ -13,7 +13,7 @@ use Rattle.records.specs.Operations.{operations_from, operations_of, flat_operat
 use Rattle.merging.specs.declared.Op.{Op}
 use Rattle.merging.specs.declared.Op.TheVariants.{Delete, Insert, Retain}
 use Rattle.merging.specs.declared.Order.{Order}
-use Rattle.merging.specs.Lent.{Lent, rules_at, lent_of}
+use Rattle.merging.specs.Lent.{Lent, rules_of, lent_of}
 use Rattle.merging.specs.Operations.{Out, ops_from, records_of}
 use Rattle.merging.specs.OrderRule.{goes_left, order_rule, then_by, is_less}
 use Rattle.merging.specs.Cursors.{ended}
@@ -89,8 +89,8 @@ chosen lent priority (Here a) (Here b) xs ys hx hy =
     go true = (refl, refl)
     go false = (refl, refl)
 
-module _ {least : ℕ} {original text spans keys lops rops lcs rcs : List ℕ} {priority : Order} {mid half : ℕ} {w out moved : List ℕ}
-    (K : Runnable least original text spans keys lops rops lcs rcs priority w mid half out moved) where
+module _ {original text spans keys lops rops lcs rcs : List ℕ} {priority : Order} {mid half : ℕ} {w out moved : List ℕ}
+    (K : Runnable original text spans keys lops rops lcs rcs priority w mid half out moved) where
   abbrev L : Lent
   L = lent_of original text spans keys
 
@@ -112,7 +112,7 @@ module _ {least : ℕ} {original text spans keys lops rops lcs rcs : List ℕ} {
       }
 
   pub started : (h k : Ahead) → Looks lops Done 0 0 h → Looks rops Done 0 0 k
-      → Going (frame least original text spans keys lops rops lcs rcs priority mid half w out moved) w out moved (side_at h 0) (side_at k mid) zero_totals
+      → Going (frame original text spans keys lops rops lcs rcs priority mid half w out moved) w out moved (side_at h 0) (side_at k mid) zero_totals
   unfolding records_of flat_operations flat_cursors
   started h k lh lk =
       let es : state_of lops rops lcs rcs w half (side_at h 0) (side_at k mid) zero_totals ≡ begin lops rops lcs rcs =
@@ -126,8 +126,8 @@ module _ {least : ℕ} {original text spans keys lops rops lcs rcs : List ℕ} {
         ready = ready K;
         p = 0;
         q = 0;
-        sound = subst (λ (s : State). Sound (rules_at least L) (Run text spans keys) (list_of lops) (list_of rops) (length original) s 0 0) (sym es)
-            (sound_start (rules_at least L) (Run text spans keys) (list_of lops) (list_of rops) (cursors_of lcs) (cursors_of rcs) (length original) K.left.tiled K.right.tiled
+        sound = subst (λ (s : State). Sound (rules_of L) (Run text spans keys) (list_of lops) (list_of rops) (length original) s 0 0) (sym es)
+            (sound_start (rules_of L) (Run text spans keys) (list_of lops) (list_of rops) (cursors_of lcs) (cursors_of rcs) (length original) K.left.tiled K.right.tiled
             K.left.inserts K.right.inserts);
         owns = side_starts lops h 0 mid 0 lh (omega arith) (omega (arith, K.mid_is));
         others = side_starts rops k mid half mid lk (omega arith) (omega (arith, K.half_is));
@@ -137,8 +137,8 @@ module _ {least : ℕ} {original text spans keys lops rops lcs rcs : List ℕ} {
         out_is = refl;
         cursors = refl;
         moved_is = refl;
-        all_outs = ap (λ (s : State). (rest (rules_at least L) priority s).outs) (sym es);
-        all_cursors = ap (λ (s : State). (rest (rules_at least L) priority s).cursors) (sym es);
+        all_outs = ap (λ (s : State). (rest (rules_of L) priority s).outs) (sym es);
+        all_cursors = ap (λ (s : State). (rest (rules_of L) priority s).cursors) (sym es);
         space = omega arith;
         same = refl;
         out_same = refl;
@@ -146,28 +146,28 @@ module _ {least : ℕ} {original text spans keys lops rops lcs rcs : List ℕ} {
       }
 
 -- with no turn left, the leftovers are all that comes
-pub rest_none : (least : ℕ) (lent : Lent) (priority : Order) (s : State) → taken_of lent priority s.left.next s.right.next ≡ none
-    → rest (rules_at least lent) priority s ≡ record { outs = []; cursors = leftovers s }
-rest_none least lent priority s e =
+pub rest_none : (lent : Lent) (priority : Order) (s : State) → taken_of lent priority s.left.next s.right.next ≡ none
+    → rest (rules_of lent) priority s ≡ record { outs = []; cursors = leftovers s }
+rest_none lent priority s e =
     let k = work s.left.next + work s.right.next in
-    fuel (rules_at least lent) priority k (suc k) s (omega arith) (omega arith) ∙ run_none (rules_at least lent) priority k s e
+    fuel (rules_of lent) priority k (suc k) s (omega arith) (omega arith) ∙ run_none (rules_of lent) priority k s e
 
 -- what the rooms hold when both sides are done: "Leftovers go to the end, left before right."
 pub finished :
-    {least : ℕ} {original text spans keys lops rops lcs rcs : List ℕ} {priority : Order} {mid half : ℕ} {w₀ out₀ moved₀ w out moved moved₁ moved₂ : List ℕ} {left right : Side} {totals : Totals}
+    {original text spans keys lops rops lcs rcs : List ℕ} {priority : Order} {mid half : ℕ} {w₀ out₀ moved₀ w out moved moved₁ moved₂ : List ℕ} {left right : Side} {totals : Totals}
     {p₁ p₂ : Progress}
-    → Going (frame least original text spans keys lops rops lcs rcs priority mid half w₀ out₀ moved₀) w out moved left right totals
+    → Going (frame original text spans keys lops rops lcs rcs priority mid half w₀ out₀ moved₀) w out moved left right totals
     → taken_of (lent_of original text spans keys) priority (ahead_of lops left.ahead) (ahead_of rops right.ahead) ≡ none
     → Went lcs (ended totals.merged (cursors_left lcs left.cursor)) [] moved moved₁ (record { next = left.cursor; count = totals.cursors }) p₁
     → Went rcs (ended totals.merged (cursors_left rcs right.cursor)) [] moved₁ moved₂ (record { next = right.cursor; count = p₁.count }) p₂
-    → Ran least original text spans keys lops rops lcs rcs priority out₀ out moved₀ moved₂
+    → Ran original text spans keys lops rops lcs rcs priority out₀ out moved₀ moved₂
     (record { merged = totals.merged; consumed = totals.consumed; operations = totals.operations; cursors = p₂.count })
-finished {least} {original} {text} {spans} {keys} {lops} {rops} {lcs} {rcs} {priority} {mid} {half} {w₀} {out₀} {moved₀} {w} {left = left} {right} {totals} {p₁} G e a b =
+finished {original} {text} {spans} {keys} {lops} {rops} {lcs} {rcs} {priority} {mid} {half} {w₀} {out₀} {moved₀} {w} {left = left} {right} {totals} {p₁} G e a b =
     let L = lent_of original text spans keys in
-    let O = outcome least L priority lops rops lcs rcs in
+    let O = outcome L priority lops rops lcs rcs in
     let l = ended totals.merged (cursors_left lcs left.cursor) in
     let r = ended totals.merged (cursors_left rcs right.cursor) in
-    let none_left = rest_none least L priority (state_of lops rops lcs rcs w half left right totals) e in
+    let none_left = rest_none L priority (state_of lops rops lcs rcs w half left right totals) e in
     let eo : O.outs ≡ G.outs = G.all_outs ∙ ap (λ (o : Outcome). G.outs ++ o.outs) none_left ∙ append-nil G.outs in
     let ec : O.cursors ≡ (G.ms ++ l) ++ r =
     G.all_cursors ∙ ap (λ (o : Outcome). G.ms ++ o.cursors) none_left ∙ sym (append_assoc G.ms l r) in

@@ -11,12 +11,12 @@ use lib.Dec.{eqb}
 use lib.ListN.{length}
 use lib.Seq.{slice, length-slice}
 use Rattle.room.specs.Choice.{pick}
-use Rattle.overlap.specs.Overlap.{overlap_at}
-use Rattle.overlap.proofs.Overlaps.{part_at}
+use Rattle.overlap.specs.Overlap.{overlap_of}
+use Rattle.overlap.proofs.Overlaps.{overlaps}
 use Rattle.merging.specs.declared.Op.{Op}
 use Rattle.merging.specs.declared.Op.TheVariants.{Delete, Insert, Retain}
 use Rattle.merging.specs.declared.Shift.{Shift}
-use Rattle.merging.specs.Lent.{Lent, rules_of, rules_at}
+use Rattle.merging.specs.Lent.{Lent, rules_of}
 use Rattle.merging.specs.Operations.{length_of}
 use Rattle.merging.specs.Meeting.{Remembered, inserted, lost_of, other_of}
 use Rattle.merging.specs.Cursors.{Place, shift_of, place_of, removed_of}
@@ -49,21 +49,21 @@ place_low w half fill (Retain o l) (Retained o' l') m merged = omega arith
 place_low w half fill (Retain o l) (Inserted o' from) m merged = omega arith
 
 -- an operation loses no more than it has
-pub lost_most : (least : ℕ) (keys w : List ℕ) (fill : ℕ) (a : Op) (v : Last) → Keyed keys a → (met_by least keys w fill a v).lost ≤ size a
+pub lost_most : (keys w : List ℕ) (fill : ℕ) (a : Op) (v : Last) → Keyed keys a → (met_by keys w fill a v).lost ≤ size a
 unfolding met_by lost_by
-lost_most least keys w fill (Delete o l) Nothing k = omega arith
-lost_most least keys w fill (Delete o l) (Deleted o' l') k = omega arith
-lost_most least keys w fill (Delete o l) (Retained o' l') k = omega arith
-lost_most least keys w fill (Delete o l) (Inserted o' from) k = omega arith
-lost_most least keys w fill (Insert o f n) Nothing k = omega arith
-lost_most least keys w fill (Insert o f n) (Deleted o' l') k = omega arith
-lost_most least keys w fill (Insert o f n) (Retained o' l') k = omega arith
-lost_most least keys w fill (Insert o f n) (Inserted o' from) k =
-    omega (arith, (part_at (slice from fill w) (slice f (f + n) keys) least).fits, length-slice f (f + n) keys k)
-lost_most least keys w fill (Retain o l) Nothing k = omega arith
-lost_most least keys w fill (Retain o l) (Deleted o' l') k = omega arith
-lost_most least keys w fill (Retain o l) (Retained o' l') k = omega arith
-lost_most least keys w fill (Retain o l) (Inserted o' from) k = omega arith
+lost_most keys w fill (Delete o l) Nothing k = omega arith
+lost_most keys w fill (Delete o l) (Deleted o' l') k = omega arith
+lost_most keys w fill (Delete o l) (Retained o' l') k = omega arith
+lost_most keys w fill (Delete o l) (Inserted o' from) k = omega arith
+lost_most keys w fill (Insert o f n) Nothing k = omega arith
+lost_most keys w fill (Insert o f n) (Deleted o' l') k = omega arith
+lost_most keys w fill (Insert o f n) (Retained o' l') k = omega arith
+lost_most keys w fill (Insert o f n) (Inserted o' from) k =
+    omega (arith, (overlaps (slice from fill w) (slice f (f + n) keys)).fits, length-slice f (f + n) keys k)
+lost_most keys w fill (Retain o l) Nothing k = omega arith
+lost_most keys w fill (Retain o l) (Deleted o' l') k = omega arith
+lost_most keys w fill (Retain o l) (Retained o' l') k = omega arith
+lost_most keys w fill (Retain o l) (Inserted o' from) k = omega arith
 
 pub used_fits : (fill : ℕ) (a : Op) (v : Last) (m : Met) → LastFits v → LastFits (used_by a v m fill)
 unfolding used_by
@@ -102,16 +102,15 @@ module _ {spans keys w : List ℕ} {half fill table : ℕ} where
   meetable a v f =
       (f.fits, record { lent = f.keyed; few = f.few; place = omega (arith, f.place, f.room); filled = omega (arith, f.filled, f.room); apart = f.away })
 
-module _ {spans keys w : List ℕ} {half fill table : ℕ} (least : ℕ) where
   -- the overlap lies in what is remembered
-  pub reaches : (a : Op) (v : Last) → Facing spans keys w half fill table a v → Reaches v (met_by least keys w fill a v) fill
+  pub reaches : (a : Op) (v : Last) → Facing spans keys w half fill table a v → Reaches v (met_by keys w fill a v) fill
   unfolding met_by
   reaches a Nothing f = tt
   reaches a (Deleted o l) f = tt
   reaches a (Retained o l) f = tt
   reaches (Delete o l) (Inserted o' from) f = (omega (arith, f.away.0), omega arith)
   reaches (Insert o i n) (Inserted o' from) f =
-      let v = part_at (slice from fill w) (slice i (i + n) keys) least in
+      let v = overlaps (slice from fill w) (slice i (i + n) keys) in
       (omega (arith, v.high, length-slice from fill w (omega (arith, f.filled, f.room)), f.away.0), v.low)
   reaches (Retain o l) (Inserted o' from) f = (omega (arith, f.away.0), omega arith)
 
@@ -136,19 +135,19 @@ module _ {spans keys w : List ℕ} {half fill table : ℕ} (least : ℕ) where
         go (Retained o l) e = refl
         go (Inserted o from) e = ap₂ (inserted o) (old_keys o from e) (old_lengths o from e)
 
-    pub same_met : met_by least keys w' fill a v ≡ met_by least keys w fill a v
+    pub same_met : met_by keys w' fill a v ≡ met_by keys w fill a v
     unfolding met_by
     same_met = go a v refl
       where
-        go : (b : Op) (u : Last) → v ≡ u → met_by least keys w' fill b u ≡ met_by least keys w fill b u
+        go : (b : Op) (u : Last) → v ≡ u → met_by keys w' fill b u ≡ met_by keys w fill b u
         go (Delete o l) u e = refl
         go (Insert o i n) Nothing e = refl
         go (Insert o i n) (Deleted o' l') e = refl
         go (Insert o i n) (Retained o' l') e = refl
-        go (Insert o i n) (Inserted o' from) e = ap (λ (old : List ℕ). met_in (overlap_at least old (slice i (i + n) keys))) (old_keys o' from e)
+        go (Insert o i n) (Inserted o' from) e = ap (λ (old : List ℕ). met_in (overlap_of old (slice i (i + n) keys))) (old_keys o' from e)
         go (Retain o l) u e = refl
 
-    pub placeable : (m : Met) → m ≡ met_by least keys w fill a v → Placeable w' half fill v m
+    pub placeable : (m : Met) → m ≡ met_by keys w fill a v → Placeable w' half fill v m
     placeable m e =
         record {
           reaches = subst (λ (x : Met). Reaches v x fill) (sym e) (reaches a v f);
@@ -158,14 +157,14 @@ module _ {spans keys w : List ℕ} {half fill table : ℕ} (least : ℕ) where
 
     -- the whole of it, from what the functions called ensure
     pub meets :
-        (m : Met) (t : Shift) (u : Last) (awaited : Bool) (seen own merged : ℕ) → own ≡ length_of (of_spans spans) a → m ≡ met_by least keys w fill a v
+        (m : Met) (t : Shift) (u : Last) (awaited : Bool) (seen own merged : ℕ) → own ≡ length_of (of_spans spans) a → m ≡ met_by keys w fill a v
         → Shifted spans w' half fill a v m awaited seen own merged t → u ≡ used_by a v m fill
-        → Meets least spans keys w w' half fill table a v awaited seen merged (record { lost = m.lost; shift = t; last = u })
+        → Meets spans keys w w' half fill table a v awaited seen merged (record { lost = m.lost; shift = t; last = u })
     unfolding shift_of
     meets m t u awaited seen own merged el em st eu =
         record {
-          lost = λ lent es ek. ap (λ (x : Met). x.lost) (em ∙ ap (λ (k : List ℕ). met_by least k w fill a v) (sym ek)) ∙ lost_is least lent w half fill a v;
-          most = subst (λ (x : Met). x.lost ≤ size a) (sym em) (lost_most least keys w fill a v f.keyed);
+          lost = λ lent es ek. ap (λ (x : Met). x.lost) (em ∙ ap (λ (k : List ℕ). met_by k w fill a v) (sym ek)) ∙ lost_is lent w half fill a v;
+          most = subst (λ (x : Met). x.lost ≤ size a) (sym em) (lost_most keys w fill a v f.keyed);
           shift = λ lent es ek. shifts lent es ek;
           start = subst (λ (x : ℕ). x ≤ merged) (sym st.start_is) (low awaited);
           stays = λ lent es ek. stays lent es ek;
@@ -179,28 +178,28 @@ module _ {spans keys w : List ℕ} {half fill table : ℕ} (least : ℕ) where
         low false = omega arith
 
         -- the same meeting, over the room as it is now
-        now_met : (lent : Lent) → lent.keys ≡ keys → m ≡ met_by least lent.keys w' fill a v
-        now_met lent ek = em ∙ sym same_met ∙ ap (λ (k : List ℕ). met_by least k w' fill a v) (sym ek)
+        now_met : (lent : Lent) → lent.keys ≡ keys → m ≡ met_by lent.keys w' fill a v
+        now_met lent ek = em ∙ sym same_met ∙ ap (λ (k : List ℕ). met_by k w' fill a v) (sym ek)
 
-        stays : (lent : Lent) → lent.spans ≡ spans → lent.keys ≡ keys → last_of w' half fill u ≡ other_of (rules_at least lent) a (last_of w half fill v)
+        stays : (lent : Lent) → lent.spans ≡ spans → lent.keys ≡ keys → last_of w' half fill u ≡ other_of (rules_of lent) a (last_of w half fill v)
         stays lent es ek =
             ap (last_of w' half fill) (eu ∙ ap (λ (x : Met). used_by a v x fill) (now_met lent ek))
-            ∙ used_is least lent w' half fill a v
-            ∙ ap (other_of (rules_at least lent) a) same_last
+            ∙ used_is lent w' half fill a v
+            ∙ ap (other_of (rules_of lent) a) same_last
 
-        place : (lent : Lent) → lent.keys ≡ keys → place_by w' half fill a v m merged ≡ place_of (rules_at least lent) a (last_of w half fill v) merged
+        place : (lent : Lent) → lent.keys ≡ keys → place_by w' half fill a v m merged ≡ place_of (rules_of lent) a (last_of w half fill v) merged
         place lent ek =
             ap (λ (x : Met). place_by w' half fill a v x merged) (now_met lent ek)
-            ∙ place_is least lent w' half fill a v merged
-            ∙ ap (λ (x : Remembered). place_of (rules_at least lent) a x merged) same_last
+            ∙ place_is lent w' half fill a v merged
+            ∙ ap (λ (x : Remembered). place_of (rules_of lent) a x merged) same_last
 
-        shifts : (lent : Lent) → lent.spans ≡ spans → lent.keys ≡ keys → t ≡ placed_if awaited (shift_of (rules_at least lent) a (last_of w half fill v) seen merged)
+        shifts : (lent : Lent) → lent.spans ≡ spans → lent.keys ≡ keys → t ≡ placed_if awaited (shift_of (rules_of lent) a (last_of w half fill v) seen merged)
         shifts lent es ek =
             let q = place lent ek in
-            let z : removed_of (rules_of (of_spans spans)) a m.lost ≡ removed_of (rules_at least lent) a (lost_of (rules_at least lent) a (last_of w half fill v)) =
+            let z : removed_of (rules_of (of_spans spans)) a m.lost ≡ removed_of (rules_of lent) a (lost_of (rules_of lent) a (last_of w half fill v)) =
             ap (λ (x : List ℕ). removed_of (rules_of (of_spans x)) a m.lost) (sym es)
-            ∙ removed_is least lent a m.lost
-            ∙ ap (removed_of (rules_at least lent) a) (ap (λ (x : Met). x.lost) (em ∙ ap (λ (k : List ℕ). met_by least k w fill a v) (sym ek)) ∙ lost_is least lent w half fill a v) in
+            ∙ removed_is lent a m.lost
+            ∙ ap (removed_of (rules_of lent) a) (ap (λ (x : Met). x.lost) (em ∙ ap (λ (k : List ℕ). met_by k w fill a v) (sym ek)) ∙ lost_is lent w half fill a v) in
             same-shift st.seen_is
             (st.length_is ∙ el ∙ ap (λ (x : List ℕ). length_of (of_spans x) a) (sym es) ∙ length_is lent a)
             (st.removed_is ∙ z)

@@ -5,7 +5,7 @@ use mathlib.Core.Path.{◌≡◌, refl, sym, ap, ◌∙◌}
 use mathlib.Core.List.{List, []}
 use Rattle.merging.specs.declared.Op.{Op}
 use Rattle.merging.specs.declared.Op.TheVariants.{Delete, Insert, Retain}
-use Rattle.merging.specs.Lent.{Lent, rules_at}
+use Rattle.merging.specs.Lent.{Lent, rules_of}
 use Rattle.merging.specs.Operations.{length_of, span_of}
 use Rattle.merging.specs.Meeting.{kept_length, front_of, tail_of, met_of, other_of, remember_of}
 use Rattle.merging.specs.Cursors.{shift_of, moved_by, behind_of}
@@ -50,31 +50,31 @@ same_state : {s t : State} → s.left ≡ t.left → s.right ≡ t.right → s.m
 same_state a b c d = λ i. record { left = a i; right = b i; merged = c i; consumed = d i }
 
 -- the turn of the definition
-abbrev pub turn_of : ℕ → Lent → List ℕ → List ℕ → List ℕ → List ℕ → List ℕ → ℕ → Op → Side → Side → Totals → ℕ → Turned
-turn_of least lent ops ops' cs cs' w half a own other totals number =
-    turn_left (rules_at least lent) number a (list_from ops own.ahead.behind own.ahead.at) (state_of ops ops' cs cs' w half own other totals)
+abbrev pub turn_of : Lent → List ℕ → List ℕ → List ℕ → List ℕ → List ℕ → ℕ → Op → Side → Side → Totals → ℕ → Turned
+turn_of lent ops ops' cs cs' w half a own other totals number =
+    turn_left (rules_of lent) number a (list_from ops own.ahead.behind own.ahead.at) (state_of ops ops' cs cs' w half own other totals)
 
 -- what a turn of the side `own`, which takes a, emits and moves, as the definition has it
-module _ (least : ℕ) (lent : Lent) (ops ops' cs cs' w : List ℕ) (half : ℕ) (a : Op) (own other : Side) (totals : Totals) (number : ℕ)
+module _ (lent : Lent) (ops ops' cs cs' w : List ℕ) (half : ℕ) (a : Op) (own other : Side) (totals : Totals) (number : ℕ)
     (ends : other.ahead.next ≡ Done → list_from ops' other.ahead.behind other.ahead.at ≡ []) where
   pub same_front : taken a other ≡ front_of a (ahead_of ops' other.ahead)
   same_front = front_heads a other.ahead.next (list_from ops' other.ahead.behind other.ahead.at) ends
 
   -- "Empty results aren't emitted."
-  pub turned_out : emitted number totals.consumed (result least lent w half a other) ≡ (turn_of least lent ops ops' cs cs' w half a own other totals number).out
+  pub turned_out : emitted number totals.consumed (result lent w half a other) ≡ (turn_of lent ops ops' cs cs' w half a own other totals number).out
   unfolding turn_left turn_with
-  turned_out = ap (λ (b : Op). emitted number totals.consumed (met_of (rules_at least lent) b (memory_of w half other.memory))) same_front
+  turned_out = ap (λ (b : Op). emitted number totals.consumed (met_of (rules_of lent) b (memory_of w half other.memory))) same_front
 
-  pub turned_cursors : moved_by (taken a other) (shift_by least lent w half a own other totals.merged) (cursors_left cs own.cursor) ≡ (turn_of least lent ops ops' cs cs' w half a own other totals number).cursors
+  pub turned_cursors : moved_by (taken a other) (shift_by lent w half a own other totals.merged) (cursors_left cs own.cursor) ≡ (turn_of lent ops ops' cs cs' w half a own other totals number).cursors
   unfolding turn_left turn_with
   turned_cursors =
-      ap (λ (b : Op). moved_by b (shift_of (rules_at least lent) b (memory_of w half other.memory) own.seen totals.merged) (cursors_left cs own.cursor)) same_front
+      ap (λ (b : Op). moved_by b (shift_of (rules_of lent) b (memory_of w half other.memory) own.seen totals.merged) (cursors_left cs own.cursor)) same_front
 
   -- and the state after it
   pub turned-state :
       {spans keys w' out out' moved moved' : List ℕ} {r : Result} → lent.spans ≡ spans → lent.keys ≡ keys
-      → Turns least spans keys ops cs w w' half a own other totals number out out' moved moved' r
-      → state_of ops ops' cs cs' w' half r.own r.other r.totals ≡ (turn_of least lent ops ops' cs cs' w half a own other totals number).state
+      → Turns spans keys ops cs w w' half a own other totals number out out' moved moved' r
+      → state_of ops ops' cs cs' w' half r.own r.other r.totals ≡ (turn_of lent ops ops' cs cs' w half a own other totals number).state
   unfolding turn_left turn_with
   turned-state es ek T =
       let m = T.made lent es ek in
@@ -83,9 +83,9 @@ module _ (least : ℕ) (lent : Lent) (ops ops' cs cs' w : List ℕ) (half : ℕ)
       same_state
       (same_stream
       (T.looks.view ∙ tail_next a (heads other.ahead.next []) xs ∙ tail_heads a other.ahead.next (list_from ops' other.ahead.behind other.ahead.at) xs ends)
-      (m.last ∙ ap (λ (b : Op). remember_of lent (memory_of w half own.memory) (met_of (rules_at least lent) b v)) same_front)
+      (m.last ∙ ap (λ (b : Op). remember_of lent (memory_of w half own.memory) (met_of (rules_of lent) b v)) same_front)
       (m.seen ∙ ap (λ (b : Op). own.seen + length_of lent b) same_front)
-      (m.cursors ∙ ap (λ (b : Op). behind_of b (shift_of (rules_at least lent) b v own.seen totals.merged) (cursors_left cs own.cursor)) same_front))
-      (same_stream (ap (ahead_of ops') T.ahead) (m.heard ∙ ap (λ (b : Op). other_of (rules_at least lent) b v) same_front) T.waited (ap (cursors_left cs') T.stood))
-      (m.merged ∙ ap (λ (b : Op). totals.merged + length_of lent (met_of (rules_at least lent) b v)) same_front)
-      (m.consumed ∙ ap (λ (b : Op). totals.consumed + span_of (met_of (rules_at least lent) b v)) same_front)
+      (m.cursors ∙ ap (λ (b : Op). behind_of b (shift_of (rules_of lent) b v own.seen totals.merged) (cursors_left cs own.cursor)) same_front))
+      (same_stream (ap (ahead_of ops') T.ahead) (m.heard ∙ ap (λ (b : Op). other_of (rules_of lent) b v) same_front) T.waited (ap (cursors_left cs') T.stood))
+      (m.merged ∙ ap (λ (b : Op). totals.merged + length_of lent (met_of (rules_of lent) b v)) same_front)
+      (m.consumed ∙ ap (λ (b : Op). totals.consumed + span_of (met_of (rules_of lent) b v)) same_front)

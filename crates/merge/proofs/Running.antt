@@ -12,7 +12,7 @@ use Rattle.records.specs.Cursors.{flat_cursors}
 use Rattle.records.specs.Operations.{flat_operations}
 use Rattle.merging.specs.declared.Op.{Op}
 use Rattle.merging.specs.declared.Order.{Order}
-use Rattle.merging.specs.Lent.{Lent, Rules, rules_at, lent_of}
+use Rattle.merging.specs.Lent.{Lent, Rules, rules_of, lent_of}
 use Rattle.merging.specs.Operations.{Out, order_of, length_of, span_of, records_of}
 use Rattle.merging.specs.Meeting.{shortened, met_of}
 use Rattle.merging.specs.Turn.{State, Turned, turned, emitted, turn_left, turn_right, from_left, from_right, taken_of}
@@ -21,7 +21,7 @@ use Rattle.merging.specs.Tiling.{Tiled, Inserts, tokens_of}
 use Rattle.merging.proofs.OneTurn.{place_after, tiled_le, starts}
 use Rattle.merging.proofs.Turns.{Turning, left_less, right_less, run_left, run_right, fuel, taken_is}
 use Rattle.merging.proofs.Sound.{Sound, text_of_all, next_within, sound_turned, sound_next}
-use Rattle.merging.proofs.Lawful.{lawful_at}
+use Rattle.merging.proofs.Lawful.{lawful}
 use Rattle.operation.specs.declared.Next.{Next}
 use Rattle.operation.specs.declared.Next.TheVariants.{Here}
 use Rattle.numbers.specs.Sizes.{most}
@@ -75,7 +75,6 @@ pub record Share : Type 0 where
 
 -- what no turn changes, seen from the side `own`: the rooms as they were lent, what all turns give, and what those from a state on do
 pub record Frame : Type 0 where
-  pub least : ℕ
   pub lent : Lent
   pub own : Share
   pub other : Share
@@ -87,10 +86,9 @@ pub record Frame : Type 0 where
   pub rest : State → Outcome
 
 -- as the left sees it, and as the other side does
-abbrev pub frame : ℕ → List ℕ → List ℕ → List ℕ → List ℕ → List ℕ → List ℕ → List ℕ → List ℕ → Order → ℕ → ℕ → List ℕ → List ℕ → List ℕ → Frame
-frame least original text spans keys lops rops lcs rcs priority mid half w out moved =
+abbrev pub frame : List ℕ → List ℕ → List ℕ → List ℕ → List ℕ → List ℕ → List ℕ → List ℕ → Order → ℕ → ℕ → List ℕ → List ℕ → List ℕ → Frame
+frame original text spans keys lops rops lcs rcs priority mid half w out moved =
     record {
-      least = least;
       lent = lent_of original text spans keys;
       own = record { ops = lops; cs = lcs; base = 0; top = mid };
       other = record { ops = rops; cs = rcs; base = mid; top = half };
@@ -98,14 +96,13 @@ frame least original text spans keys lops rops lcs rcs priority mid half w out m
       room = w;
       out = out;
       moved = moved;
-      whole = outcome least (lent_of original text spans keys) priority lops rops lcs rcs;
-      rest = rest (rules_at least (lent_of original text spans keys)) priority;
+      whole = outcome (lent_of original text spans keys) priority lops rops lcs rcs;
+      rest = rest (rules_of (lent_of original text spans keys)) priority;
     }
 
 abbrev pub exchanged : Frame → Frame
 exchanged F =
     record {
-      least = F.least;
       lent = F.lent;
       own = F.other;
       other = F.own;
@@ -131,8 +128,8 @@ pub record Ready (F : Frame) : Type 0 where
   pub space : (length F.own.cs / 2 + length F.other.cs / 2) * 2 ≤ length F.moved
   pub spans_fit : length F.lent.spans / 2 ≤ most
 
-pub ready : {least : ℕ} {original text spans keys lops rops lcs rcs : List ℕ} {priority : Order} {mid half : ℕ} {w out moved : List ℕ}
-    → Runnable least original text spans keys lops rops lcs rcs priority w mid half out moved → Ready (frame least original text spans keys lops rops lcs rcs priority mid half w out moved)
+pub ready : {original text spans keys lops rops lcs rcs : List ℕ} {priority : Order} {mid half : ℕ} {w out moved : List ℕ}
+    → Runnable original text spans keys lops rops lcs rcs priority w mid half out moved → Ready (frame original text spans keys lops rops lcs rcs priority mid half w out moved)
 ready K =
     record {
       original_most = K.original_most;
@@ -156,7 +153,7 @@ pub record Going (F : Frame) (w out moved : List ℕ) (own other : Side) (totals
   pub ready : Ready F
   pub p : ℕ
   pub q : ℕ
-  pub sound : Sound (rules_at F.least F.lent) (Run F.lent.inserted F.lent.spans F.lent.keys) (list_of F.own.ops) (list_of F.other.ops) (length F.lent.original)
+  pub sound : Sound (rules_of F.lent) (Run F.lent.inserted F.lent.spans F.lent.keys) (list_of F.own.ops) (list_of F.other.ops) (length F.lent.original)
       (state_in F w own other totals) p q
   pub owns : SideFits F.own.ops F.own.base F.own.top p own
   pub others : SideFits F.other.ops F.other.base F.other.top q other
@@ -216,8 +213,8 @@ pub record Taking (F : Frame) (w : List ℕ) (own other : Side) (totals : Totals
   pub next : own.ahead.next ≡ Here a
   pub turning : Turning (state_in F w own other totals) a (list_from F.own.ops own.ahead.behind own.ahead.at) p q (length F.lent.original)
   pub goes : F.rest (state_in F w own other totals)
-      ≡ before (turn_left (rules_at F.least F.lent) number a (list_from F.own.ops own.ahead.behind own.ahead.at) (state_in F w own other totals))
-      (F.rest (turn_left (rules_at F.least F.lent) number a (list_from F.own.ops own.ahead.behind own.ahead.at) (state_in F w own other totals)).state)
+      ≡ before (turn_left (rules_of F.lent) number a (list_from F.own.ops own.ahead.behind own.ahead.at) (state_in F w own other totals))
+      (F.rest (turn_left (rules_of F.lent) number a (list_from F.own.ops own.ahead.behind own.ahead.at) (state_in F w own other totals)).state)
 
 module _ {F : Frame} {w out moved : List ℕ} {own other : Side} {totals : Totals} (G : Going F w out moved own other totals) {number : ℕ} {a : Op}
     (t : Taking F w own other totals G.p G.q number a) where
@@ -237,7 +234,7 @@ module _ {F : Frame} {w out moved : List ℕ} {own other : Side} {totals : Total
   n = length L.original
 
   abbrev D : Turned
-  D = turn_left (rules_at F.least L) number a xs S
+  D = turn_left (rules_of L) number a xs S
 
   -- what is still to come, after this turn
   outs_on : F.whole.outs ≡ G.outs ++ (D.out ++ (F.rest D.state).outs)
@@ -246,7 +243,7 @@ module _ {F : Frame} {w out moved : List ℕ} {own other : Side} {totals : Total
   cursors_on : F.whole.cursors ≡ G.ms ++ (D.cursors ++ (F.rest D.state).cursors)
   cursors_on = G.all_cursors ∙ ap (λ (o : Outcome). G.ms ++ o.cursors) t.goes
 
-  pub side_turnable : Turnable F.least L.spans L.keys F.own.ops F.own.cs w F.half a own other totals number out moved
+  pub side_turnable : Turnable L.spans L.keys F.own.ops F.own.cs w F.half a own other totals number out moved
   unfolding met_of
   side_turnable =
       let K = G.ready in
@@ -286,11 +283,11 @@ module _ {F : Frame} {w out moved : List ℕ} {own other : Side} {totals : Total
         first = first_fits a xs G.p n own.ahead.at K.original_most tiled (subst (λ (x : Next). G.p + span_next x ≡ own.ahead.at) t.next G.owns.at);
         space = omega (arith, G.space, K.space, G.moved_same);
         room = λ lent' es ek.
-            let s : result F.least lent' w F.half a other ≡ result F.least L w F.half a other =
-            ap (shortened (taken a other)) (lost_keys F.least lent' L ek (taken a other) (memory_of w F.half other.memory)) in
-            let d : length (emitted number totals.consumed (result F.least lent' w F.half a other)) ≡ length D.out =
+            let s : result lent' w F.half a other ≡ result L w F.half a other =
+            ap (shortened (taken a other)) (lost_keys lent' L ek (taken a other) (memory_of w F.half other.memory)) in
+            let d : length (emitted number totals.consumed (result lent' w F.half a other)) ≡ length D.out =
             ap (λ (x : Op). length (emitted number totals.consumed x)) s
-            ∙ ap length (turned_out F.least L F.own.ops F.other.ops F.own.cs F.other.cs w F.half a own other totals number G.others.ends) in
+            ∙ ap length (turned_out L F.own.ops F.other.ops F.own.cs F.other.cs w F.half a own other totals number G.others.ends) in
             omega (
               arith,
               d,
@@ -303,28 +300,28 @@ module _ {F : Frame} {w out moved : List ℕ} {own other : Side} {totals : Total
             );
       }
 
-  module _ {w' out' moved' : List ℕ} {r : Result} (T : Turns F.least L.spans L.keys F.own.ops F.own.cs w w' F.half a own other totals number out out' moved moved' r) where
+  module _ {w' out' moved' : List ℕ} {r : Result} (T : Turns L.spans L.keys F.own.ops F.own.cs w w' F.half a own other totals number out out' moved moved' r) where
     -- the state after the turn is the definition's
     es : state_in F w' r.own r.other r.totals ≡ D.state
-    es = turned-state F.least L F.own.ops F.other.ops F.own.cs F.other.cs w F.half a own other totals number G.others.ends refl refl T
+    es = turned-state L F.own.ops F.other.ops F.own.cs F.other.cs w F.half a own other totals number G.others.ends refl refl T
 
     pub side_less : work (ahead_of F.own.ops r.own.ahead) + work (ahead_of F.other.ops r.other.ahead)
         < work (ahead_of F.own.ops own.ahead) + work (ahead_of F.other.ops other.ahead)
     side_less =
-        omega (arith, ap (λ (s : State). work s.left.next) es, ap (λ (s : State). work s.right.next) es, left_less (rules_at F.least L) number S a xs t.turning.next)
+        omega (arith, ap (λ (s : State). work s.left.next) es, ap (λ (s : State). work s.right.next) es, left_less (rules_of L) number S a xs t.turning.next)
 
     pub side_step : length out' ≡ length out → length moved' ≡ length moved → Going F w' out' moved' r.own r.other r.totals
     side_step eo em =
         let m = T.made L refl refl in
-        let f = same_front F.least L F.own.ops F.other.ops F.own.cs F.other.cs w F.half a own other totals number G.others.ends in
-        let eo' = turned_out F.least L F.own.ops F.other.ops F.own.cs F.other.cs w F.half a own other totals number G.others.ends in
-        let ec' = turned_cursors F.least L F.own.ops F.other.ops F.own.cs F.other.cs w F.half a own other totals number G.others.ends in
+        let f = same_front L F.own.ops F.other.ops F.own.cs F.other.cs w F.half a own other totals number G.others.ends in
+        let eo' = turned_out L F.own.ops F.other.ops F.own.cs F.other.cs w F.half a own other totals number G.others.ends in
+        let ec' = turned_cursors L F.own.ops F.other.ops F.own.cs F.other.cs w F.half a own other totals number G.others.ends in
         record {
           ready = G.ready;
           p = place_after a S.right.next;
           q = G.q;
-          sound = subst (λ (s : State). Sound (rules_at F.least L) Q (list_of F.own.ops) (list_of F.other.ops) n s (place_after a S.right.next) G.q) (sym es)
-              (sound_next (lawful_at F.least L) G.sound number a xs t.turning);
+          sound = subst (λ (s : State). Sound (rules_of L) Q (list_of F.own.ops) (list_of F.other.ops) n s (place_after a S.right.next) G.q) (sym es)
+              (sound_next (lawful L) G.sound number a xs t.turning);
           owns = subst (λ (b : Op). SideFits F.own.ops F.own.base F.own.top (order_of a + span_of b) r.own) f
               (own_fits T n G.owns t.next t.turning.good.tiled_l);
           others = other_fits T G.others;

@@ -10,12 +10,12 @@ use native.Mathlib.Decide.{dec_lt}
 use lib.Dec.{ltb}
 use lib.ListN.{length}
 use lib.Seq.{slice}
-use Rattle.overlap.specs.Overlap.{overlap_at, width_of}
+use Rattle.overlap.specs.Overlap.{overlap_of}
 use Rattle.merging.specs.declared.Op.{Op}
 use Rattle.merging.specs.declared.Op.TheVariants.{Delete, Insert, Retain}
-use Rattle.merging.specs.Lent.{Lent, rules_at, keys_of}
+use Rattle.merging.specs.Lent.{Lent, rules_of, keys_of}
 use Rattle.merging.specs.Operations.{order_of, length_of, span_of}
-use Rattle.merging.specs.Meeting.{Remembered, nothing, deleted, retained, inserted, kept_length, front_of, lost_of}
+use Rattle.merging.specs.Meeting.{Remembered, nothing, deleted, retained, inserted, kept_length, front_of, lost_of, width_of}
 use Rattle.merging.specs.Tiling.{Tiled, total_of, tokens_of, Inserts}
 use Rattle.merging.proofs.OneTurn.{starts}
 use Rattle.merging.proofs.Sound.{text_of_all, next_within}
@@ -74,8 +74,8 @@ span_split (Retain o l) rs =
       | no h ↦ omega (arith, ap span_next (tail_whole o l (kept_length o l rs) rs refl (omega arith)), keep_less o l rs)
     ]
 
-module _ {least : ℕ} {spans keys ops cs w w' : List ℕ} {half : ℕ} {a : Op} {own other : Side} {totals : Totals} {number : ℕ} {out out' moved moved' : List ℕ} {r : Result}
-    (T : Turns least spans keys ops cs w w' half a own other totals number out out' moved moved' r) where
+module _ {spans keys ops cs w w' : List ℕ} {half : ℕ} {a : Op} {own other : Side} {totals : Totals} {number : ℕ} {out out' moved moved' : List ℕ} {r : Result}
+    (T : Turns spans keys ops cs w w' half a own other totals number out out' moved moved' r) where
   -- the side that took a
   pub own_fits : {base top p : ℕ} (n : ℕ) → SideFits ops base top p own → own.ahead.next ≡ Here a → Tiled (a ∷ list_from ops own.ahead.behind own.ahead.at) p n
       → SideFits ops base top (order_of a + span_of (taken a other)) r.own
@@ -149,20 +149,20 @@ first_fits (Insert o f k) (x ∷ xs) p n at small t e = omega (arith, next_withi
 first_fits (Retain o l) (x ∷ xs) p n at small t e = omega (arith, next_within x xs (o + l) n t.2, starts x xs (o + l) n t.2, t.0)
 
 -- what an operation loses goes by the keys alone
-pub lost_keys : (least : ℕ) (L M : Lent) → L.keys ≡ M.keys → (a : Op) (v : Remembered) → lost_of (rules_at least L) a v ≡ lost_of (rules_at least M) a v
+pub lost_keys : (L M : Lent) → L.keys ≡ M.keys → (a : Op) (v : Remembered) → lost_of (rules_of L) a v ≡ lost_of (rules_of M) a v
 unfolding lost_of keys_of
-lost_keys least L M e (Delete o l) nothing = refl
-lost_keys least L M e (Delete o l) (deleted o' l') = refl
-lost_keys least L M e (Delete o l) (retained o' l') = refl
-lost_keys least L M e (Delete o l) (inserted o' ks ls) = refl
-lost_keys least L M e (Insert o f n) nothing = refl
-lost_keys least L M e (Insert o f n) (deleted o' l') = refl
-lost_keys least L M e (Insert o f n) (retained o' l') = refl
-lost_keys least L M e (Insert o f n) (inserted o' ks ls) = ap (λ (k : List ℕ). width_of (overlap_at least ks (slice f (f + n) k))) e
-lost_keys least L M e (Retain o l) nothing = refl
-lost_keys least L M e (Retain o l) (deleted o' l') = refl
-lost_keys least L M e (Retain o l) (retained o' l') = refl
-lost_keys least L M e (Retain o l) (inserted o' ks ls) = refl
+lost_keys L M e (Delete o l) nothing = refl
+lost_keys L M e (Delete o l) (deleted o' l') = refl
+lost_keys L M e (Delete o l) (retained o' l') = refl
+lost_keys L M e (Delete o l) (inserted o' ks ls) = refl
+lost_keys L M e (Insert o f n) nothing = refl
+lost_keys L M e (Insert o f n) (deleted o' l') = refl
+lost_keys L M e (Insert o f n) (retained o' l') = refl
+lost_keys L M e (Insert o f n) (inserted o' ks ls) = ap (λ (k : List ℕ). width_of (overlap_of ks (slice f (f + n) k))) e
+lost_keys L M e (Retain o l) nothing = refl
+lost_keys L M e (Retain o l) (deleted o' l') = refl
+lost_keys L M e (Retain o l) (retained o' l') = refl
+lost_keys L M e (Retain o l) (inserted o' ks ls) = refl
 
 pub text_first : (lent : Lent) (a : Op) (xs : List Op) → length_of lent a ≤ text_of_all lent (a ∷ xs)
 unfolding total_of

@@ -7,7 +7,7 @@ use mathlib.Core.List.{List}
 use native.Mathlib.Omega.{arith}
 use lib.ListN.{length}
 use Rattle.room.proofs.Choices.{never as no_way}
-use Rattle.merging.specs.Lent.{Lent, rules_at, lent_of}
+use Rattle.merging.specs.Lent.{Lent, rules_of, lent_of}
 use Rattle.merging.specs.declared.Op.{Op}
 use Rattle.merging.specs.declared.Order.{Order}
 use Rattle.merging.specs.Turn.{State, none, from_left, from_right, taken_of}
@@ -35,11 +35,11 @@ pub record Seated (x : Choice) (left right : Side) (a : Op) (own other : Side) (
   pub other_is : other ≡ of_side x right left
   pub number_is : number ≡ of_side x 0 1
 
-module _ (priority : Order) {least : ℕ} {original text spans keys lops rops lcs rcs : List ℕ} {mid half : ℕ} {w₀ out₀ moved₀ w out moved : List ℕ} {left right : Side} {totals : Totals}
-    (G : Going (frame least original text spans keys lops rops lcs rcs priority mid half w₀ out₀ moved₀) w out moved left right totals) (x : Choice)
+module _ (priority : Order) {original text spans keys lops rops lcs rcs : List ℕ} {mid half : ℕ} {w₀ out₀ moved₀ w out moved : List ℕ} {left right : Side} {totals : Totals}
+    (G : Going (frame original text spans keys lops rops lcs rcs priority mid half w₀ out₀ moved₀) w out moved left right totals) (x : Choice)
     (chose : x ≡ choice_of (of_text text spans keys) priority left.ahead.next right.ahead.next) where
   abbrev F : Frame
-  F = frame least original text spans keys lops rops lcs rcs priority mid half w₀ out₀ moved₀
+  F = frame original text spans keys lops rops lcs rcs priority mid half w₀ out₀ moved₀
 
   abbrev L : Lent
   L = lent_of original text spans keys
@@ -74,7 +74,7 @@ module _ (priority : Order) {least : ℕ} {original text spans keys lops rops lc
       record {
         next = k.0;
         turning = turning_by L priority S G.p G.q (length original) G.sound.stands (from_left a xs) k.1;
-        goes = goes_left (rules_at least L) priority S a xs k.1;
+        goes = goes_left (rules_of L) priority S a xs k.1;
       }
 
   takes_right : (b : Op) → Takes (Right b) → Taking (exchanged F) w right left totals (exchange G).p (exchange G).q 1 b
@@ -83,11 +83,11 @@ module _ (priority : Order) {least : ℕ} {original text spans keys lops rops lc
       record {
         next = k.0;
         turning = turning_by L priority S G.p G.q (length original) G.sound.stands (from_right b ys) k.1;
-        goes = goes_right (rules_at least L) priority S b ys k.1;
+        goes = goes_right (rules_of L) priority S b ys k.1;
       }
 
   taking_turnable : (y : Choice) → is_none y ≡ false → Takes y
-      → Turnable least spans keys (of_number (of_side y 0 1) lops rops) (of_number (of_side y 0 1) lcs rcs) w half (taken_by y) (of_side y left right) (of_side y right left) totals (of_side y 0 1) out moved
+      → Turnable spans keys (of_number (of_side y 0 1) lops rops) (of_number (of_side y 0 1) lcs rcs) w half (taken_by y) (of_side y left right) (of_side y right left) totals (of_side y 0 1) out moved
   unfolding is_none taken_by of_side
   taking_turnable Nothing n k = no_way n
   taking_turnable (Left a) n k = side_turnable G (takes_left a k)
@@ -96,7 +96,7 @@ module _ (priority : Order) {least : ℕ} {original text spans keys lops rops lc
   -- a turn of the code, as the choice y takes it
   abbrev Turned_by : Choice → List ℕ → List ℕ → List ℕ → Turned → Type 0
   Turned_by y w' out' moved' r =
-      Turns least spans keys (of_number (of_side y 0 1) lops rops) (of_number (of_side y 0 1) lcs rcs) w w' half (taken_by y) (of_side y left right) (of_side y right left) totals (of_side y 0 1) out out' moved moved' r
+      Turns spans keys (of_number (of_side y 0 1) lops rops) (of_number (of_side y 0 1) lcs rcs) w w' half (taken_by y) (of_side y left right) (of_side y right left) totals (of_side y 0 1) out out' moved moved' r
 
   module _ {w' out' moved' : List ℕ} {r : Turned} where
     taking_less : (y : Choice) → is_none y ≡ false → Takes y → Turned_by y w' out' moved' r
@@ -115,10 +115,10 @@ module _ (priority : Order) {least : ℕ} {original text spans keys lops rops lc
     taking_step (Right b) n k T eo em = exchange (side_step (exchange G) (takes_right b k) T eo em)
 
   module _ {a : Op} {own other : Side} {number : ℕ} (s : Seated x left right a own other number) where
-    pub seat_turnable : Turnable least spans keys (of_number number lops rops) (of_number number lcs rcs) w half a own other totals number out moved
+    pub seat_turnable : Turnable spans keys (of_number number lops rops) (of_number number lcs rcs) w half a own other totals number out moved
     seat_turnable = rw (s.a_is, s.own_is, s.other_is, s.number_is) (taking_turnable x s.some takes)
 
-    module _ {w' out' moved' : List ℕ} {r : Turned} {l' r' : Side} (T : Turns least spans keys (of_number number lops rops) (of_number number lcs rcs) w w' half a own other totals number out out' moved moved' r)
+    module _ {w' out' moved' : List ℕ} {r : Turned} {l' r' : Side} (T : Turns spans keys (of_number number lops rops) (of_number number lcs rcs) w w' half a own other totals number out out' moved moved' r)
         (el : l' ≡ of_side x r.own r.other) (er : r' ≡ of_side x r.other r.own) where
       taking : Turned_by x w' out' moved' r
       taking = rw (s.a_is, s.own_is, s.other_is, s.number_is) at T

@@ -14,7 +14,7 @@ use Rattle.records.specs.Operations.{flat_operations}
 use Rattle.merging.specs.declared.Op.{Op}
 use Rattle.merging.specs.declared.Op.TheVariants.{Delete, Insert, Retain}
 use Rattle.merging.specs.declared.Shift.{Shift}
-use Rattle.merging.specs.Lent.{Lent, rules_at}
+use Rattle.merging.specs.Lent.{Lent, rules_of}
 use Rattle.merging.specs.Operations.{length_of, span_of, records_of}
 use Rattle.merging.specs.Meeting.{inserted, front_of, shortened, met_of, remember_of}
 use Rattle.merging.specs.Cursors.{shift_of, removed_of, moved_by, behind_of}
@@ -66,10 +66,10 @@ front_span (Insert o f n) rs = omega arith
 front_span (Retain o l) rs = keep_less o l rs
 
 -- what is left of an operation that lost z
-pub rest_length : (least : ℕ) (lent : Lent) (b : Op) (z : ℕ) → z ≤ size b → length_of lent b ≡ removed_of (rules_at least lent) b z + length_of lent (shortened b z)
-rest_length least lent (Delete o l) z h = omega arith
-rest_length least lent (Insert o f n) z h = lengths_split lent z f n h
-rest_length least lent (Retain o l) z h = omega arith
+pub rest_length : (lent : Lent) (b : Op) (z : ℕ) → z ≤ size b → length_of lent b ≡ removed_of (rules_of lent) b z + length_of lent (shortened b z)
+rest_length lent (Delete o l) z h = omega arith
+rest_length lent (Insert o f n) z h = lengths_split lent z f n h
+rest_length lent (Retain o l) z h = omega arith
 
 pub rest_tokens : (b : Op) (z : ℕ) → tokens (shortened b z) ≤ tokens b
 rest_tokens (Delete o l) z = omega arith
@@ -146,10 +146,10 @@ abbrev seen_of : List ℕ → List ℕ → Lent
 seen_of spans keys = record { original = []; inserted = []; spans = spans; keys = keys }
 
 -- what the functions that a turn calls ensure, b being what is taken
-pub record Parts (least : ℕ) (spans keys ops cs w w₁ w₂ : List ℕ) (half : ℕ) (own other : Side) (totals : Totals) (number : ℕ) (out out' moved moved' : List ℕ)
+pub record Parts (spans keys ops cs w w₁ w₂ : List ℕ) (half : ℕ) (own other : Side) (totals : Totals) (number : ℕ) (out out' moved moved' : List ℕ)
     (b : Op) (tail : Next) (awaited : Bool) (r : Meeting) (p : Progress) (m : Op) (kept : Memory) (place span : ℕ) (coming : Ahead) : Type 0 where
   pub awaits : awaited ≡ waits (own.seen + length_of (of_spans spans) b) (cursors_left cs own.cursor)
-  pub meets : Meets least spans keys w w₁ half other.memory.fill own.memory.fill b other.memory.last awaited own.seen totals.merged r
+  pub meets : Meets spans keys w w₁ half other.memory.fill own.memory.fill b other.memory.last awaited own.seen totals.merged r
   pub went : Went cs (moved_by b r.shift (cursors_left cs own.cursor)) (behind_of b r.shift (cursors_left cs own.cursor)) moved moved'
       (record { next = own.cursor; count = totals.cursors }) p
   pub rest : m ≡ shortened b r.lost
@@ -173,8 +173,8 @@ resulting own other totals r p kept place span coming =
           };
     }
 
-module _ {least : ℕ} {spans keys ops cs w : List ℕ} {half : ℕ} {a : Op} {own other : Side} {totals : Totals} {number : ℕ} {out moved : List ℕ}
-    (T : Turnable least spans keys ops cs w half a own other totals number out moved) where
+module _ {spans keys ops cs w : List ℕ} {half : ℕ} {a : Op} {own other : Side} {totals : Totals} {number : ℕ} {out moved : List ℕ}
+    (T : Turnable spans keys ops cs w half a own other totals number out moved) where
   pub facing : Facing spans keys w half other.memory.fill own.memory.fill (taken a other) other.memory.last
   facing =
       let s = front_sound a (heads other.ahead.next []) T.sound in
@@ -198,40 +198,40 @@ module _ {least : ℕ} {spans keys ops cs w : List ℕ} {half : ℕ} {a : Op} {o
   end_most = omega (arith, T.seen, front_length (of_spans spans) a (heads other.ahead.next []))
 
   module _ {w₁ : List ℕ} {awaited : Bool} {r : Meeting}
-      (M : Meets least spans keys w w₁ half other.memory.fill own.memory.fill (taken a other) other.memory.last awaited own.seen totals.merged r) where
+      (M : Meets spans keys w w₁ half other.memory.fill own.memory.fill (taken a other) other.memory.last awaited own.seen totals.merged r) where
     module _ (lent : Lent) (es : lent.spans ≡ spans) (ek : lent.keys ≡ keys) where
       pub length_of_lem : r.shift.length ≡ length_of lent (taken a other)
       unfolding shift_of
       length_of_lem = ap (λ (t : Shift). t.length) (M.shift lent es ek)
 
-      removed_of : r.shift.removed ≡ removed_of (rules_at least lent) (taken a other) r.lost
+      removed_of : r.shift.removed ≡ removed_of (rules_of lent) (taken a other) r.lost
       unfolding shift_of
-      removed_of = ap (λ (t : Shift). t.removed) (M.shift lent es ek) ∙ ap (removed_of (rules_at least lent) (taken a other)) (sym (M.lost lent es ek))
+      removed_of = ap (λ (t : Shift). t.removed) (M.shift lent es ek) ∙ ap (removed_of (rules_of lent) (taken a other)) (sym (M.lost lent es ek))
 
-      whole : length_of lent (taken a other) ≡ removed_of (rules_at least lent) (taken a other) r.lost + length_of lent (shortened (taken a other) r.lost)
-      whole = rest_length least lent (taken a other) r.lost M.most
+      whole : length_of lent (taken a other) ≡ removed_of (rules_of lent) (taken a other) r.lost + length_of lent (shortened (taken a other) r.lost)
+      whole = rest_length lent (taken a other) r.lost M.most
 
       pub text_of_lem : r.shift.length - r.shift.removed ≡ length_of lent (shortened (taken a other) r.lost)
       text_of_lem = omega (arith, length_of_lem, removed_of, whole)
 
-      pub result_of : shortened (taken a other) r.lost ≡ result least lent w half a other
+      pub result_of : shortened (taken a other) r.lost ≡ result lent w half a other
       unfolding met_of
       result_of = ap (shortened (taken a other)) (M.lost lent es ek)
 
       -- the shift is the definition's but for its place, where no cursor waits
       module _ (e : awaited ≡ waits (own.seen + length_of (of_spans spans) (taken a other)) (cursors_left cs own.cursor)) where
-        shift_if : r.shift ≡ placed_if (waits ((shift_by least lent w half a own other totals.merged).seen + (shift_by least lent w half a own other totals.merged).length) (cursors_left cs own.cursor)) (shift_by least lent w half a own other totals.merged)
+        shift_if : r.shift ≡ placed_if (waits ((shift_by lent w half a own other totals.merged).seen + (shift_by lent w half a own other totals.merged).length) (cursors_left cs own.cursor)) (shift_by lent w half a own other totals.merged)
         unfolding shift_of
         shift_if =
             M.shift lent es ek
-            ∙ ap (λ (x : Bool). placed_if x (shift_by least lent w half a own other totals.merged))
+            ∙ ap (λ (x : Bool). placed_if x (shift_by lent w half a own other totals.merged))
             (e ∙ ap (λ (n : ℕ). waits (own.seen + n) (cursors_left cs own.cursor)) (ap (λ (x : List ℕ). length_of (of_spans x) (taken a other)) (sym es) ∙ length_is lent (taken a other)))
 
-        pub moves : moved_by (taken a other) r.shift (cursors_left cs own.cursor) ≡ moved_by (taken a other) (shift_by least lent w half a own other totals.merged) (cursors_left cs own.cursor)
-        moves = ap (λ (t : Shift). moved_by (taken a other) t (cursors_left cs own.cursor)) shift_if ∙ moved_if (taken a other) (shift_by least lent w half a own other totals.merged) (cursors_left cs own.cursor)
+        pub moves : moved_by (taken a other) r.shift (cursors_left cs own.cursor) ≡ moved_by (taken a other) (shift_by lent w half a own other totals.merged) (cursors_left cs own.cursor)
+        moves = ap (λ (t : Shift). moved_by (taken a other) t (cursors_left cs own.cursor)) shift_if ∙ moved_if (taken a other) (shift_by lent w half a own other totals.merged) (cursors_left cs own.cursor)
 
-        pub stays : behind_of (taken a other) r.shift (cursors_left cs own.cursor) ≡ behind_of (taken a other) (shift_by least lent w half a own other totals.merged) (cursors_left cs own.cursor)
-        stays = ap (λ (t : Shift). behind_of (taken a other) t (cursors_left cs own.cursor)) shift_if ∙ behind_if (taken a other) (shift_by least lent w half a own other totals.merged) (cursors_left cs own.cursor)
+        pub stays : behind_of (taken a other) r.shift (cursors_left cs own.cursor) ≡ behind_of (taken a other) (shift_by lent w half a own other totals.merged) (cursors_left cs own.cursor)
+        stays = ap (λ (t : Shift). behind_of (taken a other) t (cursors_left cs own.cursor)) shift_if ∙ behind_if (taken a other) (shift_by lent w half a own other totals.merged) (cursors_left cs own.cursor)
 
     pub removed_most : r.shift.removed ≤ r.shift.length
     removed_most =
@@ -286,9 +286,9 @@ module _ {least : ℕ} {spans keys ops cs w : List ℕ} {half : ℕ} {a : Op} {o
   -- the turn, from its parts
   pub assembled :
       {w₁ w₂ out' moved' : List ℕ} {tail : Next} {awaited : Bool} {r : Meeting} {p : Progress} {m : Op} {kept : Memory} {place span : ℕ} {coming : Ahead}
-      → Parts least spans keys ops cs w w₁ w₂ half own other totals number out out' moved moved' (taken a other) tail awaited r p m kept place span coming
+      → Parts spans keys ops cs w w₁ w₂ half own other totals number out out' moved moved' (taken a other) tail awaited r p m kept place span coming
       → tail ≡ tail_by a (heads other.ahead.next [])
-      → Turns least spans keys ops cs w w₂ half a own other totals number out out' moved moved'
+      → Turns spans keys ops cs w w₂ half a own other totals number out out' moved moved'
       (resulting own other totals r p kept place span coming)
   assembled {w₁} {w₂} {out'} {moved'} {tail} {awaited} {r} {p} {m} {kept} {place} {span} {coming} P et =
       record {
@@ -308,7 +308,7 @@ module _ {least : ℕ} {spans keys ops cs w : List ℕ} {half : ℕ} {a : Op} {o
         same = P.remembers.kept.same ∙ M.scratched.same;
       }
     where
-      M : Meets least spans keys w w₁ half other.memory.fill own.memory.fill (taken a other) other.memory.last awaited own.seen totals.merged r
+      M : Meets spans keys w w₁ half other.memory.fill own.memory.fill (taken a other) other.memory.last awaited own.seen totals.merged r
       M = P.meets
 
       few : tokens m ≤ tokens (taken a other)
@@ -333,11 +333,11 @@ module _ {least : ℕ} {spans keys ops cs w : List ℕ} {half : ℕ} {a : Op} {o
           T.filled
           place_most
 
-      is : (lent : Lent) → lent.spans ≡ spans → lent.keys ≡ keys → m ≡ result least lent w half a other
+      is : (lent : Lent) → lent.spans ≡ spans → lent.keys ≡ keys → m ≡ result lent w half a other
       is lent es ek = P.rest ∙ result_of M lent es ek
 
       made : (lent : Lent) → lent.spans ≡ spans → lent.keys ≡ keys
-          → Made least lent cs w w₂ half a own other totals number out out' moved moved' (resulting own other totals r p kept place span coming)
+          → Made lent cs w w₂ half a own other totals number out out' moved moved' (resulting own other totals r p kept place span coming)
       made lent es ek =
           record {
             last = P.remembers.last lent es ek ∙ ap₂ (remember_of lent) own_same (is lent es ek);

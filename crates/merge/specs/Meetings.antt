@@ -3,7 +3,7 @@ use Rattle.std.specs.Prelude.{ℕ, ◌+◌, ◌≤◌, ◌≡◌, Bool, List, le
 use Rattle.room.specs.Choice.{pick}
 use Rattle.merging.specs.declared.Op.{Op}
 use Rattle.merging.specs.declared.Shift.{Shift}
-use Rattle.merging.specs.Lent.{Lent, rules_of, rules_at}
+use Rattle.merging.specs.Lent.{Lent, rules_of}
 use Rattle.merging.specs.Meeting.{lost_of, other_of}
 use Rattle.merging.specs.Cursors.{shift_of, removed_of}
 use Rattle.operation.specs.declared.Last.{Last}
@@ -47,13 +47,13 @@ pub record Facing (spans keys w : List ℕ) (half fill table : ℕ) (a : Op) (la
   pub room : half + half ≤ length w
   pub away : Away last fill table (tokens a)
 
--- what was met, with an overlap that counts from `least` tokens on, is the definition's, whatever else was lent
-pub record Meets (least : ℕ) (spans keys w w' : List ℕ) (half fill table : ℕ) (a : Op) (last : Last) (awaited : Bool) (seen merged : ℕ) (r : Meeting) : Type 0 where
-  pub lost : (lent : Lent) → lent.spans ≡ spans → lent.keys ≡ keys → r.lost ≡ lost_of (rules_at least lent) a (last_of w half fill last)
+-- what was met is the definition's, whatever else was lent
+pub record Meets (spans keys w w' : List ℕ) (half fill table : ℕ) (a : Op) (last : Last) (awaited : Bool) (seen merged : ℕ) (r : Meeting) : Type 0 where
+  pub lost : (lent : Lent) → lent.spans ≡ spans → lent.keys ≡ keys → r.lost ≡ lost_of (rules_of lent) a (last_of w half fill last)
   pub most : r.lost ≤ size a
-  pub shift : (lent : Lent) → lent.spans ≡ spans → lent.keys ≡ keys → r.shift ≡ placed_if awaited (shift_of (rules_at least lent) a (last_of w half fill last) seen merged)
+  pub shift : (lent : Lent) → lent.spans ≡ spans → lent.keys ≡ keys → r.shift ≡ placed_if awaited (shift_of (rules_of lent) a (last_of w half fill last) seen merged)
   pub start : r.shift.start ≤ merged
-  pub stays : (lent : Lent) → lent.spans ≡ spans → lent.keys ≡ keys → last_of w' half fill r.last ≡ other_of (rules_at least lent) a (last_of w half fill last)
+  pub stays : (lent : Lent) → lent.spans ≡ spans → lent.keys ≡ keys → last_of w' half fill r.last ≡ other_of (rules_of lent) a (last_of w half fill last)
   pub fits : LastFits r.last
   pub since : (base : ℕ) → Since last base fill → Since r.last base fill
   pub scratched : Scratched w w' table (tokens a)

@@ -5,7 +5,7 @@ use Rattle.records.specs.Operations.{operations_of, flat_operations}
 use Rattle.records.specs.Cursors.{cursors_of, flat_cursors}
 use Rattle.merging.specs.declared.Op.{Op}
 use Rattle.merging.specs.declared.Order.{Order}
-use Rattle.merging.specs.Lent.{Lent, rules_at, lent_of}
+use Rattle.merging.specs.Lent.{Lent, rules_of, lent_of}
 use Rattle.merging.specs.Operations.{ops_from, length_of, records_of}
 use Rattle.merging.specs.Meeting.{nothing}
 use Rattle.merging.specs.Turn.{State}
@@ -29,9 +29,9 @@ begin lops rops lcs rcs =
       consumed = 0;
     }
 
--- what comes out of all turns, an overlap counting from `least` tokens on
-abbrev pub outcome : ℕ → Lent → Order → List ℕ → List ℕ → List ℕ → List ℕ → Outcome
-outcome least lent priority lops rops lcs rcs = run (rules_at least lent) priority (work (list_of lops) + work (list_of rops)) (begin lops rops lcs rcs)
+-- what comes out of all turns
+abbrev pub outcome : Lent → Order → List ℕ → List ℕ → List ℕ → List ℕ → Outcome
+outcome lent priority lops rops lcs rcs = run (rules_of lent) priority (work (list_of lops) + work (list_of rops)) (begin lops rops lcs rcs)
 
 -- a list that was checked
 pub record Listed (original text spans keys ops : List ℕ) : Type 0 where
@@ -41,20 +41,20 @@ pub record Listed (original text spans keys ops : List ℕ) : Type 0 where
   pub text_most : total_of (length_of (lent_of original text spans keys)) (list_of ops) ≤ 131070
 
 -- what the turns need: two checked lists, and rooms as asked
-pub record Runnable (least : ℕ) (original text spans keys lops rops lcs rcs : List ℕ) (priority : Order) (w : List ℕ) (mid half : ℕ) (out moved : List ℕ) : Type 0 where
+pub record Runnable (original text spans keys lops rops lcs rcs : List ℕ) (priority : Order) (w : List ℕ) (mid half : ℕ) (out moved : List ℕ) : Type 0 where
   pub original_most : length original ≤ 65535
   pub left : Listed original text spans keys lops
   pub right : Listed original text spans keys rops
   pub mid_is : mid ≡ tokens_of (list_of lops)
   pub half_is : half ≡ mid + tokens_of (list_of rops)
   pub halves : half + half ≤ length w
-  pub room : length (outcome least (lent_of original text spans keys) priority lops rops lcs rcs).outs * 6 ≤ length out
+  pub room : length (outcome (lent_of original text spans keys) priority lops rops lcs rcs).outs * 6 ≤ length out
   pub space : (length lcs / 2 + length rcs / 2) * 2 ≤ length moved
   pub spans_fit : length spans / 2 ≤ most
 
 -- what they leave in the rooms
-pub record Ran (least : ℕ) (original text spans keys lops rops lcs rcs : List ℕ) (priority : Order) (out out' moved moved' : List ℕ) (r : Totals) : Type 0 where
-  pub operations : r.operations ≡ length (outcome least (lent_of original text spans keys) priority lops rops lcs rcs).outs
-  pub out_is : out' ≡ answered (flat_operations (records_of (lent_of original text spans keys) (outcome least (lent_of original text spans keys) priority lops rops lcs rcs).outs)) out
-  pub cursors : r.cursors ≡ length (outcome least (lent_of original text spans keys) priority lops rops lcs rcs).cursors
-  pub moved_is : moved' ≡ answered (flat_cursors (outcome least (lent_of original text spans keys) priority lops rops lcs rcs).cursors) moved
+pub record Ran (original text spans keys lops rops lcs rcs : List ℕ) (priority : Order) (out out' moved moved' : List ℕ) (r : Totals) : Type 0 where
+  pub operations : r.operations ≡ length (outcome (lent_of original text spans keys) priority lops rops lcs rcs).outs
+  pub out_is : out' ≡ answered (flat_operations (records_of (lent_of original text spans keys) (outcome (lent_of original text spans keys) priority lops rops lcs rcs).outs)) out
+  pub cursors : r.cursors ≡ length (outcome (lent_of original text spans keys) priority lops rops lcs rcs).cursors
+  pub moved_is : moved' ≡ answered (flat_cursors (outcome (lent_of original text spans keys) priority lops rops lcs rcs).cursors) moved

@@ -6,7 +6,7 @@ use Rattle.records.specs.Cursors.{cursors_from, flat_cursors}
 use Rattle.records.specs.Operations.{flat_operations}
 use Rattle.merging.specs.declared.Op.{Op}
 use Rattle.merging.specs.declared.Shift.{Shift}
-use Rattle.merging.specs.Lent.{Lent, rules_at}
+use Rattle.merging.specs.Lent.{Lent, rules_of}
 use Rattle.merging.specs.Operations.{Out, length_of, span_of, records_of}
 use Rattle.merging.specs.Meeting.{Remembered, front_of, met_of, other_of, remember_of}
 use Rattle.merging.specs.Cursors.{shift_of, moved_by, behind_of}
@@ -41,15 +41,15 @@ abbrev pub taken : Op → Side → Op
 taken a other = front_of a (heads other.ahead.next [])
 
 -- "Meet rule": what is left of what is taken
-abbrev pub result : ℕ → Lent → List ℕ → ℕ → Op → Side → Op
-result least lent w half a other = met_of (rules_at least lent) (taken a other) (memory_of w half other.memory)
+abbrev pub result : Lent → List ℕ → ℕ → Op → Side → Op
+result lent w half a other = met_of (rules_of lent) (taken a other) (memory_of w half other.memory)
 
 -- how the cursors of the side move
-abbrev pub shift_by : ℕ → Lent → List ℕ → ℕ → Op → Side → Side → ℕ → Shift
-shift_by least lent w half a own other merged = shift_of (rules_at least lent) (taken a other) (memory_of w half other.memory) own.seen merged
+abbrev pub shift_by : Lent → List ℕ → ℕ → Op → Side → Side → ℕ → Shift
+shift_by lent w half a own other merged = shift_of (rules_of lent) (taken a other) (memory_of w half other.memory) own.seen merged
 
 -- what a turn of the side `own`, which takes a, needs
-pub record Turnable (least : ℕ) (spans keys ops cs w : List ℕ) (half : ℕ) (a : Op) (own other : Side) (totals : Totals) (number : ℕ) (out moved : List ℕ) : Type 0 where
+pub record Turnable (spans keys ops cs w : List ℕ) (half : ℕ) (a : Op) (own other : Side) (totals : Totals) (number : ℕ) (out moved : List ℕ) : Type 0 where
   pub sound : Sound spans keys a
   pub next : NextFits other.ahead.next
   pub last : LastFits other.memory.last
@@ -65,27 +65,27 @@ pub record Turnable (least : ℕ) (spans keys ops cs w : List ℕ) (half : ℕ) 
   pub first : FirstFits own.ahead.at (list_from ops own.ahead.behind own.ahead.at)
   pub space : (totals.cursors + (length cs / 2 - own.cursor)) * 2 ≤ length moved
   pub room : (lent : Lent) → lent.spans ≡ spans → lent.keys ≡ keys
-      → (totals.operations + length (emitted number totals.consumed (result least lent w half a other))) * 6 ≤ length out
+      → (totals.operations + length (emitted number totals.consumed (result lent w half a other))) * 6 ≤ length out
 
 -- what a turn of the side `own` makes: each value is the definition's, whatever else was lent
-pub record Made (least : ℕ) (lent : Lent) (cs w w' : List ℕ) (half : ℕ) (a : Op) (own other : Side) (totals : Totals) (number : ℕ) (out out' moved moved' : List ℕ) (r : Turned) : Type 0 where
-  pub last : memory_of w' half r.own.memory ≡ remember_of lent (memory_of w half own.memory) (result least lent w half a other)
-  pub heard : memory_of w' half r.other.memory ≡ other_of (rules_at least lent) (taken a other) (memory_of w half other.memory)
+pub record Made (lent : Lent) (cs w w' : List ℕ) (half : ℕ) (a : Op) (own other : Side) (totals : Totals) (number : ℕ) (out out' moved moved' : List ℕ) (r : Turned) : Type 0 where
+  pub last : memory_of w' half r.own.memory ≡ remember_of lent (memory_of w half own.memory) (result lent w half a other)
+  pub heard : memory_of w' half r.other.memory ≡ other_of (rules_of lent) (taken a other) (memory_of w half other.memory)
   pub seen : r.own.seen ≡ own.seen + length_of lent (taken a other)
-  pub cursors : cursors_left cs r.own.cursor ≡ behind_of (taken a other) (shift_by least lent w half a own other totals.merged) (cursors_left cs own.cursor)
-  pub merged : r.totals.merged ≡ totals.merged + length_of lent (result least lent w half a other)
-  pub consumed : r.totals.consumed ≡ totals.consumed + span_of (result least lent w half a other)
-  pub operations : r.totals.operations ≡ totals.operations + length (emitted number totals.consumed (result least lent w half a other))
+  pub cursors : cursors_left cs r.own.cursor ≡ behind_of (taken a other) (shift_by lent w half a own other totals.merged) (cursors_left cs own.cursor)
+  pub merged : r.totals.merged ≡ totals.merged + length_of lent (result lent w half a other)
+  pub consumed : r.totals.consumed ≡ totals.consumed + span_of (result lent w half a other)
+  pub operations : r.totals.operations ≡ totals.operations + length (emitted number totals.consumed (result lent w half a other))
   pub out_grows : (outs : List Out) (d : List ℕ) → totals.operations ≡ length outs → out ≡ answered (flat_operations (records_of lent outs)) d
-      → out' ≡ answered (flat_operations (records_of lent (outs ++ emitted number totals.consumed (result least lent w half a other)))) d
-  pub moved_count : r.totals.cursors ≡ totals.cursors + length (moved_by (taken a other) (shift_by least lent w half a own other totals.merged) (cursors_left cs own.cursor))
+      → out' ≡ answered (flat_operations (records_of lent (outs ++ emitted number totals.consumed (result lent w half a other)))) d
+  pub moved_count : r.totals.cursors ≡ totals.cursors + length (moved_by (taken a other) (shift_by lent w half a own other totals.merged) (cursors_left cs own.cursor))
   pub moved_grows : (ms : List Cursor) (d : List ℕ) → totals.cursors ≡ length ms → moved ≡ answered (flat_cursors ms) d
-      → moved' ≡ answered (flat_cursors (ms ++ moved_by (taken a other) (shift_by least lent w half a own other totals.merged) (cursors_left cs own.cursor))) d
+      → moved' ≡ answered (flat_cursors (ms ++ moved_by (taken a other) (shift_by lent w half a own other totals.merged) (cursors_left cs own.cursor))) d
 
 -- the statement of a turn: what is made, what is next, and the bounds that the next turn needs
-pub record Turns (least : ℕ) (spans keys ops cs w w' : List ℕ) (half : ℕ) (a : Op) (own other : Side) (totals : Totals) (number : ℕ) (out out' moved moved' : List ℕ) (r : Turned) : Type 0 where
+pub record Turns (spans keys ops cs w w' : List ℕ) (half : ℕ) (a : Op) (own other : Side) (totals : Totals) (number : ℕ) (out out' moved moved' : List ℕ) (r : Turned) : Type 0 where
   pub looks : Looks ops (tail_by a (heads other.ahead.next [])) own.ahead.behind own.ahead.at r.own.ahead
-  pub made : (lent : Lent) → lent.spans ≡ spans → lent.keys ≡ keys → Made least lent cs w w' half a own other totals number out out' moved moved' r
+  pub made : (lent : Lent) → lent.spans ≡ spans → lent.keys ≡ keys → Made lent cs w w' half a own other totals number out out' moved moved' r
   pub ahead : r.other.ahead ≡ other.ahead
   pub waited : r.other.seen ≡ other.seen
   pub stood : r.other.cursor ≡ other.cursor

@@ -72,7 +72,6 @@ pub struct Meeting {
 pub fn meet(
     spans: &[u32],
     keys: &[u32],
-    least: usize,
     a: Op,
     last: Last,
     fill: usize,
@@ -85,9 +84,9 @@ pub fn meet(
     table: usize,
 ) -> Meeting
     requires { Facing spans.now keys.now work.old half fill table a last × (length ≡ length_of (of_spans spans.now) a) }
-    ensures { Meets least spans.now keys.now work.old work.new half fill table a last awaited seen merged result }
+    ensures { Meets spans.now keys.now work.old work.new half fill table a last awaited seen merged result }
 {
-    let met = operation::merge_operations_consuming_insert(keys, least, a, last, fill, work, table);
+    let met = operation::merge_operations_consuming_insert(keys, a, last, fill, work, table);
     let shift = shift_of(
         spans, a, last, fill, met, awaited, seen, length, merged, work, half,
     );
@@ -182,7 +181,6 @@ fn advance_side(
 pub fn turn(
     spans: &[u32],
     keys: &[u32],
-    least: usize,
     left_operations: &[usize],
     right_operations: &[usize],
     left_cursors: &[usize],
@@ -197,8 +195,8 @@ pub fn turn(
     out: &mut [usize],
     moved: &mut [usize],
 ) -> Turned
-    requires { Turnable least spans.now keys.now (of_number number left_operations.now right_operations.now) (of_number number left_cursors.now right_cursors.now) work.old half a own other totals number out.old moved.old }
-    ensures { Turns least spans.now keys.now (of_number number left_operations.now right_operations.now) (of_number number left_cursors.now right_cursors.now) work.old work.new half a own other totals number out.old out.new moved.old moved.new result }
+    requires { Turnable spans.now keys.now (of_number number left_operations.now right_operations.now) (of_number number left_cursors.now right_cursors.now) work.old half a own other totals number out.old moved.old }
+    ensures { Turns spans.now keys.now (of_number number left_operations.now right_operations.now) (of_number number left_cursors.now right_cursors.now) work.old work.new half a own other totals number out.old out.new moved.old moved.new result }
 {
     let ahead = own.ahead;
     let memory = own.memory;
@@ -218,7 +216,6 @@ pub fn turn(
     let meeting = meet(
         spans,
         keys,
-        least,
         b,
         last,
         heard.fill,
@@ -261,14 +258,11 @@ pub fn turn(
         ahead.behind,
         ahead.at,
     );
-    let seen = own.seen + shift.length;
-    let merged = totals.merged + text;
-    let consumed = totals.consumed + merging::span_of(result);
     Turned {
         own: Side {
             ahead: coming,
             memory: kept,
-            seen,
+            seen: own.seen + shift.length,
             cursor: progress.next,
         },
         other: Side {
@@ -281,8 +275,8 @@ pub fn turn(
             cursor: other.cursor,
         },
         totals: Totals {
-            merged,
-            consumed,
+            merged: totals.merged + text,
+            consumed: totals.consumed + merging::span_of(result),
             operations: place,
             cursors: progress.count,
         },
@@ -440,7 +434,6 @@ fn fresh_last(last: Last) -> Last
 }
 
 // Turns until both sides are done; what is left of the cursors goes to the end, left before right.
-// An overlap counts from `least` tokens on.
 // The left side's part of the work room ends at mid. Both sides go through one call of `turn`, which
 // halves the time: it is made part of the loop then, and the sides stay in registers.
 pub fn run(
@@ -448,7 +441,6 @@ pub fn run(
     text: &[u32],
     spans: &[u32],
     keys: &[u32],
-    least: usize,
     left_operations: &[usize],
     right_operations: &[usize],
     left_cursors: &[usize],
@@ -460,8 +452,8 @@ pub fn run(
     out: &mut [usize],
     moved: &mut [usize],
 ) -> Totals
-    requires { Runnable least original.now text.now spans.now keys.now left_operations.now right_operations.now left_cursors.now right_cursors.now priority work.old mid half out.old moved.old }
-    ensures { Ran least original.now text.now spans.now keys.now left_operations.now right_operations.now left_cursors.now right_cursors.now priority out.old out.new moved.old moved.new result }
+    requires { Runnable original.now text.now spans.now keys.now left_operations.now right_operations.now left_cursors.now right_cursors.now priority work.old mid half out.old moved.old }
+    ensures { Ran original.now text.now spans.now keys.now left_operations.now right_operations.now left_cursors.now right_cursors.now priority out.old out.new moved.old moved.new result }
 {
     let mut left = Side {
         ahead: turns::ahead_of(left_operations, 0, 0),
@@ -526,7 +518,6 @@ pub fn run(
         let t = turn(
             spans,
             keys,
-            least,
             left_operations,
             right_operations,
             left_cursors,

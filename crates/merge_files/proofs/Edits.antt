@@ -16,23 +16,24 @@ use Rattle.elongate.specs.Elongated.{cooked_from, all_tokens}
 use Rattle.elongate.proofs.Joining.{cooked_length}
 use Rattle.edit_format.specs.Items.{Item, texts}
 use Rattle.edit_format.specs.Reading.{read_file}
+use Rattle.edit_format.proofs.Accepts.{accepted_good}
 use Rattle.edit_format.proofs.TextLaws.{texts_length}
 use Rattle.outputs.proofs.Replaying.{front}
 use Rattle.edit_list.specs.declared.Listed.{Listed}
 use Rattle.edit_list.specs.Raws.{list_of, items_in}
 use Rattle.edit_list.specs.Lists.{Listable, Lists}
-use Rattle.merging.specs.Lent.{lent_of as given}
-use Rattle.merge_files.specs.declared.Made.{Made}
-use Rattle.merge_files.specs.declared.View.{View}
-use Rattle.merge_files.specs.Program.{tokens_of, right_of, outcome_of, outcome_by, MadeBy}
-use Rattle.merge_files.specs.Steps.{Mergeable, Files, Rooms}
+use Rattle.edit_list.proofs.Points.{good_text}
+use Rattle.merge_files.specs.declared.Outcome.{Outcome}
+use Rattle.merge_files.specs.Program.{tokens_of, right_of, Written}
+use Rattle.merge_files.specs.Steps.{merge_result, good_result, Mergeable, Files, Texted, Rooms}
 use Rattle.merge_files.proofs.Added.{left_adds, right_adds, left_claims, right_claims}
 
 -- the front of a room that two puts made
 two_puts : {A : Type 0} (s t d d₁ d₂ : List A) (n : ℕ) → d₁ ≡ placed d 0 s → n ≡ length s → d₂ ≡ placed d₁ n t → d₂ ≡ answered (s ++ t) d
 two_puts s t d d₁ d₂ n e q f = f ∙ rw (q, e, at_start s d) (one_more s t d)
 
-module _ (original left right : List ℕ) (F : Files original left right) (text lefts rights spans keys : List ℕ) (R : Rooms text lefts rights spans keys) where
+module _ (left right : List ℕ) (F : Files left right) (text : List ℕ) (T : Texted left right text) (lefts rights spans keys : List ℕ)
+    (R : Rooms lefts rights spans keys) where
   abbrev ls : List Item
   ls = items_in (read_file left)
 
@@ -44,9 +45,11 @@ module _ (original left right : List ℕ) (F : Files original left right) (text 
       record {
         accepted = F.left_accepted;
         short = F.left_short;
-        most = omega (arith, R.text_fits);
-        text_fits = omega (arith, R.text_fits);
-        operations_fit = omega (arith, R.lefts_fit);
+        good = T.good;
+        long = T.left_long;
+        most = T.text_most;
+        text_fits = omega (arith, T.text_long);
+        operations_fit = R.lefts_fit;
         spans_fit = omega (arith, R.spans_fit);
         keys_fit = omega (arith, R.keys_fit);
       }
@@ -54,7 +57,7 @@ module _ (original left right : List ℕ) (F : Files original left right) (text 
   module _ {text₁ lefts₁ spans₁ keys₁ : List ℕ} {l : Listed} (L : Lists ls 0 0 text text₁ lefts lefts₁ spans spans₁ keys keys₁ l) where
     text_same : length text₁ ≡ length text
     text_same =
-        rw (L.text_is, at_start (texts ls) text) (same_room (texts ls) text (omega (arith, L.many_points, L.points_most, R.text_fits)))
+        rw (L.text_is, at_start (texts ls) text) (same_room (texts ls) text (omega (arith, L.many_points, L.points_most, T.text_long)))
 
     spans_same : length spans₁ ≡ length spans
     spans_same =
@@ -71,9 +74,11 @@ module _ (original left right : List ℕ) (F : Files original left right) (text 
         record {
           accepted = F.right_accepted;
           short = F.right_short;
-          most = omega (arith, text_same, R.text_fits);
-          text_fits = omega (arith, text_same, R.text_fits, L.points_most);
-          operations_fit = omega (arith, R.rights_fit);
+          good = rw L.text_is (good_text text 0 ls T.good (accepted_good left F.left_accepted).each);
+          long = omega (arith, text_same, T.right_long);
+          most = omega (arith, text_same, T.text_most);
+          text_fits = omega (arith, text_same, T.text_long, L.points_most);
+          operations_fit = R.rights_fit;
           spans_fit = omega (arith, spans_same, R.spans_fit, L.tokens_most);
           keys_fit = omega (arith, keys_same, R.keys_fit, L.tokens_most);
         }
@@ -106,8 +111,8 @@ module _ (original left right : List ℕ) (F : Files original left right) (text 
 
       pub text_in : l.text + r.text ≤ length text₂
       text_in =
-          let e : length text₂ ≡ length text = rw all_text (same_room (texts ls ++ texts rs) text (omega (arith, many_points, L.points_most, M.points_most, R.text_fits))) in
-          omega (arith, L.points_most, M.points_most, R.text_fits)
+          let e : length text₂ ≡ length text = rw all_text (same_room (texts ls ++ texts rs) text (omega (arith, many_points, L.points_most, M.points_most, T.text_long))) in
+          omega (arith, L.points_most, M.points_most, T.text_long)
 
       pub spans_in : (l.tokens + r.tokens) * 2 ≤ length spans₂
       spans_in =
@@ -164,26 +169,24 @@ module _ (original left right : List ℕ) (F : Files original left right) (text 
       right_list : ro ≡ right_of ls rs
       right_list = λ i. cooked_from (list_of (L.many_points i) rs) 0 (L.many_tokens i)
 
-      pub mergeable : Mergeable (given original (take (l.text + r.text) text₂) (take ((l.tokens + r.tokens) * 2) spans₂) (take (l.tokens + r.tokens) keys₂)) (operations_of (take (l.operations * 6) lefts₁)) (operations_of (take (r.operations * 6) rights₁))
-      mergeable =
-          let n : ℕ = length (take (l.text + r.text) text₂) in
-          let k : List ℕ = take (l.tokens + r.tokens) keys₂ in
+      pub mergeable : (text₃ : List ℕ)
+          → Mergeable text₃ (take ((l.tokens + r.tokens) * 2) spans₂) (take (l.tokens + r.tokens) keys₂) (take (l.operations * 6) lefts₁) (take (r.operations * 6) rights₁)
+      mergeable text₃ =
           record {
-            short = F.short;
             left_few = rw left_is (omega (arith, left_many, L.operations_most));
             right_few = rw right_is (omega (arith, right_many, M.operations_most));
             left_tokens = rw left_is (omega (arith, left_claims ls rs, texts_length ls, L.many_points, L.points_most));
             right_tokens = rw (right_is, right_list) (omega (arith, right_claims ls rs, texts_length rs, M.many_points, M.points_most));
-            left_little = rw (left_is, spans_are) (omega (arith, left_adds ls rs n k, texts_length ls, L.many_points, L.points_most));
-            right_little = rw (right_is, right_list, spans_are) (omega (arith, right_adds ls rs n k, texts_length rs, M.many_points, M.points_most));
+            left_little = rw (left_is, spans_are) (omega (arith, left_adds ls rs (length text₃) (take (l.tokens + r.tokens) keys₂), texts_length ls, L.many_points, L.points_most));
+            right_little = rw (right_is, right_list, spans_are) (omega (arith, right_adds ls rs (length text₃) (take (l.tokens + r.tokens) keys₂), texts_length rs, M.many_points, M.points_most));
           }
 
-      pub result : (view : View) (s t u s' t' u' : List ℕ) (z : Made)
-          → MadeBy (outcome_of view (given original (take (l.text + r.text) text₂) (take ((l.tokens + r.tokens) * 2) spans₂) (take (l.tokens + r.tokens) keys₂)) (operations_of (take (l.operations * 6) lefts₁)) (operations_of (take (r.operations * 6) rights₁))) s t u s' t' u' z
-          → MadeBy (outcome_by view original ls rs) s t u s' t' u' z
-      result view s t u s' t' u' z h = rw (text_is, spans_are, keys_are, left_is, right_is, right_list) at h
+      pub result : (original out out' : List ℕ) (z : Outcome)
+          → Written (merge_result original (take (l.text + r.text) text₂) (take ((l.tokens + r.tokens) * 2) spans₂) (take (l.tokens + r.tokens) keys₂) (take (l.operations * 6) lefts₁) (take (r.operations * 6) rights₁)) out out' z
+          → Written (good_result original (read_file left) (read_file right)) out out' z
+      result original out out' z h = rw (text_is, spans_are, keys_are, left_is, right_is, right_list) at h
 
 -- zeros in rooms of these lengths
-pub rooms : (text lefts rights spans keys : List ℕ) → length text ≡ 2048 → length lefts ≡ 2046 → length rights ≡ 2046 → length spans ≡ 4096 → length keys ≡ 2048
-    → Rooms text lefts rights spans keys
-rooms text lefts rights spans keys nt nl nr ns nk = record { text_fits = nt; lefts_fit = nl; rights_fit = nr; spans_fit = ns; keys_fit = nk }
+pub rooms : (lefts rights spans keys : List ℕ) → length lefts ≡ 2046 → length rights ≡ 2046 → length spans ≡ 4096 → length keys ≡ 2048 → Rooms lefts rights spans keys
+rooms lefts rights spans keys nl nr ns nk =
+    record { lefts_fit = omega arith; rights_fit = omega arith; spans_fit = omega arith; keys_fit = omega arith }

@@ -1,7 +1,7 @@
--- Shown: "so counts that don't fit give 2": two accepted edit files of which one does not use just what the original has are refused by 2, and by no other number.
+-- Shown: two accepted edit files of which one does not use just what the original has are refused by 2, and by no other number.
 -- How: sizes, code points and records of both lists are good, the tiling refuses by 2 alone, and lists that tile the original use all of it.
 use Prim.Native.Nat.{ℕ, ◌+◌, ◌≤◌, ◌<◌}
-use mathlib.Core.Path.{◌≡◌, refl, ap}
+use mathlib.Core.Path.{◌≡◌, refl, ap, subst, sym}
 use mathlib.Core.Bool.{Bool, true, false, ◌&&◌, ◌||◌}
 use mathlib.Core.List.{List, [], ◌∷◌, ◌++◌}
 use mathlib.Core.Logic.{inl, inr}
@@ -9,7 +9,6 @@ use native.Mathlib.Omega.{arith}
 use lib.ListN.{length, length-append}
 use lib.Dec.{eqb, leb}
 use borrow.Author.Tests.{le-leb, eq-eqb, ne_eqb, eqb-true, eqb-false}
-use Rattle.refusal.specs.declared.Refusal.{Refusal}
 use Rattle.refusal.specs.declared.Refusal.TheVariants as R
 use Rattle.refusal.specs.Numbers.{number}
 use Rattle.room.specs.Choice.{pick}
@@ -37,28 +36,20 @@ use Rattle.elongate.proofs.Lengths.{pieces_append}
 use Rattle.elongate.proofs.Laws.{keeps}
 use Rattle.edit_format.specs.Items.{Item, Keep, Drop, Add, kept, dropped, added, texts, items_good}
 use Rattle.edit_format.specs.Records.{size}
-use Rattle.edit_format.specs.Reading.{read_file}
+use Rattle.edit_format.specs.Reading.{read_file, Accepted}
 use Rattle.edit_format.proofs.Accepts.{accepted_good}
 use Rattle.edit_format.proofs.TextLaws.{texts_length}
 use Rattle.edit_list.specs.Raws.{run_of, runs_of, list_of, items_in}
 use Rattle.edit_list.specs.Lists.{used_by}
 use Rattle.edit_list.proofs.Bounds.{file_long}
 use Rattle.edit_list.proofs.Runs.{PiecesIn, GoodRun, AllRuns, runs_good}
-use Rattle.numbers.specs.Points.{is_point, scalars}
-use Rattle.numbers.proofs.Scalar.{first_of}
-use Rattle.utf8_read.specs.Reading.{points}
-use Rattle.utf8.proofs.Texts.{read_scalars}
-use Rattle.merge_files.specs.declared.View.{View}
-use Rattle.merge_files.specs.Program.{tokens_of, lent_by, left_of, right_of, files_verdict, merge_verdict, outcome_of, result_of}
+use Rattle.merging.specs.Lent.{lent_of as given}
+use Rattle.merge_files.specs.declared.Outcome.{Outcome}
+use Rattle.merge_files.specs.Program.{Result, refused, tokens_of, left_of, right_of, verdict_of, judged, merged_of, Written}
+use Rattle.merge_files.specs.Steps.{Files, good_result}
 use Rattle.merge_files.proofs.Added.{left_few, right_few, left_adds, right_adds, left_claims, right_claims}
-use Rattle.merge_files.proofs.Reaching.{Reaches, pieces_both, left_reaches, right_reaches, added_fine}
-use Rattle.merge_files.proofs.Files.{few_points, all_passed}
-
--- what was read from UTF-8 is code points
-points_fine : (s : List ℕ) (i : ℕ) → scalars s ≡ length s → points_from s i ≡ W.Accepted
-unfolding points_from
-points_fine [] i e = refl
-points_fine (x ∷ s) i e = let f = first_of x s (is_point x) refl e in rw (f.0, points_from) (points_fine s (i + 1) f.1)
+use Rattle.merge_files.proofs.Unread.{Reaches}
+use Rattle.merge_files.proofs.Padding.{pieces_both, left_reaches, right_reaches, added_fine}
 
 -- what a check of tiling can say
 
@@ -90,16 +81,10 @@ tiling_two n (o ∷ os) i at =
     chosen_two (eqb o.kind 1) _ _ (tiling_two n os (i + 1) at)
     (chosen_two (eqb o.order at && leb (at + o.length) n) _ _ (tiling_two n os (i + 1) (at + o.length)) (refuses_two i))
 
--- a refusal by 2
-pub record RefusedByTwo (v : Verdict) : Type 0 where
-  pub refusal : Refusal
-  pub is : v ≡ W.Refused refusal
-  pub two : number refusal ≡ 2
-
-judged_two : (v : Verdict) → TwoAlone v → (v ≡ W.Accepted → ⊥) → RefusedByTwo v
-unfolding TwoAlone
-judged_two W.Accepted h n = absurd (n refl)
-judged_two (W.Refused r) h n = record { refusal = r; is = refl; two = h }
+judged_two : (v : Verdict) (file : List ℕ) → TwoAlone v → (v ≡ W.Accepted → ⊥) → judged v file ≡ refused 2
+unfolding judged TwoAlone
+judged_two W.Accepted file h n = absurd (n refl)
+judged_two (W.Refused r) file h n = ap refused h
 
 -- elongating keeps runs good
 
@@ -262,31 +247,30 @@ module _ (original : List ℕ) (ls rs : List Item) (gl : items_good false ls ≡
         le-leb (total (inserted_by (length text) spans keys) (left_of ls)) 65535 (omega (arith, left_adds ls rs (length text) keys)),
         le-leb (total (inserted_by (length text) spans keys) (right_of ls rs)) 65535 (omega (arith, right_adds ls rs (length text) keys)),
         points,
-        added_fine ls rs gl gr,
+        added_fine original ls rs gl gr,
         records_yes (length text) spans keys (left_of ls) 0
-            (shapely _ (length text) spans keys (list_of 0 ls) 0 0 (list_good ls gl 0) (left_reaches ls rs gl gr) (omega (arith, lent_all))),
+            (shapely _ (length text) spans keys (list_of 0 ls) 0 0 (list_good ls gl 0) (left_reaches original ls rs gl gr) (omega (arith, lent_all))),
         records_yes (length text) spans keys (right_of ls rs) 0
-            (shapely _ (length text) spans keys (list_of (length (texts ls)) rs) 0 (length (all_tokens (list_of 0 ls))) (list_good rs gr (length (texts ls))) (right_reaches ls rs gl gr) (omega (arith, lent_all))),
+            (shapely _ (length text) spans keys (list_of (length (texts ls)) rs) 0 (length (all_tokens (list_of 0 ls))) (list_good rs gr (length (texts ls))) (right_reaches original ls rs gl gr) (omega (arith, lent_all))),
       )
       (then_two _ _ (then_two _ _ (tiling_two (length original) (left_of ls) 0 0) (tiling_two (length original) (right_of ls rs) 0 0)) accepts_two)
 
-  unfit : (kept ls + dropped ls ≡ length original → kept rs + dropped rs ≡ length original → ⊥) → RefusedByTwo (merge_verdict (lent_by original ls rs) (left_of ls) (right_of ls rs))
-  unfolding merge_verdict
+  unfit : (kept ls + dropped ls ≡ length original → kept rs + dropped rs ≡ length original → ⊥)
+      → merged_of (given original text spans keys) (left_of ls) (right_of ls rs) ≡ refused 2
+  unfolding merged_of verdict_of
   unfit h =
-      judged_two _ two_alone
+      judged_two _ _ two_alone
       (λ passed. h
       (list_uses ls gl 0 0 (length original) (accepted_left merging original text spans keys (left_of ls) (right_of ls rs) [] [] passed).tiles)
       (list_uses rs gr (length (texts ls)) (length (all_tokens (list_of 0 ls))) (length original) (accepted_right merging original text spans keys (left_of ls) (right_of ls rs) [] [] passed).tiles))
 
--- "so counts that don't fit give 2": three files that pass their own checks, where an edit file does not use just what the original has
-pub counts_two : (view : View) (o l r : List ℕ) → files_verdict o l r ≡ W.Accepted → (used_by l ≡ length (points o) → used_by r ≡ length (points o) → ⊥)
-    → RefusedByTwo (result_of view o l r).verdict
-unfolding result_of outcome_of and_then
-counts_two view o l r e h =
-    let P = all_passed o l r e in
+-- of two files
+pub unfit_files : (original l r : List ℕ) → Files l r → points_from original 0 ≡ W.Accepted → length original ≤ 2048
+    → (used_by l ≡ length original → used_by r ≡ length original → ⊥)
+    → (out out' : List ℕ) (z : Outcome) → Written (refused 2) out out' z → Written (good_result original (read_file l) (read_file r)) out out' z
+unfit_files original l r F points short h out out' z w =
     let ls : List Item = items_in (read_file l) in
     let rs : List Item = items_in (read_file r) in
-    rw e
-    (unfit (points o) ls rs (accepted_good l P.left_accepted).each (accepted_good r P.right_accepted).each (points_fine (points o) 0 (read_scalars o))
-    (omega (arith, few_points o 0, P.original_short))
-    (omega (arith, file_long l P.left_accepted, file_long r P.right_accepted, P.left_short, P.right_short, texts_length ls, texts_length rs)) h)
+    let e = unfit original ls rs (accepted_good l F.left_accepted).each (accepted_good r F.right_accepted).each points (omega (arith, short))
+    (omega (arith, file_long l F.left_accepted, file_long r F.right_accepted, F.left_short, F.right_short, texts_length ls, texts_length rs)) h in
+    subst (λ (x : Result). Written x out out' z) (sym e) w

@@ -1,65 +1,58 @@
--- The program's work, of three files that can be read: the first refusal, or what is made of their merge. Assumes nothing.
-use Rattle.std.specs.Prelude.{ℕ, ◌≡◌, Bool, ◌&&◌, List, [], ◌++◌, length, leb}
-use Rattle.refusal.specs.declared.Refusal.TheVariants.{Line, Utf8}
-use Rattle.refusal.specs.declared.Counted.{Counted}
-use Rattle.refusal.specs.declared.Counted.TheVariants as C
+-- The program, of three files that can be read: what it writes. Assumes nothing.
+use Rattle.std.specs.Prelude.{ℕ, ◌≡◌, Bool, ◌&&◌, List, [], ◌∷◌, ◌++◌, length, replicate, leb}
+use Rattle.refusal.specs.Numbers.{number}
 use Rattle.room.specs.Choice.{pick}
+use Rattle.room.specs.Placed.{answered}
 use Rattle.records.specs.declared.Operation.{Operation}
 use Rattle.verdict.specs.declared.Verdict.{Verdict}
 use Rattle.verdict.specs.declared.Verdict.TheVariants as W
-use Rattle.verdict.specs.Verdicts.{and_then, sized, roomed, leaves}
 use Rattle.sizes.specs.Sizes.{merging}
 use Rattle.checks.specs.Lists.{lists_verdict}
 use Rattle.raw_lists.specs.Raws.{Piece, flat_spans, flat_keys}
 use Rattle.elongate.specs.Elongated.{cooked, cooked_from, all_tokens}
 use Rattle.utf8_read.specs.Reading.{good_end, points}
-use Rattle.utf8_write.specs.Writing.{encode_all}
 use Rattle.edit_format.specs.Items.{Item, texts}
 use Rattle.edit_format.specs.Reading.{Found, Accepted, Refused, read_file}
-use Rattle.edit_format.specs.Written.{written}
+use Rattle.edit_format.specs.Written.{number_line, written}
 use Rattle.merging.specs.Lent.{Lent, rules_of}
 use Rattle.merging.specs.Merge.{merge_of}
-use Rattle.merging.specs.Outputs.{Span, history_text, flat_spans as spanNumbers}
-use Rattle.apply.specs.declared.WithHistory.{WithHistory}
-use Rattle.apply.specs.Answers.{text_on, history_on, fits, told}
 use Rattle.to_diff.specs.Items.{diff_of}
-use Rattle.edit_list.specs.Raws.{list_of, items_in}
-use Rattle.merge_files.specs.declared.Made.{Made}
-use Rattle.merge_files.specs.declared.Made.TheVariants as M
-use Rattle.merge_files.specs.declared.View.{View}
-use Rattle.merge_files.specs.declared.View.TheVariants as Asked
+use Rattle.edit_list.specs.Raws.{list_of}
+use Rattle.merge_files.specs.declared.Outcome.{Outcome}
+use Rattle.merge_files.specs.declared.Outcome.TheVariants as O
 
--- "at most 2,048 bytes each"
-abbrev pub short : List ℕ → Bool
-short bytes = leb (length bytes) 2048
+-- "writes the edit file or a line `refused=` with the number"
+pub data Result : Type 0 where
+  merged : List ℕ → Result
+  refused : ℕ → Result
 
--- "bad UTF-8 is 10"
-unfoldable pub utf8_verdict : List ℕ → Verdict
-utf8_verdict bytes = pick (leb (length bytes) (good_end bytes)) W.Accepted (W.Refused (Utf8 (good_end bytes)))
+-- "`refused=`", in ASCII
+abbrev pub refused_key : List ℕ
+refused_key = 114 ∷ 101 ∷ 102 ∷ 117 ∷ 115 ∷ 101 ∷ 100 ∷ 61 ∷ []
 
--- "a bad edit file is 8"
-unfoldable pub file_verdict : Found → Verdict
-file_verdict (Accepted is) = W.Accepted
-file_verdict (Refused l) = W.Refused (Line l)
+-- "writes the edit file or a line `refused=` with the number": the bytes
+unfoldable pub bytes_of : Result → List ℕ
+bytes_of (merged bytes) = bytes
+bytes_of (refused n) = number_line refused_key n
 
--- "It checks in this order, original, left, right each time: [..] an oversize file is 3; bad UTF-8 is 10; a bad edit file is 8"
-unfoldable pub files_verdict : List ℕ → List ℕ → List ℕ → Verdict
-files_verdict original left right =
-    and_then (sized (short original && (short left && short right)))
-    (and_then (utf8_verdict original)
-    (and_then (utf8_verdict left)
-    (and_then (utf8_verdict right)
-    (and_then (file_verdict (read_file left)) (file_verdict (read_file right))))))
+-- "each keep or drop one joinable token": it is a range of the lent text, so that text is long enough for the longest: zeros, where no code point was added
+unfoldable pub padding : List ℕ
+padding = replicate 67583 0
+
+-- "one lent inserted text": the added code points of both files, left before right, in a text d
+unfoldable pub text_of : List ℕ → List Item → List Item → List ℕ
+text_of d ls rs = answered (texts ls ++ texts rs) d
 
 -- "elongates": the tokens of both lists, left before right
 unfoldable pub tokens_of : List Item → List Item → List Piece
 tokens_of ls rs = all_tokens (list_of 0 ls) ++ all_tokens (list_of (length (texts ls)) rs)
 
--- "All lists of one call share one lent inserted text" and its tokens: the code points that both files add, left before right
-abbrev pub lent_by : List ℕ → List Item → List Item → Lent
-lent_by original ls rs = record { original = original; inserted = texts ls ++ texts rs; spans = flat_spans (tokens_of ls rs); keys = flat_keys (tokens_of ls rs) }
+-- "All lists of one call share one lent inserted text" and its tokens
+abbrev pub lent_of : List ℕ → List ℕ → List Item → List Item → Lent
+lent_of d original ls rs =
+    record { original = original; inserted = text_of d ls rs; spans = flat_spans (tokens_of ls rs); keys = flat_keys (tokens_of ls rs) }
 
--- "elongates": the left list
+-- "elongates": the left list, and the right one, whose tokens stand behind
 abbrev pub left_of : List Item → List Operation
 left_of ls = cooked (list_of 0 ls)
 
@@ -67,83 +60,59 @@ left_of ls = cooked (list_of 0 ls)
 abbrev pub right_of : List Item → List Item → List Operation
 right_of ls rs = cooked_from (list_of (length (texts ls)) rs) 0 (length (all_tokens (list_of 0 ls)))
 
--- "then the merge's refusals": of two lists. The program has no cursors
-unfoldable pub merge_verdict : Lent → List Operation → List Operation → Verdict
-merge_verdict lent left right = lists_verdict merging lent.original lent.inserted lent.spans lent.keys left right [] []
+-- "then the merge's refusals, so counts that don't fit give 2"
+unfoldable pub verdict_of : Lent → List Operation → List Operation → Verdict
+verdict_of lent left right = lists_verdict merging lent.original lent.inserted lent.spans lent.keys left right [] []
 
--- "merges": the operations of the merge
-unfoldable pub merged_of : Lent → List Operation → List Operation → List Operation
-merged_of lent left right = (merge_of (rules_of lent) left right [] []).operations
+-- "merges, and writes the edit file"
+unfoldable pub file_of : Lent → List Operation → List Operation → List ℕ
+file_of lent left right = written (diff_of lent (merge_of (rules_of lent) left right [] []).operations)
 
--- what is asked of a merge comes into three rooms: spans, code points and bytes; and it is counted by two numbers
-pub record Product : Type 0 where
-  pub spans : List ℕ
-  pub points : List ℕ
-  pub bytes : List ℕ
-  pub first : ℕ
-  pub second : ℕ
+-- "writes the edit file or a line `refused=` with the number": by the merge's verdict
+unfoldable pub judged : Verdict → List ℕ → Result
+judged W.Accepted file = merged file
+judged (W.Refused r) file = refused (number r)
 
--- a product of bytes alone
-abbrev pub in_bytes : List ℕ → Product
-in_bytes bytes = record { spans = []; points = []; bytes = bytes; first = length bytes; second = 0 }
+-- "merges, and writes the edit file", or "the merge's refusals"
+unfoldable pub merged_of : Lent → List Operation → List Operation → Result
+merged_of lent left right = judged (verdict_of lent left right) (file_of lent left right)
 
--- "History has one span for each operation, in order": its spans, and their text
-abbrev pub in_spans : List Span → Product
-in_spans ss = record { spans = spanNumbers 0 ss; points = history_text ss; bytes = []; first = length ss; second = length (history_text ss) }
+-- "a bad edit file is 8"
+unfoldable pub of_files : List ℕ → List ℕ → Found → Found → Result
+of_files d original (Accepted ls) (Accepted rs) = merged_of (lent_of d original ls rs) (left_of ls) (right_of ls rs)
+of_files d original (Accepted ls) (Refused l) = refused 8
+of_files d original (Refused l) f = refused 8
 
--- "writes the edit file": the diff of the merged list; or its text, in UTF-8; or its history
-unfoldable pub product_of : View → Lent → List Operation → Product
-product_of Asked.File lent os = in_bytes (written (diff_of lent os))
-product_of Asked.Text lent os = in_bytes (encode_all (text_on lent os))
-product_of Asked.History lent os = in_spans (history_on lent os)
+-- "an oversize file is 3", "at most 2,048 bytes each"
+abbrev pub sized : List ℕ → Bool
+sized bytes = leb (length bytes) 2048
 
--- what two edit files come to over an original of code points: the verdict on their lists, and what is asked of the merge
-pub record Outcome : Type 0 where
-  pub verdict : Verdict
-  pub product : Product
+-- "bad UTF-8 is 10"
+abbrev pub utf8 : List ℕ → Bool
+utf8 bytes = leb (length bytes) (good_end bytes)
 
--- "makes each added code point a joinable token keyed by itself, each keep or drop one joinable token, elongates, merges"
-unfoldable pub outcome_of : View → Lent → List Operation → List Operation → Outcome
-outcome_of view lent left right = record { verdict = merge_verdict lent left right; product = product_of view lent (merged_of lent left right) }
+-- "It checks in this order, original, left, right each time: [..] an oversize file is 3; bad UTF-8 is 10; a bad edit file is 8; then the
+-- merge's refusals"
+unfoldable pub result_of : List ℕ → List ℕ → List ℕ → Result
+result_of original left right =
+    pick (sized original && (sized left && sized right))
+    (pick (utf8 original && (utf8 left && utf8 right)) (of_files padding (points original) (read_file left) (read_file right)) (refused 10))
+    (refused 3)
 
--- the same of the items of two files
-abbrev pub outcome_by : View → List ℕ → List Item → List Item → Outcome
-outcome_by view original ls rs = outcome_of view (lent_by original ls rs) (left_of ls) (right_of ls rs)
+-- "writes the edit file or a line `refused=` with the number": how many bytes, and of which kind
+unfoldable pub kind_of : Result → Outcome
+kind_of (merged bytes) = O.Merged (length bytes)
+kind_of (refused n) = O.Refused (length (number_line refused_key n))
 
--- "It checks in this order [..]; then the merge's refusals, so counts that don't fit give 2": of three files
-unfoldable pub result_of : View → List ℕ → List ℕ → List ℕ → Outcome
-result_of view original left right =
-    let o = outcome_by view (points original) (items_in (read_file left)) (items_in (read_file right)) in
-    record { verdict = and_then (files_verdict original left right) o.verdict; product = o.product }
+-- "a lent room is shorter than asked": by the bytes' length
+unfoldable pub outcome_of : Result → ℕ → Outcome
+outcome_of r room = pick (leb (length (bytes_of r)) room) (kind_of r) O.Room
 
--- "All others: the exact length of the answer": 7 comes last
-abbrev pub roomed_for : Outcome → List ℕ → List ℕ → List ℕ → Verdict
-roomed_for o s t u = and_then o.verdict (roomed (fits o.product.spans s && (fits o.product.points t && fits o.product.bytes u)))
+-- "On success a room past its answer is unchanged"
+unfoldable pub room_after : Result → List ℕ → List ℕ
+room_after r d = pick (leb (length (bytes_of r)) (length d)) (answered (bytes_of r) d) d
 
--- "its result, numbers of a refusal included"
-abbrev pub made_of : Verdict → Product → Made
-made_of W.Accepted p = M.Counts p.first p.second
-made_of (W.Refused r) p = M.Refused r
-
--- what is answered, and what stands in the three rooms after it
-pub record MadeBy (o : Outcome) (s t u s' t' u' : List ℕ) (r : Made) : Type 0 where
-  pub answer : r ≡ made_of (roomed_for o s t u) o.product
-  pub spans : s' ≡ leaves (roomed_for o s t u) o.product.spans s
-  pub points : t' ≡ leaves (roomed_for o s t u) o.product.points t
-  pub bytes : u' ≡ leaves (roomed_for o s t u) o.product.bytes u
-
--- "its result, numbers of a refusal included": how many bytes, or the refusal
-abbrev pub counted_of : Verdict → ℕ → Counted
-counted_of W.Accepted n = C.Count n
-counted_of (W.Refused r) n = C.Refused r
-
--- "A public call's statement covers its result, numbers of a refusal included, and the lent buffers": a call that writes bytes alone
-pub record Written (o : Outcome) (out out' : List ℕ) (r : Counted) : Type 0 where
-  pub answer : r ≡ counted_of (and_then o.verdict (roomed (fits o.product.bytes out))) (length o.product.bytes)
-  pub room : out' ≡ leaves (and_then o.verdict (roomed (fits o.product.bytes out))) o.product.bytes out
-
--- the same of the call that tells the history
-pub record Told (o : Outcome) (history text history' text' : List ℕ) (r : WithHistory) : Type 0 where
-  pub answer : r ≡ told (and_then o.verdict (roomed (fits o.product.spans history && fits o.product.points text))) o.product.first o.product.second
-  pub spans : history' ≡ leaves (and_then o.verdict (roomed (fits o.product.spans history && fits o.product.points text))) o.product.spans history
-  pub points : text' ≡ leaves (and_then o.verdict (roomed (fits o.product.spans history && fits o.product.points text))) o.product.points text
+-- "A public call's statement covers its result, numbers of a refusal included, and the lent buffers": what the call answers, and what stands in the room after it
+pub record Written (result : Result) (out out' : List ℕ) (r : Outcome) : Type 0 where
+  pub answer : r ≡ outcome_of result (length out)
+  pub room : out' ≡ room_after result out

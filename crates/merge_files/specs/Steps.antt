@@ -1,72 +1,92 @@
 -- What the program's steps say to one another. Assumes nothing.
-use Rattle.std.specs.Prelude.{ℕ, ◌≤◌, ◌≡◌, List, length}
-use Rattle.refusal.specs.declared.Counted.{Counted}
-use Rattle.refusal.specs.declared.Counted.TheVariants as C
-use Rattle.records.specs.declared.Operation.{Operation}
+use Rattle.std.specs.Prelude.{ℕ, ◌+◌, ◌≤◌, ◌≡◌, ◌&&◌, List, ◌++◌, length}
+use Rattle.room.specs.Choice.{pick}
+use Rattle.records.specs.Operations.{operations_of}
 use Rattle.verdict.specs.declared.Verdict.TheVariants as W
 use Rattle.sizes.specs.Texts.{total, claimed_by, inserted_by}
-use Rattle.edit_format.specs.Reading.{Accepted, read_file}
-use Rattle.merging.specs.Lent.{Lent}
-use Rattle.apply.specs.declared.WithHistory.{WithHistory}
-use Rattle.apply.specs.declared.WithHistory.TheVariants as H
+use Rattle.verdict.specs.Points.{points_from}
+use Rattle.raw_lists.specs.Raws.{flat_spans, flat_keys}
+use Rattle.edit_format.specs.Items.{kept, dropped, texts}
+use Rattle.edit_format.specs.Reading.{Found, Accepted, Refused, read_file}
+use Rattle.edit_format.specs.Written.{written}
+use Rattle.merging.specs.Lent.{lent_of as given}
+use Rattle.to_diff.specs.Items.{diff_of}
 use Rattle.to_diff.specs.Answers.{verdict_on}
 use Rattle.edit_list.specs.Raws.{items_in}
-use Rattle.merge_files.specs.declared.Made.{Made}
-use Rattle.merge_files.specs.declared.Made.TheVariants as M
-use Rattle.merge_files.specs.declared.View.{View}
-use Rattle.merge_files.specs.Program.{Outcome, product_of}
+use Rattle.edit_list.specs.Lists.{used_by}
+use Rattle.merge_files.specs.declared.Checked.{Checked}
+use Rattle.merge_files.specs.declared.Checked.TheVariants as C
+use Rattle.merge_files.specs.Program.{Result, merged, merged_of, tokens_of, left_of, right_of, sized, utf8}
 
--- a merged list, of which nothing is refused any more
-abbrev pub shown : View → Lent → List Operation → Outcome
-shown view lent os = record { verdict = W.Accepted; product = product_of view lent os }
+-- the edit file of a list
+abbrev pub diff_result : List ℕ → List ℕ → List ℕ → List ℕ → List ℕ → Result
+diff_result original text spans keys ops = merged (written (diff_of (given original text spans keys) (operations_of ops)))
 
--- one answer as another
+-- a list whose diff can be written
+pub record Diffable (original text spans keys ops : List ℕ) : Type 0 where
+  pub accepted : verdict_on (given original text spans keys) (operations_of ops) ≡ W.Accepted
+  pub few : length (operations_of ops) ≤ 682
+  pub little : total (inserted_by (length text) spans keys) (operations_of ops) ≤ 2048
 
-unfoldable pub from_counted : Counted → Made
-from_counted (C.Count n) = M.Counts n 0
-from_counted (C.Refused r) = M.Refused r
+-- two lists merged, or the refusal
+abbrev pub merge_result : List ℕ → List ℕ → List ℕ → List ℕ → List ℕ → List ℕ → Result
+merge_result original text spans keys left right = merged_of (given original text spans keys) (operations_of left) (operations_of right)
 
-unfoldable pub from_history : WithHistory → Made
-from_history (H.Counts s t) = M.Counts s t
-from_history (H.Refused r) = M.Refused r
+-- lists for which the program's rooms are long enough
+pub record Mergeable (text spans keys left right : List ℕ) : Type 0 where
+  pub left_few : length (operations_of left) ≤ 341
+  pub right_few : length (operations_of right) ≤ 341
+  pub left_tokens : total claimed_by (operations_of left) ≤ 1024
+  pub right_tokens : total claimed_by (operations_of right) ≤ 1024
+  pub left_little : total (inserted_by (length text) spans keys) (operations_of left) ≤ 1024
+  pub right_little : total (inserted_by (length text) spans keys) (operations_of right) ≤ 1024
 
-unfoldable pub to_counted : Made → Counted
-to_counted (M.Counts n m) = C.Count n
-to_counted (M.Refused r) = C.Refused r
+-- "a bad edit file is 8": what each of two files uses of the original, where both are edit files
+unfoldable pub uses_of : Found → Found → Checked
+uses_of (Accepted ls) (Accepted rs) = C.Uses (kept ls + dropped ls) (kept rs + dropped rs)
+uses_of (Accepted ls) (Refused l) = C.Refused 8
+uses_of (Refused l) f = C.Refused 8
 
-unfoldable pub to_history : Made → WithHistory
-to_history (M.Counts s t) = H.Counts s t
-to_history (M.Refused r) = H.Refused r
+-- "It checks in this order, original, left, right each time": the first refusal before the merge's own, or what the files use
+unfoldable pub first_of : List ℕ → List ℕ → List ℕ → Checked
+first_of original left right =
+    pick (sized original && (sized left && sized right))
+    (pick (utf8 original && (utf8 left && utf8 right)) (uses_of (read_file left) (read_file right)) (C.Refused 10))
+    (C.Refused 3)
 
--- a list that every view accepts, and for which the program's rooms are long enough
-pub record Viewable (lent : Lent) (os : List Operation) : Type 0 where
-  pub accepted : verdict_on lent os ≡ W.Accepted
-  pub short : length lent.original ≤ 2048
-  pub few : length os ≤ 682
-  pub little : total (inserted_by (length lent.inserted) lent.spans lent.keys) os ≤ 2048
-
--- two lists for which the program's rooms are long enough
-pub record Mergeable (lent : Lent) (left right : List Operation) : Type 0 where
-  pub short : length lent.original ≤ 2048
-  pub left_few : length left ≤ 341
-  pub right_few : length right ≤ 341
-  pub left_tokens : total claimed_by left ≤ 1024
-  pub right_tokens : total claimed_by right ≤ 1024
-  pub left_little : total (inserted_by (length lent.inserted) lent.spans lent.keys) left ≤ 1024
-  pub right_little : total (inserted_by (length lent.inserted) lent.spans lent.keys) right ≤ 1024
-
--- the code points of a short original, and two short edit files that were accepted
-pub record Files (original left right : List ℕ) : Type 0 where
-  pub short : length original ≤ 2048
+-- two edit files that were accepted
+pub record Files (left right : List ℕ) : Type 0 where
   pub left_short : length left ≤ 2048
   pub right_short : length right ≤ 2048
   pub left_accepted : read_file left ≡ Accepted (items_in (read_file left))
   pub right_accepted : read_file right ≡ Accepted (items_in (read_file right))
 
--- rooms for the lists of two such files
-pub record Rooms (text lefts rights spans keys : List ℕ) : Type 0 where
-  pub text_fits : length text ≡ 2048
-  pub lefts_fit : length lefts ≡ 2046
-  pub rights_fit : length rights ≡ 2046
-  pub spans_fit : length spans ≡ 4096
-  pub keys_fit : length keys ≡ 2048
+-- two such files, what each uses of its original, and an original for both
+pub record Fitting (original left right : List ℕ) (of_left of_right : ℕ) : Type 0 where
+  pub files : Files left right
+  pub good : points_from original 0 ≡ W.Accepted
+  pub short : length original ≤ 2048
+  pub uses_left : of_left ≡ used_by left
+  pub uses_right : of_right ≡ used_by right
+
+-- a room for the code points that they add, as long as what either uses of the original
+pub record Texted (left right text : List ℕ) : Type 0 where
+  pub good : points_from text 0 ≡ W.Accepted
+  pub text_long : 2048 ≤ length text
+  pub text_most : length text ≤ 131070
+  pub left_long : used_by left ≤ length text
+  pub right_long : used_by right ≤ length text
+
+-- rooms for their lists
+pub record Rooms (lefts rights spans keys : List ℕ) : Type 0 where
+  pub lefts_fit : 2046 ≤ length lefts
+  pub rights_fit : 2046 ≤ length rights
+  pub spans_fit : 4096 ≤ length spans
+  pub keys_fit : 2048 ≤ length keys
+
+-- their merge, over the code points that they add and nothing behind them
+abbrev pub good_result : List ℕ → Found → Found → Result
+good_result original l r =
+    merged_of
+    (given original (texts (items_in l) ++ texts (items_in r)) (flat_spans (tokens_of (items_in l) (items_in r))) (flat_keys (tokens_of (items_in l) (items_in r))))
+    (left_of (items_in l)) (right_of (items_in l) (items_in r))

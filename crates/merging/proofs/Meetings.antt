@@ -8,9 +8,8 @@ use lib.ListN.{drop}
 use lib.Seq.{slice}
 use borrow.Author.Tests.{eq-eqb, ne_eqb}
 use Rattle.overlap.specs.declared.Range.{Range}
-use Rattle.overlap.specs.Overlap.{width_of}
 use Rattle.merging.specs.Lent.{sum}
-use Rattle.merging.specs.Meeting.{inserted, used_up, appended}
+use Rattle.merging.specs.Meeting.{inserted, width_of, used_up, appended}
 use Rattle.merging.specs.Cursors.{overlap_place}
 
 module _ (r : Range) where

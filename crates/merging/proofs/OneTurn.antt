@@ -11,12 +11,11 @@ use lib.Dec.{ltb, leb}
 use lib.ListN.{length}
 use borrow.Author.Tests.{lt-ltb, le-ltb, le-leb, lt-leb, eq-eqb}
 use Rattle.overlap.specs.declared.Range.{Range}
-use Rattle.overlap.specs.Overlap.{width_of}
 use Rattle.merging.specs.declared.Op.{Op}
 use Rattle.merging.specs.declared.Op.TheVariants.{Delete, Insert, Retain}
 use Rattle.merging.specs.Lent.{Lent, Rules, keys_of, lengths_of}
 use Rattle.merging.specs.Operations.{order_of, kind_of, span_of, empty_op}
-use Rattle.merging.specs.Meeting.{cut_at, cut_at_end, kept_length, front_of, behind_cut, tail_of, Remembered, nothing, deleted, retained, inserted, lost_of, met_of, other_of, remember_of}
+use Rattle.merging.specs.Meeting.{cut_at, cut_at_end, kept_length, front_of, behind_cut, tail_of, Remembered, nothing, deleted, retained, inserted, lost_of, met_of, other_of, remember_of, width_of}
 use Rattle.merging.specs.Tiling.{Tiled, kept_at}
 use Rattle.merging.proofs.Meetings.{used_all, used_rest, appended_same, appended_new}
 

@@ -12,12 +12,11 @@ use lib.ListN.{drop}
 use lib.Seq.{slice}
 use borrow.Author.Tests.{le-leb, lt-leb}
 use Rattle.overlap.specs.declared.Range.{Range}
-use Rattle.overlap.specs.Overlap.{width_of}
 use Rattle.merging.specs.declared.Op.{Op}
 use Rattle.merging.specs.declared.Op.TheVariants.{Delete, Insert, Retain}
 use Rattle.merging.specs.Lent.{Lent, Rules, Lawful, keys_of, lengths_of, sum}
 use Rattle.merging.specs.Operations.{length_of}
-use Rattle.merging.specs.Meeting.{kept_length, front_of, Remembered, nothing, deleted, retained, inserted, lost_of, met_of, other_of, remember_of}
+use Rattle.merging.specs.Meeting.{kept_length, front_of, Remembered, nothing, deleted, retained, inserted, lost_of, met_of, other_of, remember_of, width_of}
 use Rattle.merging.specs.Cursors.{Fine, overlap_place, place_of, removed_of, shift_of, moved_index}
 use Rattle.merging.proofs.Sums.{sum_nil, sum_append, sum_drop, sum_part, lengths_split, keys_short}
 use Rattle.merging.proofs.Meetings.{place_none, place_some, used_all, used_rest, appended_same, appended_new}

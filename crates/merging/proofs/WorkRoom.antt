@@ -7,14 +7,13 @@ use native.Mathlib.Omega.{arith}
 use native.Mathlib.Decide.{ℕ_discrete}
 use lib.ListN.{length, length-append, length-drop}
 use Rattle.overlap.specs.declared.Range.{Range}
-use Rattle.overlap.specs.Overlap.{width_of}
 use Rattle.records.specs.declared.Cursor.{Cursor}
 use Rattle.merging.specs.declared.Op.{Op}
 use Rattle.merging.specs.declared.Op.TheVariants.{Delete, Insert, Retain}
 use Rattle.merging.specs.declared.Order.{Order}
 use Rattle.merging.specs.Lent.{Lent, Rules, keys_of, lengths_of}
 use Rattle.merging.specs.OrderRule.{priority_of}
-use Rattle.merging.specs.Meeting.{front_of, tail_of, kept_length, met_of, lost_of, other_of, used_up, remember_of, Remembered, nothing, deleted, retained, inserted}
+use Rattle.merging.specs.Meeting.{front_of, tail_of, kept_length, met_of, lost_of, other_of, used_up, remember_of, width_of, Remembered, nothing, deleted, retained, inserted}
 use Rattle.merging.specs.Turn.{State, Turned, turned, turn_with, turn_left, turn_right, Taken, none, from_left, from_right, taken_of, Step, stop, on, step_of}
 use Rattle.merging.specs.Merge.{start_of}
 use Rattle.merging.specs.Tiling.{total_of, tokens_of}

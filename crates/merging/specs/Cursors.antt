@@ -2,7 +2,6 @@
 use Rattle.std.specs.Prelude.{ℕ, ◌+◌, ◌-◌, min, ◌≤◌, true, false, List, [], ◌∷◌, eqb, leb, drop}
 use Rattle.std.proofs.Math.Seq.{slice}
 use Rattle.overlap.specs.declared.Range.{Range}
-use Rattle.overlap.specs.Overlap.{width_of}
 use Rattle.records.specs.declared.Cursor.{Cursor}
 use Rattle.records.specs.Cursors.{at_index}
 use Rattle.merging.specs.declared.Op.{Op}
@@ -10,7 +9,7 @@ use Rattle.merging.specs.declared.Op.TheVariants.{Delete, Insert, Retain}
 use Rattle.merging.specs.declared.Shift.{Shift}
 use Rattle.merging.specs.Lent.{Rules, keys_of, lengths_of, sum}
 use Rattle.merging.specs.Operations.{length_of}
-use Rattle.merging.specs.Meeting.{Remembered, nothing, deleted, retained, inserted, lost_of}
+use Rattle.merging.specs.Meeting.{Remembered, nothing, deleted, retained, inserted, width_of, lost_of}
 
 -- "the shared text": where it starts in the merged text, and its length
 pub record Place : Type 0 where

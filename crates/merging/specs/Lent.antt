@@ -2,7 +2,7 @@
 use Rattle.std.specs.Prelude.{ℕ, zero, suc, ◌+◌, ◌-◌, ◌*◌, ◌≤◌, List, [], ◌∷◌, get_or, length}
 use Rattle.std.proofs.Math.Seq.{slice}
 use Rattle.overlap.specs.declared.Range.{Range}
-use Rattle.overlap.specs.Overlap.{overlap_of, overlap_at}
+use Rattle.overlap.specs.Overlap.{overlap_of}
 use Rattle.records.specs.Tokens.{spelling}
 
 -- "All lists of one call share one lent inserted text"
@@ -43,10 +43,6 @@ pub record Rules : Type 0 where
 -- "the longest beginning of new that occurs in old, at its first occurrence; 0..0 if none": the rules of the paper
 abbrev pub rules_of : Lent → Rules
 rules_of lent = record { lent = lent; overlap = overlap_of }
-
--- the rules where an overlap of fewer tokens than `least` counts as none, unless it is all of new: those of the paper at 1, by law `rules_one`
-abbrev pub rules_at : ℕ → Lent → Rules
-rules_at least lent = record { lent = lent; overlap = overlap_at least }
 
 -- "the longest beginning of new": all that the laws ask of an overlap is that it is no longer than new
 pub record Lawful (R : Rules) : Type 0 where

@@ -2,7 +2,6 @@
 -- said for the side that is taken; `rs` is what is next on the other side, `v` what is remembered of it. Assumes nothing.
 use Rattle.std.specs.Prelude.{ℕ, ◌+◌, ◌-◌, min, true, false, ◌&&◌, List, [], ◌∷◌, ◌++◌, eqb, ltb, drop}
 use Rattle.overlap.specs.declared.Range.{Range}
-use Rattle.overlap.specs.Overlap.{width_of}
 use Rattle.merging.specs.declared.Op.{Op}
 use Rattle.merging.specs.declared.Op.TheVariants.{Delete, Insert, Retain}
 use Rattle.merging.specs.Lent.{Lent, Rules, keys_of, lengths_of}
@@ -44,6 +43,10 @@ pub data Remembered : Type 0 where
   nothing : Remembered
   deleted retained : ℕ → ℕ → Remembered
   inserted : ℕ → List ℕ → List ℕ → Remembered
+
+-- "Overlap of inserts": how many tokens it has
+abbrev pub width_of : Range → ℕ
+width_of r = r.end - r.start
 
 -- "delete after delete, retain after retain, retain after delete lose from the front the part before the earlier one's end";
 -- "Insert after remembered insert loses the overlap": how much an operation loses, in code points, or an insert in tokens

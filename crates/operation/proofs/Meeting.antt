@@ -9,10 +9,10 @@ use lib.Dec.{eqb, ltb}
 use lib.ListN.{take, drop, get_or}
 use lib.Seq.{slice, slice_empty, drop-drop}
 use Rattle.overlap.specs.declared.Range.{Range}
-use Rattle.overlap.specs.Overlap.{overlap_at}
+use Rattle.overlap.specs.Overlap.{overlap_of}
 use Rattle.merging.specs.declared.Op.{Op}
 use Rattle.merging.specs.declared.Op.TheVariants.{Delete, Insert, Retain}
-use Rattle.merging.specs.Lent.{Lent, rules_of, rules_at, keys_of, lengths_of, sum}
+use Rattle.merging.specs.Lent.{Lent, rules_of, keys_of, lengths_of, sum}
 use Rattle.merging.specs.Operations.{length_of}
 use Rattle.merging.specs.Meeting.{inserted, kept_length, tail_of, behind_cut, lost_of, other_of, used_up}
 use Rattle.merging.specs.Cursors.{place_of, removed_of}
@@ -36,9 +36,9 @@ tail_next (Retain o l) rs ls = go (ltb (kept_length o l rs) l)
     go true = refl
     go false = refl
 
-module _ (least : ℕ) (lent : Lent) (w : List ℕ) (half fill : ℕ) where
+module _ (lent : Lent) (w : List ℕ) (half fill : ℕ) where
   -- "loses the overlap", "lose from the front the part before the earlier one's end"
-  pub lost_is : (a : Op) (v : Last) → (met_by least lent.keys w fill a v).lost ≡ lost_of (rules_at least lent) a (last_of w half fill v)
+  pub lost_is : (a : Op) (v : Last) → (met_by lent.keys w fill a v).lost ≡ lost_of (rules_of lent) a (last_of w half fill v)
   unfolding met_by lost_by lost_of keys_of
   lost_is (Delete o l) Nothing = refl
   lost_is (Delete o l) (Deleted o' l') = refl
@@ -63,7 +63,7 @@ module _ (least : ℕ) (lent : Lent) (w : List ℕ) (half fill : ℕ) where
   used_all o = ap₂ (inserted o) (slice_empty fill w) (slice_empty (half + fill) w)
 
   -- "the remembered tokens up to the overlap's end are used up, else all are"
-  pub used_is : (a : Op) (v : Last) → last_of w half fill (used_by a v (met_by least lent.keys w fill a v) fill) ≡ other_of (rules_at least lent) a (last_of w half fill v)
+  pub used_is : (a : Op) (v : Last) → last_of w half fill (used_by a v (met_by lent.keys w fill a v) fill) ≡ other_of (rules_of lent) a (last_of w half fill v)
   unfolding met_by used_by used_up keys_of
   used_is (Delete o l) v = refl
   used_is (Insert o f n) Nothing = refl
@@ -72,7 +72,7 @@ module _ (least : ℕ) (lent : Lent) (w : List ℕ) (half fill : ℕ) where
   used_is (Insert o f n) (Inserted o' from) = go (eqb (r.end - r.start) n)
     where
       r : Range
-      r = overlap_at least (slice from fill w) (slice f (f + n) lent.keys)
+      r = overlap_of (slice from fill w) (slice f (f + n) lent.keys)
 
       go :
           (t : Bool)
@@ -86,7 +86,7 @@ module _ (least : ℕ) (lent : Lent) (w : List ℕ) (half fill : ℕ) where
   used_is (Retain o l) v = refl
 
   -- "the overlap's place for inserts, the end of merged text for a retain lost to a retain, one point for a retain lost to a delete"
-  pub place_is : (a : Op) (v : Last) (merged : ℕ) → place_by w half fill a v (met_by least lent.keys w fill a v) merged ≡ place_of (rules_at least lent) a (last_of w half fill v) merged
+  pub place_is : (a : Op) (v : Last) (merged : ℕ) → place_by w half fill a v (met_by lent.keys w fill a v) merged ≡ place_of (rules_of lent) a (last_of w half fill v) merged
   unfolding met_by lost_by place_by place_of lost_of keys_of
   place_is (Delete o l) v merged = refl
   place_is (Insert o f n) Nothing merged = refl
@@ -109,7 +109,7 @@ length_is lent (Delete o l) = refl
 length_is lent (Insert o f n) = ap sum (lengths_of lent f n)
 length_is lent (Retain o l) = refl
 
-pub removed_is : (least : ℕ) (lent : Lent) (a : Op) (z : ℕ) → removed_of (rules_of (of_spans lent.spans)) a z ≡ removed_of (rules_at least lent) a z
-removed_is least lent (Delete o l) z = refl
-removed_is least lent (Insert o f n) z = ap sum (lengths_of lent f z)
-removed_is least lent (Retain o l) z = refl
+pub removed_is : (lent : Lent) (a : Op) (z : ℕ) → removed_of (rules_of (of_spans lent.spans)) a z ≡ removed_of (rules_of lent) a z
+removed_is lent (Delete o l) z = refl
+removed_is lent (Insert o f n) z = ap sum (lengths_of lent f z)
+removed_is lent (Retain o l) z = refl

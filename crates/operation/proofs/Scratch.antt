@@ -44,10 +44,10 @@ scratched w t at n h l d =
     drop_behind a b k n e = ap (λ (j : ℕ). drop (j + n) (a ++ b)) (sym e) ∙ drop-append-add a b n
 
 -- what a reader of the rest of the room finds there
-pub rest_is :
+pub rest-is :
     (w t : List ℕ) (at : ℕ) → at ≤ length w → length t ≡ length (mid_of at (length w - at) w)
     → take (length (put_mid at (length w - at) w t) - at) (drop at (put_mid at (length w - at) w t)) ≡ t
-rest_is w t at h l =
+rest-is w t at h l =
     let p = post_of at (length w - at) w in
     let lm : length (mid_of at (length w - at) w) ≡ length w - at = mid_len at (length w) w (omega arith) in
     let e : drop at (put_mid at (length w - at) w t) ≡ t ++ p = drop_at (take at w) (t ++ p) at (length-take-le at w h) in

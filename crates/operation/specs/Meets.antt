@@ -3,7 +3,7 @@
 use Rattle.std.specs.Prelude.{ℕ, ◌+◌, ◌-◌, min, ◌≡◌, true, false, List, eqb, ltb}
 use Rattle.std.proofs.Math.Seq.{slice}
 use Rattle.overlap.specs.declared.Range.{Range}
-use Rattle.overlap.specs.Overlap.{overlap_at}
+use Rattle.overlap.specs.Overlap.{overlap_of}
 use Rattle.merging.specs.declared.Op.{Op}
 use Rattle.merging.specs.declared.Op.TheVariants.{Delete, Insert, Retain}
 use Rattle.merging.specs.Meeting.{kept_length}
@@ -42,14 +42,14 @@ met z s e = record { lost = z; start = s; end = e }
 abbrev pub met_in : Range → Met
 met_in r = met (r.end - r.start) r.start r.end
 
--- "Insert after remembered insert loses the overlap", one that counts from `least` tokens on: the remembered keys stand in the work room w up to fill
-unfoldable pub met_by : ℕ → List ℕ → List ℕ → ℕ → Op → Last → Met
-met_by least keys w fill (Delete o l) v = met (lost_by (Delete o l) v) 0 0
-met_by least keys w fill (Insert o f n) Nothing = met 0 0 0
-met_by least keys w fill (Insert o f n) (Deleted o' l') = met 0 0 0
-met_by least keys w fill (Insert o f n) (Retained o' l') = met 0 0 0
-met_by least keys w fill (Insert o f n) (Inserted o' from) = met_in (overlap_at least (slice from fill w) (slice f (f + n) keys))
-met_by least keys w fill (Retain o l) v = met (lost_by (Retain o l) v) 0 0
+-- "Insert after remembered insert loses the overlap": the remembered keys stand in the work room w up to fill
+unfoldable pub met_by : List ℕ → List ℕ → ℕ → Op → Last → Met
+met_by keys w fill (Delete o l) v = met (lost_by (Delete o l) v) 0 0
+met_by keys w fill (Insert o f n) Nothing = met 0 0 0
+met_by keys w fill (Insert o f n) (Deleted o' l') = met 0 0 0
+met_by keys w fill (Insert o f n) (Retained o' l') = met 0 0 0
+met_by keys w fill (Insert o f n) (Inserted o' from) = met_in (overlap_of (slice from fill w) (slice f (f + n) keys))
+met_by keys w fill (Retain o l) v = met (lost_by (Retain o l) v) 0 0
 
 -- "if all its tokens were lost, the remembered tokens up to the overlap's end are used up, else all are"
 unfoldable pub used_by : Op → Last → Met → ℕ → Last

@@ -1,7 +1,7 @@
 // What a taken operation meets: the cut of a retain, the meet rule, and the overlap of inserts.
 ghost use Rattle.std.specs.Prelude.{◌≡◌, ◌+◌, ◌-◌, ◌*◌, ◌≤◌, min, [], length};
 ghost use Rattle.std.proofs.Math.Seq.{slice};
-ghost use Rattle.overlap.specs.Overlap.{overlap_at};
+ghost use Rattle.overlap.specs.Overlap.{overlap_of};
 ghost use Rattle.merging.specs.Lent.{lengths_of, sum, rules_of};
 ghost use Rattle.merging.specs.Operations.{length_of};
 ghost use Rattle.merging.specs.Meeting.{cut_at, cut_at_end, kept_length, front_of};
@@ -219,11 +219,10 @@ pub struct Met {
     pub end: usize,
 }
 
-// The overlap of the remembered keys from `from` to `fill` and the new ones, which counts from
-// `least` tokens on. The table stands from `table` on, where the new keys are to be remembered.
+// The overlap of the remembered keys from `from` to `fill` and the new ones. The table stands from
+// `table` on, where the new keys are to be remembered.
 pub fn insert_overlap(
     keys: &[u32],
-    least: usize,
     first: usize,
     count: usize,
     work: &mut [u32],
@@ -232,14 +231,13 @@ pub fn insert_overlap(
     table: usize,
 ) -> Range
     requires { (first + count ≤ length keys.now) × (count ≤ 8192) × (table + count ≤ length work.old) × (from ≤ fill) × (fill ≤ length work.old) × Apart from fill table count }
-    ensures value { result ≡ overlap_at least (slice from fill work.old) (slice first (first + count) keys.now) }
+    ensures value { result ≡ overlap_of (slice from fill work.old) (slice first (first + count) keys.now) }
     ensures scratched { Scratched work.old work.new table count }
 {
     let end = first + count;
     overlap::fill(&keys[first..end], &mut work[table..]);
     let w = &work[..];
-    let found = overlap::scan(&w[from..fill], &keys[first..end], &w[table..]);
-    overlap::count_from(least, count, found)
+    overlap::scan(&w[from..fill], &keys[first..end], &w[table..])
 }
 
 fn not_inserts(lost: usize) -> Met
@@ -255,7 +253,6 @@ fn not_inserts(lost: usize) -> Met
 // The meet rule and the overlap of inserts.
 pub fn merge_operations_consuming_insert(
     keys: &[u32],
-    least: usize,
     a: Op,
     last: Last,
     fill: usize,
@@ -263,7 +260,7 @@ pub fn merge_operations_consuming_insert(
     table: usize,
 ) -> Met
     requires { LastFits last × Meetable keys.now work.old a last fill table }
-    ensures value { result ≡ met_by least keys.now work.old fill a last }
+    ensures value { result ≡ met_by keys.now work.old fill a last }
     ensures scratched { Scratched work.old work.new table (tokens a) }
 {
     match a {
@@ -283,10 +280,9 @@ pub fn merge_operations_consuming_insert(
                 length: l,
             } => not_inserts(0),
             Last::Inserted { order: o, from } => {
-                let range = insert_overlap(keys, least, first, count, work, from, fill, table);
-                let lost = range.end - range.start;
+                let range = insert_overlap(keys, first, count, work, from, fill, table);
                 Met {
-                    lost,
+                    lost: range.end - range.start,
                     start: range.start,
                     end: range.end,
                 }

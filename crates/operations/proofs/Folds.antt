@@ -1,22 +1,22 @@
--- The tiles and the first that is no record, as a walk sees them: one operation more in each of its ways, and at the end refusals 2 and 1 of the definitions.
+-- The fold over operation structs is the definition of the tiling, and a fold over one operation more is one step more.
 -- By induction on the list. Assumes nothing.
 use mathlib.Core.Path.{◌≡◌, refl, ap, ◌∙◌}
 use mathlib.Core.Bool.{Bool, true, false, ◌&&◌}
 use mathlib.Core.List.{List, [], ◌∷◌}
-use Prim.Native.Nat.{ℕ, ◌+◌, ◌≤◌, ◌<◌}
+use Prim.Native.Nat.{ℕ, zero, suc, ◌+◌, ◌≤◌, ◌<◌}
+use native.Mathlib.Nat.{not-suc-le-zero, le_of_suc-le-suc}
+use native.Mathlib.Numerals.{add-one}
 use native.Mathlib.Omega.{arith}
 use borrow.Author.Tests.{eq-eqb, ne_eqb, le-leb, lt-leb}
 use lib.Dec.{eqb, leb}
-use lib.ListN.{length}
+use lib.ListN.{length, take, get_or}
 use Rattle.refusal.specs.declared.Refusal.TheVariants as R
 use Rattle.room.specs.Choice.{pick}
 use Rattle.records.specs.declared.Operation.{Operation}
 use Rattle.verdict.specs.declared.Verdict.TheVariants.{Accepted, Refused}
-use Rattle.shapes.specs.Shapes.{is_record, records_from}
 use Rattle.shapes.specs.Tiling.{tiling_from}
 use Rattle.operations.specs.declared.Tile.{Tile}
-use Rattle.operations.specs.declared.Shape.{Shape}
-use Rattle.operations.specs.Folds.{further, moved_to, stopped_at, tile_step, tile_all, tile_end, shape_step, shape_all, shape_end}
+use Rattle.operations.specs.Folds.{no_operation, moved_to, stopped_at, tile_step, tile_all, tile_end}
 
 -- one step, in each of its ways
 pub step_done : (t : Tile) (o : Operation) → t.good ≡ false → t ≡ tile_step t o
@@ -41,14 +41,17 @@ module _ (t : Tile) (o : Operation) (g : t.good ≡ true) where
     unfolding tile_step
     step_on q l = rw (g, ne_eqb _ _ k, eq-eqb _ _ q, le-leb _ _ l)
 
+all_suc : (ys : List Operation) (t : Tile) (i : ℕ) → i < length ys → tile_all (take (suc i) ys) t ≡ tile_step (tile_all (take i ys) t) (get_or ys i no_operation)
+unfolding tile_all
+all_suc [] t i h = absurd (not-suc-le-zero h)
+all_suc (y ∷ ys) t zero h = refl
+all_suc (y ∷ ys) t (suc i) h = all_suc ys (tile_step t y) i (le_of_suc-le-suc h)
+
+pub all_more : (ys : List Operation) (t : Tile) (i : ℕ) → i < length ys → tile_all (take (i + 1) ys) t ≡ tile_step (tile_all (take i ys) t) (get_or ys i no_operation)
+all_more ys t i h = ap (λ (k : ℕ). tile_all (take k ys) t) (add-one i) ∙ all_suc ys t i h
+
 abbrev pub going : ℕ → ℕ → ℕ → Tile
 going n i a = record { n = n; index = i; at = a; good = true }
-
-abbrev pub onward : ℕ → Shape
-onward i = record { index = i; good = true }
-
-abbrev held : ℕ → Shape
-held i = record { index = i; good = false }
 
 abbrev stop : ℕ → ℕ → ℕ → Tile
 stop n i a = record { n = n; index = i; at = a; good = false }
@@ -75,37 +78,3 @@ tiles (y ∷ ys) n i a h = turn (λ b. tiles ys n (i + 1) b (omega arith)) (eqb 
     turn go true m = ap (λ (k : ℕ). tile_end (tile_all ys (going n k a))) (omega arith) ∙ go a
     turn go false true = ap (λ (k : ℕ). tile_end (tile_all ys (going n k (a + y.length)))) (omega arith) ∙ go (a + y.length)
     turn go false false = stays ys n i a
-
--- the first that is no record, one operation more in each of its ways
-
-module _ (m : ℕ) (spans keys : List ℕ) (s : Shape) (o : Operation) where
-  pub shape_done : s.good ≡ false → s ≡ shape_step m spans keys s o
-  unfolding shape_step
-  shape_done g = rw g
-
-  pub shape_on : s.good ≡ true → is_record m spans keys o ≡ true → (i : ℕ) → i ≡ further s.index → onward i ≡ shape_step m spans keys s o
-  unfolding shape_step
-  shape_on g r i e = rw (g, r, e)
-
-  pub shape_off : s.good ≡ true → is_record m spans keys o ≡ false → held s.index ≡ shape_step m spans keys s o
-  unfolding shape_step
-  shape_off g r = rw (g, r)
-
-module _ (m : ℕ) (spans keys : List ℕ) where
-  shape_stays : (ys : List Operation) (i : ℕ) → shape_end (shape_all m spans keys ys (held i)) ≡ Refused (R.Record i)
-  unfolding shape_all shape_step shape_end
-  shape_stays [] i = refl
-  shape_stays (y ∷ ys) i = shape_stays ys i
-
-  -- the verdict at the end is that of the definition, from any place on
-  pub shapes_are : (ys : List Operation) (i : ℕ) → i + length ys ≤ 18446744073709551615
-      → shape_end (shape_all m spans keys ys (onward i)) ≡ records_from m spans keys ys i
-  unfolding shape_all shape_step shape_end records_from
-  shapes_are [] i h = refl
-  shapes_are (y ∷ ys) i h = turn (is_record m spans keys y) (shapes_are ys (i + 1) (omega arith))
-    where
-      turn : (b : Bool) → shape_end (shape_all m spans keys ys (onward (i + 1))) ≡ records_from m spans keys ys (i + 1)
-          → shape_end (shape_all m spans keys ys (pick b (onward (further i)) (held i)))
-          ≡ elim b [ true ↦ records_from m spans keys ys (i + 1) | false ↦ Refused (R.Record i) ]
-      turn true go = ap (λ (k : ℕ). shape_end (shape_all m spans keys ys (onward k))) (omega arith) ∙ go
-      turn false go = shape_stays ys i

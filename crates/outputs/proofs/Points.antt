@@ -13,7 +13,7 @@ use Rattle.edit_format.specs.Items.{all_points}
 use Rattle.edit_write.proofs.Rewriting.{points_append}
 
 -- the parts of a text
-pub points_range : (s n : ℕ) (t : List ℕ) → all_points t ≡ true → all_points (take n (drop s t)) ≡ true
+points_range : (s n : ℕ) (t : List ℕ) → all_points t ≡ true → all_points (take n (drop s t)) ≡ true
 unfolding all_points
 points_range zero zero t h = refl
 points_range zero (suc n) [] h = refl

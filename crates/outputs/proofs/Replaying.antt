@@ -17,7 +17,7 @@ use Rattle.diff.specs.declared.diff.Item.TheVariants as I
 use Rattle.diff.specs.Items as D
 use Rattle.diff.specs.Replay.{Edit, retain, delete, insert, edit_of, edits_of, replayed}
 use Rattle.diff.specs.Checks.{fits}
-use Rattle.replay.specs.Answers.{Diff, diff, edits, text_of, covering, roomed, Replayed}
+use Rattle.replay.specs.Answers.{diff, edits, text_of, covering, roomed, Replayed}
 use Rattle.verdict.specs.declared.Verdict.{Verdict}
 use Rattle.verdict.specs.declared.Verdict.TheVariants.{Accepted, Refused}
 use Rattle.verdict.specs.Verdicts.{and_then}
@@ -125,14 +125,12 @@ module _ (lent : Lent) (os : List Operation) {n m : ℕ} {d' : List ℤ} {e' : L
       (ap (replayed lent.original) (decoded lent.original (to_diff lent (ops_from 0 os)) (diff_good lent os w.accepted))
       ∙ (agrees lent otherwise os [] w.accepted.list).replay)
 
-  -- from rooms to rooms: a replay over what was written, by any rule that accepts what the covering one accepts, leaves the list's text in its room
-  pub replays_back : (check : Diff → Verdict) → ((x : Diff) → covering x ≡ Accepted → check x ≡ Accepted)
-      → {room room' : List ℕ} {r : Counted} → Replayed check (diff lent.original (take (n * 3) d') (take m e')) room r room'
+  -- from rooms to rooms: `from_covering_diff` over what was written leaves the list's text in its room
+  pub replays_back : {room room' : List ℕ} {r : Counted} → Replayed covering (diff lent.original (take (n * 3) d') (take m e')) room r room'
       → length (list_text lent.original lent.inserted lent.spans lent.keys os) ≤ length room
       → (r ≡ Count (length (list_text lent.original lent.inserted lent.spans lent.keys os)))
       × (room' ≡ answered (list_text lent.original lent.inserted lent.spans lent.keys os) room)
   unfolding roomed fits and_then
-  replays_back check accepts-it {room} {room'} {r} h l =
+  replays_back {room} {room'} {r} h l =
       let t = le-ltb (length room) (length (list_text lent.original lent.inserted lent.spans lent.keys os)) l in
-      let c = accepts-it (diff lent.original (take (n * 3) d') (take m e')) replay_accepted in
-      (rw (c, replay_text, t) at h.answer, rw (c, replay_text, t) at h.leaving)
+      (rw (replay_accepted, replay_text, t) at h.answer, rw (replay_accepted, replay_text, t) at h.leaving)

@@ -1,62 +1,131 @@
--- Shown: unchanged and added spans spell the text that was written, unchanged and removed ones the original; and what `to_diff` wrote replays to that text, plain and covering. From answers and rooms alone.
--- How: what stands in the rooms is the list's text and history, and history, diff and text agree. Assumes nothing.
-use Prim.Native.Nat.{ℕ, ◌*◌, ◌≤◌}
-use mathlib.Core.Path.{◌≡◌, sym, ◌∙◌, ap}
-use mathlib.Core.List.{List}
-use lib.ListN.{length, take}
+-- Shown: whenever `apply` and `apply_with_history` accept the same list, the unchanged and added spans spell the text, the unchanged and removed ones the original; and what `to_diff` wrote replays to that text: from rooms to rooms.
+-- How: the spans that stand in the rooms are the history's, and history, diff and text agree.
+use Prim.Native.Nat.{ℕ, ◌+◌, ◌*◌, ◌≤◌}
+use mathlib.Core.Path.{◌≡◌, refl, sym, ◌∙◌, ap}
+use mathlib.Core.Bool.{◌&&◌}
+use mathlib.Core.List.{List, [], ◌∷◌, ◌++◌, append_assoc}
+use native.Mathlib.Omega.{arith}
+use lib.ListN.{length, take, drop, length-append}
+use lib.Seq.{get_or-append-add, take-append_seam, drop-append_seam, drop-drop}
 use lib.IntN.{ℤ}
 use Rattle.room.specs.Placed.{answered}
 use Rattle.records.specs.declared.Operation.{Operation}
+use Rattle.records.specs.declared.Cursor.{Cursor}
+use Rattle.records.specs.Cursors.{flat_cursors}
+use Rattle.cursors.specs.Sorted.{sorted}
 use Rattle.refusal.specs.declared.Counted.{Counted}
 use Rattle.refusal.specs.declared.Counted.TheVariants.{Count}
-use Rattle.replay.specs.Answers.{Diff, diff, plain, covering, Replayed}
-use Rattle.replay.proofs.Covering.{covering_plain}
+use Rattle.replay.specs.Answers.{diff, covering, Replayed}
 use Rattle.verdict.specs.declared.Verdict.{Verdict}
-use Rattle.verdict.specs.declared.Verdict.TheVariants.{Accepted}
+use Rattle.verdict.specs.declared.Verdict.TheVariants.{Accepted, Refused}
+use Rattle.verdict.specs.Verdicts.{and_then, roomed}
 use Rattle.sizes.specs.Sizes.{otherwise}
+use Rattle.shapes.specs.Accepted.{AcceptedList}
 use Rattle.checks.proofs.Accepted.{accepted_list}
 use Rattle.merging.specs.Lent.{Lent}
-use Rattle.merging.specs.Outputs.{spelled_by, of_text, of_original}
+use Rattle.merging.specs.Outputs.{Span, spelled_by, of_text, of_original, history_text, flat_spans}
 use Rattle.merging_laws.proofs.Outputs.{agrees}
-use Rattle.apply.specs.Answers.{verdict_on, text_on, history_on}
+use Rattle.apply.specs.declared.Applied.TheVariants as A
+use Rattle.apply.specs.declared.WithHistory.TheVariants as H
+use Rattle.apply.specs.Answers.{verdict_on, text_on, history_on, fits, apply_verdict, history_verdict, applied, told, Applies, Tells}
 use Rattle.to_diff.specs.declared.Diffed.TheVariants.{Counts}
 use Rattle.to_diff.specs.Answers.{Diffs}
-use Rattle.outputs.specs.Spans.{spans_from}
-use Rattle.outputs.specs.Handed.{TextBy, SpansBy}
-use Rattle.outputs.proofs.Replaying.{written_of, replays_back}
-use Rattle.outputs.proofs.Views.{text_written, spans_written}
+use Rattle.outputs.specs.Spans.{span_at, spans_from}
+use Rattle.outputs.proofs.Replaying.{front, written_of, replays_back}
 
-module _ (lent : Lent) (os : List Operation) {k : ℕ} {out' : List ℕ} (w : TextBy lent os k out') where
-  -- "unchanged and added history spans spell the list's text, unchanged and removed spans the original", in the rooms of the calls
-  pub spans_spell : {n m : ℕ} {history' texts' : List ℕ} → SpansBy lent os n m history' texts'
-      → (spelled_by of_text (spans_from history' texts' 0 n) ≡ take k out') × (spelled_by of_original (spans_from history' texts' 0 n) ≡ lent.original)
-  unfolding text_on history_on verdict_on
+-- four numbers of a list, where a part of it begins
+span_part : (a b c d : ℕ) (pre post text : List ℕ) (i : ℕ) → length pre ≡ i * 4
+    → span_at (pre ++ (a ∷ b ∷ c ∷ d ∷ post)) text i ≡ record { kind = a; side = b; text = take d (drop c text) }
+span_part a b c d pre post text i h =
+    let xs : List ℕ = a ∷ b ∷ c ∷ d ∷ post in
+    let e : i * 4 ≡ length pre + 0 = omega arith in
+    let f : i * 4 + 1 ≡ length pre + 1 = omega arith in
+    let g : i * 4 + 2 ≡ length pre + 2 = omega arith in
+    let j : i * 4 + 3 ≡ length pre + 3 = omega arith in
+    rw (f, g, j, e, get_or-append-add pre xs 1 0, get_or-append-add pre xs 2 0, get_or-append-add pre xs 3 0, get_or-append-add pre xs 0 0)
+
+-- the spans of a history, read out of its rooms
+read_spans : (ss : List Span) (at i : ℕ) (pre post text rest : List ℕ) → length pre ≡ i * 4 → drop at text ≡ history_text ss ++ rest
+    → spans_from (pre ++ (flat_spans at ss ++ post)) text i (length ss) ≡ ss
+unfolding flat_spans history_text spans_from
+read_spans [] at i pre post text rest h d = refl
+read_spans (p ∷ ss) at i pre post text rest h d =
+    let n : ℕ = length p.text in
+    let four : List ℕ = p.kind ∷ p.side ∷ at ∷ n ∷ [] in
+    let more : List ℕ = flat_spans (at + n) ss ++ post in
+    let e : drop at text ≡ p.text ++ (history_text ss ++ rest) = d ∙ append_assoc p.text (history_text ss) rest in
+    let t : take n (drop at text) ≡ p.text = rw e (take-append_seam p.text (history_text ss ++ rest)) in
+    let next : drop (at + n) text ≡ history_text ss ++ rest = sym (drop-drop n at text) ∙ (ap (drop n) e ∙ drop-append_seam p.text (history_text ss ++ rest)) in
+    let first : span_at (pre ++ (p.kind ∷ p.side ∷ at ∷ n ∷ more)) text i ≡ p =
+    span_part p.kind p.side at n pre more text i h ∙ ap (λ (s : List ℕ). record { kind = p.kind; side = p.side; text = s }) t
+    in
+    let shift : (pre ++ four) ++ more ≡ pre ++ (p.kind ∷ p.side ∷ at ∷ n ∷ more) = append_assoc pre four more in
+    let others : spans_from (pre ++ (p.kind ∷ p.side ∷ at ∷ n ∷ more)) text (i + 1) (length ss) ≡ ss =
+    ap (λ (xs : List ℕ). spans_from xs text (i + 1) (length ss)) (sym shift)
+    ∙ read_spans ss (at + n) (i + 1) (pre ++ four) post text rest (length-append pre four ∙ omega arith) next
+    in
+    ap (λ (x : Span). x ∷ spans_from (pre ++ (p.kind ∷ p.side ∷ at ∷ n ∷ more)) text (i + 1) (length ss)) first
+    ∙ ap (λ (xs : List Span). p ∷ xs) others
+
+pub spans_back : (ss : List Span) (h t : List ℕ) → spans_from (answered (flat_spans 0 ss) h) (answered (history_text ss) t) 0 (length ss) ≡ ss
+spans_back ss h t = read_spans ss 0 0 [] (drop (length (flat_spans 0 ss)) h) (answered (history_text ss) t) (drop (length (history_text ss)) t) refl refl
+
+-- an accepted call of `apply`: its text at the start of the room
+pub record TextWritten (lent : Lent) (os : List Operation) (k : ℕ) (out' : List ℕ) : Type 0 where
+  pub cursors : List Cursor
+  pub list : AcceptedList otherwise lent.original lent.inserted lent.spans lent.keys os cursors
+  pub long : k ≡ length (text_on lent os)
+  pub text : take k out' ≡ text_on lent os
+
+applied_of : (v w : Verdict) (n m k c : ℕ) → A.Counts k c ≡ applied (and_then v w) n m → (v ≡ Accepted) × ((and_then v w ≡ Accepted) × (k ≡ n))
+unfolding and_then
+applied_of Accepted Accepted n m k c h = (refl, (refl, cc))
+applied_of Accepted (Refused r) n m k c h = let z : ◌≡◌ {A = ℕ} 0 1 = cc in absurd (omega arith)
+applied_of (Refused r) w n m k c h = let z : ◌≡◌ {A = ℕ} 0 1 = cc in absurd (omega arith)
+
+pub text_written : (lent : Lent) (os : List Operation) {cs : List Cursor} {out moved out' moved' : List ℕ} {k c : ℕ}
+    → Applies lent os cs out moved out' moved' (A.Counts k c) → TextWritten lent os k out'
+unfolding apply_verdict verdict_on
+text_written lent os {cs} {out} {moved} {out'} {moved'} {k} {c} h =
+    let a = applied_of (verdict_on lent os cs) (roomed (fits (flat_cursors (sorted cs)) moved && fits (text_on lent os) out))
+    (length (text_on lent os)) (length (sorted cs)) k c h.answer in
+    record {
+      cursors = cs;
+      list = accepted_list otherwise lent.original lent.inserted lent.spans lent.keys os cs a.0;
+      long = a.1.1;
+      text = front (text_on lent os) out out' k a.1.1 (rw a.1.0 at h.text);
+    }
+
+-- an accepted call of `apply_with_history`: its spans, read out of both rooms
+told_of : (v w : Verdict) (n m k c : ℕ) → H.Counts k c ≡ told (and_then v w) n m → (and_then v w ≡ Accepted) × (k ≡ n)
+unfolding and_then
+told_of Accepted Accepted n m k c h = (refl, cc)
+told_of Accepted (Refused r) n m k c h = let z : ◌≡◌ {A = ℕ} 0 1 = cc in absurd (omega arith)
+told_of (Refused r) w n m k c h = let z : ◌≡◌ {A = ℕ} 0 1 = cc in absurd (omega arith)
+
+pub spans_written : (lent : Lent) (os : List Operation) {history out history' out' : List ℕ} {k c : ℕ} → Tells lent os history out history' out' (H.Counts k c)
+    → spans_from history' out' 0 k ≡ history_on lent os
+unfolding history_verdict
+spans_written lent os {history} {out} {history'} {out'} {k} {c} h =
+    let a = told_of (verdict_on lent os []) (roomed (fits (flat_spans 0 (history_on lent os)) history && fits (history_text (history_on lent os)) out))
+    (length (history_on lent os)) (length (history_text (history_on lent os))) k c h.answer in
+    rw (rw a.0 at h.spans, rw a.0 at h.text, a.1) (spans_back (history_on lent os) history out)
+
+module _ (lent : Lent) (os : List Operation) {k : ℕ} {out' : List ℕ} (w : TextWritten lent os k out') where
+  -- "the unchanged and added spans spell the text; the unchanged and removed ones the original", in the rooms of the two calls
+  pub spans_spell : {history out history' told' : List ℕ} {n m : ℕ} → Tells lent os history out history' told' (H.Counts n m)
+      → (spelled_by of_text (spans_from history' told' 0 n) ≡ take k out') × (spelled_by of_original (spans_from history' told' 0 n) ≡ lent.original)
+  unfolding text_on history_on
   spans_spell h =
-      let a = text_written lent os w in
-      let l = accepted_list otherwise lent.original lent.inserted lent.spans lent.keys os a.cursors a.accepted in
-      let g = agrees lent otherwise os a.cursors l in
-      let s = (spans_written lent os h).spans in
-      (ap (spelled_by of_text) s ∙ (g.unchanged_added ∙ sym a.text), ap (spelled_by of_original) s ∙ g.unchanged_removed)
+      let g = agrees lent otherwise os w.cursors w.list in
+      let s = spans_written lent os h in
+      (ap (spelled_by of_text) s ∙ (g.unchanged_added ∙ sym w.text), ap (spelled_by of_original) s ∙ g.unchanged_removed)
 
-  -- "replaying to_diff's output spells that same text": by any rule that accepts what the covering one accepts
-  replay_spells : (check : Diff → Verdict) → ((x : Diff) → covering x ≡ Accepted → check x ≡ Accepted)
-      → {d d' : List ℤ} {e e' room room' : List ℕ} {n m : ℕ} {r : Counted} → Diffs lent os d e d' e' (Counts n m)
-      → Replayed check (diff lent.original (take (n * 3) d') (take m e')) room r room' → k ≤ length room
-      → (r ≡ Count k) × (room' ≡ answered (take k out') room)
-  unfolding text_on
-  replay_spells check c {room = room} h f l =
-      let a = text_written lent os w in
-      let g = replays_back lent os (written_of lent os h) check c f (rw a.long at l) in
-      (g.0 ∙ ap Count (sym a.long), g.1 ∙ ap (λ (s : List ℕ). answered s room) (sym a.text))
-
-  -- `from_covering_diff` over what `to_diff` wrote is accepted, and leaves the text in its room
+  -- replaying what `to_diff` wrote, by `from_covering_diff`, is accepted and leaves in its room what `apply` wrote
   pub diff_spells : {d d' : List ℤ} {e e' room room' : List ℕ} {n m : ℕ} {r : Counted} → Diffs lent os d e d' e' (Counts n m)
       → Replayed covering (diff lent.original (take (n * 3) d') (take m e')) room r room' → k ≤ length room
       → (r ≡ Count k) × (room' ≡ answered (take k out') room)
-  diff_spells = replay_spells covering (λ x c. c)
-
-  -- `from_diff` as well
-  pub plain_spells : {d d' : List ℤ} {e e' room room' : List ℕ} {n m : ℕ} {r : Counted} → Diffs lent os d e d' e' (Counts n m)
-      → Replayed plain (diff lent.original (take (n * 3) d') (take m e')) room r room' → k ≤ length room
-      → (r ≡ Count k) × (room' ≡ answered (take k out') room)
-  plain_spells = replay_spells plain (λ x c. (covering_plain x c).0)
+  unfolding text_on
+  diff_spells {room = room} h f l =
+      let g = replays_back lent os (written_of lent os h) f (rw w.long at l) in
+      (g.0 ∙ ap Count (sym w.long), g.1 ∙ ap (λ (s : List ℕ). answered s room) (sym w.text))

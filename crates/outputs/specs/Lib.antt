@@ -1,3 +1,1 @@
 pub mod Spans
-pub mod InOrder
-pub mod Handed

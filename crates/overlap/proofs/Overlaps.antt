@@ -3,16 +3,15 @@
 use Prim.Native.Nat.{ℕ, zero, suc, ◌+◌, ◌-◌, ◌≤◌, ◌<◌}
 use mathlib.Core.Path.{◌≡◌, refl, sym, subst, ap, ap₂, ◌∙◌}
 use mathlib.Core.List.{List, [], ◌∷◌}
-use mathlib.Core.Bool.{Bool, true, false, ◌&&◌, not}
+use mathlib.Core.Bool.{Bool, true, false}
 use mathlib.Core.Logic.{◌⊎◌, inl, inr, ⊎_elim}
 use native.Mathlib.Nat.{eq-or-lt_of_le}
 use native.Mathlib.Omega.{arith}
 use lib.ListN.{length, take, drop, length-take, length-drop}
-use lib.Dec.{eqb, ltb}
-use borrow.Author.Tests.{eqb-true, eq-eqb, ne_eqb, ltb-true, lt-ltb, le-ltb}
+use lib.Dec.{eqb}
+use borrow.Author.Tests.{eqb-true, eq-eqb}
 use Rattle.room.proofs.Bools.{and_left, and_right}
-use Rattle.room.proofs.Choices.{pick_elim}
-use Rattle.overlap.specs.Overlap.{range, same, occurs, first, longest, overlap_of, width_of, counted, overlap_at, touched, Answered}
+use Rattle.overlap.specs.Overlap.{range, same, occurs, first, longest, overlap_of, touched, Answered}
 use Rattle.overlap.specs.declared.Range.{Range}
 use Rattle.overlap.specs.declared.Found.{Found}
 
@@ -144,58 +143,6 @@ module _ (old new : List ℕ) where
 
   pub in_none : length old ≡ 0 → overlap_of old new ≡ range 0 0
   in_none z = ap₂ range (omega (arith, overlaps.high, overlaps.low)) (omega (arith, overlaps.high))
-
--- a range of fewer keys than the least number counts as none, but not one of all n keys
-module _ (least n : ℕ) (r : Range) where
-  pub counted_none : width_of r < least → (width_of r ≡ n → ⊥) → counted least n r ≡ range 0 0
-  unfolding counted
-  counted_none h k = rw (lt-ltb (width_of r) least h, ne_eqb (width_of r) n k)
-
-  pub counted_all : width_of r < least → width_of r ≡ n → counted least n r ≡ r
-  unfolding counted
-  counted_all h k = rw (lt-ltb (width_of r) least h, eq-eqb (width_of r) n k)
-
-  pub counted_enough : least ≤ width_of r → counted least n r ≡ r
-  unfolding counted
-  counted_enough h = rw (le-ltb (width_of r) least h)
-
--- the overlap, counted
-pub counted_is : (least : ℕ) (old new : List ℕ) {n : ℕ} {r : Range} → n ≡ length new → r ≡ overlap_of old new → counted least n r ≡ overlap_at least old new
-unfolding overlap_at
-counted_is least old new en er = ap₂ (counted least) en er
-
--- r is a part of old, and no longer than new
-pub record Part (old new : List ℕ) (r : Range) : Type 0 where
-  pub low : r.start ≤ r.end
-  pub high : r.end ≤ length old
-  pub fits : width_of r ≤ length new
-
-module _ (old new : List ℕ) where
-  -- the overlap that a merge counts is a part of old, whatever the least number
-  pub part_at : (least : ℕ) → Part old new (overlap_at least old new)
-  unfolding overlap_at counted
-  part_at least =
-      let o = overlaps old new in
-      pick_elim (Part old new) (ltb (width_of (overlap_of old new)) least && not (eqb (width_of (overlap_of old new)) (length new)))
-      (λ e. record { low = omega arith; high = omega arith; fits = omega arith })
-      (λ e. record { low = o.low; high = o.high; fits = o.fits })
-
-  -- an overlap of no key is 0..0
-  width_none : width_of (overlap_of old new) ≡ 0 → overlap_of old new ≡ range 0 0
-  width_none z =
-      let o = overlaps old new in
-      let s = o.early 0 (subst (λ (n : ℕ). occurs old new n 0 ≡ true) (sym z) refl) in
-      ap₂ range (omega arith) (omega (arith, o.low))
-
-  -- "0..0 if none": with 1 for the least number the overlap that a merge counts is the paper's
-  pub at_one : overlap_at 1 old new ≡ overlap_of old new
-  unfolding overlap_at counted
-  at_one =
-      pick_elim (λ (r : Range). r ≡ overlap_of old new) (ltb (width_of (overlap_of old new)) 1 && not (eqb (width_of (overlap_of old new)) (length new)))
-      (λ e.
-      sym (width_none
-      (omega (arith, ltb-true (width_of (overlap_of old new)) 1 (and_left (ltb (width_of (overlap_of old new)) 1) (not (eqb (width_of (overlap_of old new)) (length new))) e)))))
-      (λ e. refl)
 
 -- equal lists overlap whole
 pub whole : (keys : List ℕ) → overlap_of keys keys ≡ range 0 (length keys)

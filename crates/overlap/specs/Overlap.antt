@@ -1,6 +1,6 @@
 -- The overlap of inserts, by exhaustive search: each length from all of new down, and for each length each place of old from
 -- the first. Assumes nothing.
-use Rattle.std.specs.Prelude.{ℕ, zero, suc, ◌+◌, ◌-◌, ◌≡◌, List, [], ◌∷◌, Bool, true, false, ◌&&◌, not, length, take, drop, ltb, eqb}
+use Rattle.std.specs.Prelude.{ℕ, zero, suc, ◌+◌, ◌≡◌, List, [], ◌∷◌, Bool, true, false, ◌&&◌, length, take, drop, ltb, eqb}
 use Rattle.room.specs.Choice.{pick}
 use Rattle.refusal.specs.declared.Refusal.TheVariants.{Size, Room}
 use Rattle.overlap.specs.declared.Range.{Range}
@@ -35,19 +35,6 @@ longest old new (suc k) = first old new (suc k) (length old) 0 (longest old new 
 -- "Given old and new tokens: the longest beginning of new"
 unfoldable pub overlap_of : List ℕ → List ℕ → Range
 overlap_of old new = longest old new (length new)
-
--- "Overlap of inserts": how many tokens it has
-abbrev pub width_of : Range → ℕ
-width_of r = r.end - r.start
-
--- "0..0 if none": the overlap r with n new keys, which counts as none where it has fewer than the least number, unless it is all of new
-unfoldable pub counted : ℕ → ℕ → Range → Range
-counted least n r = pick (ltb (width_of r) least && not (eqb (width_of r) n)) (range 0 0) r
-
--- "Given old and new tokens: the longest beginning of new that occurs in old, at its first occurrence; 0..0 if none", in a merge: the paper names no least number, and its rule is this one at 1 (law
--- `at_one`), since no overlap has fewer than one token and is not 0..0. The number stands here so that whoever merges hands it down in one place
-unfoldable pub overlap_at : ℕ → List ℕ → List ℕ → Range
-overlap_at least old new = counted least (length new) (overlap_of old new)
 
 -- "Called alone: 8,192 tokens a side, work as long as new; 3 then 7."
 unfoldable pub answer_of : List ℕ → List ℕ → ℕ → Found

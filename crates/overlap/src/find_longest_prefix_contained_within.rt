@@ -1,6 +1,6 @@
 // The search of Knuth, Morris and Pratt, linear in old and new. The fallback table stands in lent room.
 ghost use Rattle.std.specs.Prelude.{◌≡◌, ◌≤◌, length};
-ghost use Rattle.overlap.specs.Overlap.{overlap_of, counted, Answered};
+ghost use Rattle.overlap.specs.Overlap.{overlap_of, Answered};
 ghost use Rattle.overlap.specs.Table.{Table, Fits, Filled};
 
 use crate::{Found, Range};
@@ -79,21 +79,6 @@ pub fn scan(old: &[u32], new: &[u32], table: &[u32]) -> Range
             matched = wide(table[matched - 1]);
         }
     }
-}
-
-// The overlap as a merge counts it: one of fewer keys than `least` is none, unless it is all `count`
-// keys of new.
-pub fn count_from(least: usize, count: usize, found: Range) -> Range
-    requires { found.start ≤ found.end }
-    ensures { result ≡ counted least count found }
-{
-    let width = found.end - found.start;
-    if width < least {
-        if width != count {
-            return Range { start: 0, end: 0 };
-        }
-    }
-    found
 }
 
 // The longest beginning of new that occurs in old, at its first occurrence; 0..0 if there is none.

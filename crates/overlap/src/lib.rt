@@ -1,7 +1,7 @@
 // The overlap of inserts: the longest beginning of one list of keys that occurs in another.
 pub mod find_longest_prefix_contained_within;
 
-pub use find_longest_prefix_contained_within::{count_from, fill, scan};
+pub use find_longest_prefix_contained_within::{fill, scan};
 
 // A part of old, its end past its last key.
 #[derive(Drop)]

@@ -1,2 +1,1 @@
 pub mod Only
-pub mod Flat

@@ -6,5 +6,4 @@ pub mod edit_files;
 pub mod encoding;
 pub mod insert_overlap;
 pub mod lists;
-pub mod structs;
 pub mod views;

@@ -1,11 +1,11 @@
 // The replay of a diff over an original: plain, as from_diff does it, and covering, which refuses a diff that leaves text unmentioned.
-ghost use Rattle.std.specs.Prelude.{◌≡◌, ◌+◌, ◌≤◌, length, take, drop};
+ghost use Rattle.std.specs.Prelude.{◌≡◌, ◌≤◌, length};
 ghost use Rattle.room.specs.Placed.{Put};
 ghost use Rattle.replay.specs.Answers.{diff, text_of, always, plain, covering, judged, length_of, Replayed};
 
 use diff::diff::{Bad, Item, Surveyed, Walked, bad_points, item_at, survey, walk};
 use refusal::{Counted, Refusal};
-use string_builder::{delete, insert, new, retain};
+use string_builder::{retained, stop_at};
 
 // What the checks of a plain replay find: how much is left unmentioned and how long the replayed text is, or why there is none.
 #[derive(Drop)]
@@ -45,46 +45,35 @@ fn judge(original: &[u32], items: &[i64], text: &[u32]) -> Judged
     }
 }
 
-// The part of the lent text that an item inserts.
-fn inserted<'t>(text: &'t [u32], start: usize, n: usize) -> &'t [u32]
-    requires { start + n ≤ length text.now }
-    ensures { result.now ≡ take n (drop start text.now) }
-{
-    let end = start + n;
-    &text[start..end]
-}
-
-// The replayed text, at the start of a room that it fits. One builder goes through the original: its position is the only one.
-fn build<'a, 'i, 't, 'o>(
-    original: &'a [u32],
-    items: &'i [i64],
-    text: &'t [u32],
-    out: &'o mut [u32],
-) -> usize
+// The replayed text, at the start of a room that it fits.
+fn build(original: &[u32], items: &[i64], text: &[u32], out: &mut [u32]) -> usize
     requires { length (text_of (diff original.now items.now text.now)) ≤ length out.old }
     ensures { Put (text_of (diff original.now items.now text.now)) out.old 0 out.new result }
 {
     let count = items.len() / 3;
-    let mut builder = new(original);
-    let mut at: usize = 0;
     let mut i: usize = 0;
+    let mut position: usize = 0;
+    let mut at: usize = 0;
     'items: while i < count {
+        let next = i + 1;
         match item_at(items, text.len(), i) {
             Item::Retain(n) => {
-                let kept = retain(builder, n as usize, out, at);
-                at += kept.position - builder.position;
-                builder = kept;
+                let end = retained(original, position, n as usize, out, at);
+                at += end - position;
+                position = end;
+                i = next;
             }
-            Item::Delete(n) => builder = delete(builder, n as usize),
-            Item::Insert { start, length } => at = insert(
-                builder,
-                inserted(text, start, length),
-                out,
-                at,
-            ),
-            Item::Neither => {}
+            Item::Delete(n) => {
+                position = stop_at(original.len(), position, n as usize);
+                i = next;
+            }
+            Item::Insert { start, length } => {
+                let end = start + length;
+                at = room::put_u32(&text[start..end], out, at);
+                i = next;
+            }
+            Item::Neither => i = next,
         }
-        i += 1;
     }
     at
 }

@@ -1,6 +1,6 @@
 -- "Sheets on the bench": what the program writes, as a table. Assumes nothing.
 use Rattle.std.specs.Prelude.{ℕ, ◌≡◌, List, [], ◌∷◌}
-use Rattle.program.specs.Writes.{holds, outcome_of, bytes_of}
+use Rattle.merge_files.specs.Program.{merged, result_of}
 use Rattle.sheets.specs.Ascii.{ascii, lines}
 
 -- "The program takes an original and two edit files": their bytes, and the lines that it writes
@@ -38,4 +38,4 @@ sheets = abcdef ∷ nothing ∷ []
 -- "★ proved, one statement over the table": of each row, the program writes exactly its lines
 abbrev pub Hold : List Sheet → Type 0
 Hold [] = Unit
-Hold (s ∷ ss) = (bytes_of (outcome_of (holds s.original) (holds s.left) (holds s.right)) ≡ s.written) × Hold ss
+Hold (s ∷ ss) = (result_of s.original s.left s.right ≡ merged s.written) × Hold ss

@@ -1,6 +1,6 @@
 -- The ways through the four calls, and that no call has two answers.
 -- Each way by the tests that led there; what the lower crates found is what the definitions ask for. Assumes nothing.
-use mathlib.Core.Path.{◌≡◌, sym, ap, ◌∙◌}
+use mathlib.Core.Path.{◌≡◌, sym, ◌∙◌}
 use mathlib.Core.List.{List}
 use Prim.Native.Nat.{ℕ, ◌≤◌, ◌<◌}
 use native.Mathlib.Omega.{arith}
@@ -9,12 +9,10 @@ use borrow.Author.Tests.{lt-ltb, le-ltb}
 use Rattle.refusal.specs.declared.Counted.{Counted}
 use Rattle.refusal.specs.declared.Counted.TheVariants.{Count, Refused}
 use Rattle.refusal.specs.declared.Refusal.TheVariants.{CodePoint, Room, Utf8}
-use Rattle.room.specs.Placed.{answered, Put}
-use Rattle.room.proofs.Answers.{at_start}
+use Rattle.room.specs.Placed.{answered}
 use Rattle.utf8_read.specs.Reading.{good_end, points}
-use Rattle.utf8_read.specs.Window.{Ascii, starts}
+use Rattle.utf8_read.specs.Window.{starts}
 use Rattle.utf8_read.proofs.Steps.{counts, good_most}
-use Rattle.utf8_points.proofs.Filling.{all_plain}
 use Rattle.numbers.specs.Points.{scalars}
 use Rattle.utf8_write.specs.Writing.{encode_all}
 use Rattle.numbers.proofs.Scalar.{scalars_most}
@@ -46,19 +44,6 @@ module _ (s : List ℕ) (e : ℕ) (q : e ≡ good_end s) (h : length s ≤ e) wh
       let g = le-ltb (good_end s) (length s) (omega arith) in
       let r = le-ltb (length d) (length (points s)) (omega (arith, counted n c)) in
       record { answer = rw (g, r, counted n c); room = rw (g, r) w }
-
--- bytes that are all ASCII
-module _ (s : List ℕ) (f : Ascii s 0 (length s)) where
-  as_many : length s ≡ starts s
-  as_many = ap length (sym (all_plain s f).1) ∙ counts s (sym (all_plain s f).0)
-
-  pub plain_short : (d : List ℕ) → length d < length s → Answered (read_of s (length d)) (Refused Room) (points s) d d
-  plain_short d l = read_short s (length s) (all_plain s f).0 (omega arith) (length s) d as_many l
-
-  pub plain_good : (n : ℕ) (d d' : List ℕ) → length s ≤ length d → Put s d 0 d' n → Answered (read_of s (length d)) (Count n) (points s) d d'
-  plain_good n d d' l w =
-      read-good s (length s) (all_plain s f).0 (omega arith) n d d' (omega (arith, w.next, as_many)) (omega (arith, w.next))
-      (w.stands ∙ at_start s d ∙ ap (λ (t : List ℕ). answered t d) (sym (all_plain s f).1))
 
 module _ (s : List ℕ) (e : ℕ) (q : e ≡ good_end s) (h : e < length s) where
   pub length_bad : Refused (Utf8 e) ≡ read_length_of s

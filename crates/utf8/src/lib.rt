@@ -18,8 +18,8 @@ pub fn read_length(bytes: &[u8]) -> Counted
     Counted::Count(utf8_points::starts_of(bytes))
 }
 
-// The code points of any bytes, at the start of a room.
-fn read_any(bytes: &[u8], out: &mut [u32]) -> Counted
+// The code points of bytes, at the start of a room.
+pub fn read(bytes: &[u8], out: &mut [u32]) -> Counted
     ensures { Answered (read_of bytes.now (length out.old)) result (points bytes.now) out.old out.new }
 {
     let good = utf8_read::good_end_of(bytes);
@@ -32,20 +32,6 @@ fn read_any(bytes: &[u8], out: &mut [u32]) -> Counted
     }
     utf8_points::fill(bytes, out);
     Counted::Count(count)
-}
-
-// The code points of bytes, at the start of a room. A short line of ASCII is its own code points; it is asked
-// for here, before the bytes are handed on, since to hand them on is the most that a short line costs.
-pub fn read(bytes: &[u8], out: &mut [u32]) -> Counted
-    ensures { Answered (read_of bytes.now (length out.old)) result (points bytes.now) out.old out.new }
-{
-    if utf8_read::calm_line(bytes) {
-        if out.len() < bytes.len() {
-            return Counted::Refused(Refusal::Room);
-        }
-        return Counted::Count(utf8_points::widen(bytes, out, 0));
-    }
-    read_any(&bytes[..], out)
 }
 
 // How many bytes code points take: the room to lend to `write`.

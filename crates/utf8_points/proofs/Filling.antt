@@ -1,12 +1,12 @@
 -- A room filled with code points: how far it is filled, by a run of ASCII and by one code point, and the answer at the end.
 -- What is placed is the next part of the points that are left. Assumes nothing.
 use mathlib.Core.Path.{◌≡◌, refl, sym, ap, ◌∙◌}
-use mathlib.Core.List.{List, [], ◌∷◌, ◌++◌, append-nil}
+use mathlib.Core.List.{List, [], ◌∷◌, ◌++◌}
 use Prim.Native.Nat.{ℕ, zero, suc, ◌+◌, ◌-◌, ◌≤◌, ◌<◌}
 use native.Mathlib.Omega.{arith}
 use native.Mathlib.Nat.{add-zero}
 use lib.ListN.{length, get_or, set, take, drop, length-append, length-drop}
-use lib.Seq.{take-add, drop-drop, take-append_seam, drop-append_seam, length-take-le, sets-eq, take_all, take-length}
+use lib.Seq.{take-add, drop-drop, take-append_seam, drop-append_seam, length-take-le, sets-eq, take_all}
 use Rattle.room.specs.Placed.{placed, answered, Put}
 use Rattle.room.proofs.Answers.{one_more, same_room}
 use Rattle.utf8_read.specs.Grammar.{utf8_char}
@@ -16,7 +16,7 @@ use Rattle.utf8_read.specs.Window.{Ascii}
 use Rattle.utf8_points.specs.Found.{Pointed}
 use Rattle.utf8_points.specs.declared.Point.{Point}
 use Rattle.utf8_read.proofs.Sequences.{At, fits, stands, front_1, value_1}
-use Rattle.utf8_read.proofs.Steps.{next_good, next_points, end_good, end_points, on}
+use Rattle.utf8_read.proofs.Steps.{next_good, next_points, end_points, on}
 
 -- ASCII bytes are their own code points
 ascii_points : (m : ℕ) (s : List ℕ) (at : ℕ) → at + m ≤ length s → Ascii s at (at + m) → points_from 0 (drop at s) ≡ take m (drop at s) ++ points_from 0 (drop (at + m) s)
@@ -37,14 +37,6 @@ ascii_good (suc m) s at h f =
     let r = ascii_good m s (at + 1) (omega arith) (λ k l g. f k (omega arith) (omega arith)) in
     let e : at + 1 + m ≡ at + suc m = omega arith in
     next_good a ∙ r ∙ ap (λ (n : ℕ). n + good_from 0 (drop n s)) e
-
--- bytes that are all ASCII are good, and are their own code points
-pub all_plain : (s : List ℕ) → Ascii s 0 (length s) → (length s ≡ good_end s) × (points s ≡ s)
-all_plain s f =
-    let g : Ascii s 0 (0 + length s) = λ k l h. f k l (omega arith) in (
-      omega (arith, ascii_good (length s) s 0 (omega arith) g, end_good s (0 + length s) (omega arith)),
-      ascii_points (length s) s 0 (omega arith) g ∙ rw (end_points s (0 + length s) (omega arith), take-length s, append-nil s),
-    )
 
 -- the next part a of an answer, placed where what is there of it ends
 module _ (all d o : List ℕ) (n : ℕ) (a r : List ℕ) (h : n ≤ length all) (left : drop n all ≡ a ++ r) (there : o ≡ answered (take n all) d) where

@@ -79,23 +79,21 @@ fn four_of(a: u8, b: u8, c: u8, d: u8) -> u32
     push(push(push(wide(a & 0x07), b), c), d)
 }
 
-// The code point of the good sequence at a place: the one bits at the top of its first byte choose how many
-// bytes it takes. The count is asked by its order, of which the compiler makes comparisons of the byte.
+// The code point of the good sequence at a place.
 fn point_at(bytes: &[u8], at: usize) -> Point
     requires { (at < length bytes.now) × (0 < utf8_char (drop at bytes.now)) }
     ensures { Pointed bytes.now at result }
 {
     let a = bytes[at];
-    let n = utf8_read::ones_of(a);
-    if n < 2 {
+    if a < 0x80 {
         let code = wide(a);
         return Point { code, len: 1 };
     }
-    if n < 3 {
+    if a < 0xe0 {
         let code = two_of(a, bytes[at + 1]);
         return Point { code, len: 2 };
     }
-    if n < 4 {
+    if a < 0xf0 {
         let code = three_of(a, bytes[at + 1], bytes[at + 2]);
         return Point { code, len: 3 };
     }
@@ -123,7 +121,7 @@ fn calm_end(bytes: &[u8], at: usize) -> usize
 }
 
 // Bytes as code points, put at a place of a room.
-pub fn widen(src: &[u8], out: &mut [u32], at: usize) -> usize
+fn widen(src: &[u8], out: &mut [u32], at: usize) -> usize
     requires { at + length src.now ≤ length out.old }
     ensures { Put src.now out.old at out.new result }
 {

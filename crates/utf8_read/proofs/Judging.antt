@@ -85,12 +85,6 @@ three-calm s j a b c fa fb fc t k l h =
     let b₁ = ascii_join s j (j + 16) (j + 16) (j + 16 + 16) (omega arith) (fa (and_left a b t₁)) (fb (and_right a b t₁)) in
     ascii_join s j (j + 16 + 16) (j + 19) (j + 19 + 16) (omega arith) b₁ (fc (and_right (a && b) c t)) k l (omega arith)
 
-pub two-calm :
-    (s : List ℕ) (a b : Bool) → length s ≤ 32 → (a ≡ true → Ascii s 0 (0 + 16)) → (b ≡ true → Ascii s (length s - 16) (length s - 16 + 16)) → (a && b) ≡ true
-    → Ascii s 0 (length s)
-two-calm s a b m fa fb t k l h =
-    ascii_join s 0 (0 + 16) (length s - 16) (length s - 16 + 16) (omega arith) (fa (and_left a b t)) (fb (and_right a b t)) k l (omega arith)
-
 pub four-calm :
     (s : List ℕ) (j : ℕ) (a b c d : Bool) → (a ≡ true → Ascii s j (j + 16)) → (b ≡ true → Ascii s (j + 16) (j + 16 + 16))
     → (c ≡ true → Ascii s (j + 32) (j + 32 + 16)) → (d ≡ true → Ascii s (j + 48) (j + 48 + 16)) → (a && b && c && d) ≡ true → Ascii s j (j + 64)

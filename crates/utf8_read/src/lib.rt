@@ -7,7 +7,7 @@ ghost use Rattle.utf8_read.specs.Reading.{good_end};
 ghost use Rattle.utf8_read.specs.Window.{ones, misfit, Local, Ascii, Clean, Reached, Walked, Stretch};
 
 // The one bits at the top of a byte: the zero bits at the top of its complement.
-pub fn ones_of(b: u8) -> u32
+fn ones_of(b: u8) -> u32
     ensures { result ≡ ones b }
 {
     u8::leading_zeros(!b)
@@ -142,20 +142,6 @@ fn calm_window(bytes: &[u8], j: usize) -> bool
         return false;
     }
     calm(bytes, j) & calm(bytes, j + 16) & calm(bytes, j + 19)
-}
-
-// Whether a short line is all ASCII: two blocks, the second one over the end of the first. Fewer than 16
-// bytes hold no block, and more than 32 are not covered by two.
-pub fn calm_line(bytes: &[u8]) -> bool
-    ensures { result ≡ true → Ascii bytes.now 0 (length bytes.now) }
-{
-    if bytes.len() < 16 {
-        return false;
-    }
-    if 32 < bytes.len() {
-        return false;
-    }
-    calm(bytes, 0) & calm(bytes, bytes.len() - 16)
 }
 
 // How far 64 ASCII bytes at a time go from a place on.

@@ -91,6 +91,17 @@ impl Tally {
         answer: Answer,
         expected: Result<[usize; N], Refusal>,
     ) -> Result<(), String> {
+        self.answer_as(call, answer, expected, None)
+    }
+
+    /// The same, counted under another number.
+    pub fn answer_as<const N: usize>(
+        &mut self,
+        call: usize,
+        answer: Answer,
+        expected: Result<[usize; N], Refusal>,
+        counted: Option<u64>,
+    ) -> Result<(), String> {
         let (refusal, values) = match expected {
             Ok(counts) => (0, counts.map(|count| count as u64).to_vec()),
             Err(refusal) => (refusal.number(), refusal.values()),
@@ -104,7 +115,7 @@ impl Tally {
         };
         let (name, cases) = &mut self.rows[call];
         self.last = name;
-        cases[refusal as usize] += 1;
+        cases[counted.unwrap_or(refusal) as usize] += 1;
         if answer != expected {
             return Err(format!("answers {answer:?}, not {expected:?}"));
         }

@@ -183,17 +183,4 @@ unsafe extern "C" {
         right: *const u8, right_length: usize,
         out: *mut u8, out_length: usize,
     ) -> Answer;
-    pub fn fleecelatch_merge_files_text(
-        original: *const u8, original_length: usize,
-        left: *const u8, left_length: usize,
-        right: *const u8, right_length: usize,
-        out: *mut u8, out_length: usize,
-    ) -> Answer;
-    pub fn fleecelatch_merge_files_history(
-        original: *const u8, original_length: usize,
-        left: *const u8, left_length: usize,
-        right: *const u8, right_length: usize,
-        history: *mut usize, history_length: usize,
-        text: *mut u32, text_length: usize,
-    ) -> Answer;
 }

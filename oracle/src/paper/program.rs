@@ -1,5 +1,4 @@
-//! Document 01, "The program": from three files to the bytes it writes, and to the merge's text and
-//! history.
+//! Document 01, "The program": from three files to the bytes it writes.
 
 use super::edit_file::{self, EditFile};
 use super::lists::{ElongateRooms, List, MergeRooms, RawList};
@@ -7,7 +6,7 @@ use super::refusal::{AMPLE, Refusal, size, within};
 use super::{calls, utf8};
 use crate::flat::{
     DELETE, Elongated, INSERT, ITEM_STRIDE, LEFT_JOINABLE, Lent, NUMBER, OPERATION_STRIDE, RETAIN,
-    RIGHT_JOINABLE, Spans,
+    RIGHT_JOINABLE,
 };
 
 /// What the program writes; `None` is a file that can't be read.
@@ -16,53 +15,11 @@ pub fn program(original: Option<&[u8]>, left: Option<&[u8]>, right: Option<&[u8]
         return b"unreadable\n".to_vec();
     };
     merge_files(original, left, right)
-        .and_then(|merged| merged.file())
         .unwrap_or_else(|refusal| format!("refused={}\n", refusal.number()).into_bytes())
 }
 
-/// The merge of three files: the merged list, and what it is over.
-pub struct MergedFiles {
-    original: Vec<u32>,
-    text: Vec<u32>,
-    spans: Vec<u32>,
-    keys: Vec<u32>,
-    operations: Vec<usize>,
-}
-
-impl MergedFiles {
-    fn lent(&self) -> Lent<'_> {
-        Lent {
-            original: &self.original,
-            inserted: &self.text,
-            spans: &self.spans,
-            keys: &self.keys,
-        }
-    }
-
-    /// "writes the edit file"
-    pub fn file(&self) -> Result<Vec<u8>, Refusal> {
-        let diff = calls::to_diff(&self.lent(), &self.operations, AMPLE, AMPLE)?;
-        edit_file::write(&diff.items, &diff.text, AMPLE)
-    }
-
-    /// "A list's text", in UTF-8.
-    pub fn text(&self) -> Result<Vec<u8>, Refusal> {
-        let list = List {
-            operations: &self.operations,
-            cursors: &[],
-        };
-        let applied = calls::apply(&self.lent(), list, AMPLE, AMPLE)?;
-        utf8::write(&applied.text, AMPLE)
-    }
-
-    /// "History has one span for each operation, in order."
-    pub fn history(&self) -> Result<Spans, Refusal> {
-        calls::apply_with_history(&self.lent(), &self.operations, AMPLE, AMPLE)
-    }
-}
-
 /// "It checks in this order, original, left, right each time"
-pub fn merge_files(original: &[u8], left: &[u8], right: &[u8]) -> Result<MergedFiles, Refusal> {
+fn merge_files(original: &[u8], left: &[u8], right: &[u8]) -> Result<Vec<u8>, Refusal> {
     // "an oversize file is 3"
     for file in [original, left, right] {
         within(file.len() as u128, size::PROGRAM_FILE)?;
@@ -95,27 +52,28 @@ pub fn merge_files(original: &[u8], left: &[u8], right: &[u8]) -> Result<MergedF
     for operation in right.operations.chunks_exact_mut(OPERATION_STRIDE) {
         operation[4] += left.keys.len();
     }
-    let mut merged = MergedFiles {
-        original,
-        text,
-        spans: [left.spans, right.spans].concat(),
-        keys: [left.keys, right.keys].concat(),
-        operations: Vec::new(),
-    };
+    let spans = [left.spans, right.spans].concat();
+    let keys = [left.keys, right.keys].concat();
 
     // "then the merge's refusals"
+    let lent = Lent {
+        original: &original,
+        inserted: &text,
+        spans: &spans,
+        keys: &keys,
+    };
     let without_cursors = |operations| List {
         operations,
         cursors: &[],
     };
-    let list = calls::merge(
-        &merged.lent(),
+    let merged = calls::merge(
+        &lent,
         without_cursors(&left.operations),
         without_cursors(&right.operations),
         MergeRooms::AMPLE,
     )?;
-    merged.operations = list.operations;
-    Ok(merged)
+    let diff = calls::to_diff(&lent, &merged.operations, AMPLE, AMPLE)?;
+    edit_file::write(&diff.items, &diff.text, AMPLE)
 }
 
 /// "makes each added code point a joinable token keyed by itself, each keep or drop one joinable

@@ -1,109 +1,117 @@
 -- Shown: `elongate_at` elongates a raw list that is not refused, its tokens further on.
--- How: the list is ready to be written; the rest are laws of proofs/Raising.antt. Assumes nothing.
+-- How: the answer of `elongate` is known; the rest are laws of proofs/Raising.antt. Assumes nothing.
 use native.Mathlib.Omega.{arith}
 use mathlib.Core.Path.{refl}
-use Rattle.edit_list.proofs.Raising.{can_write, can_shift, raises}
+use Rattle.edit_list.proofs.Raising.{never_refused, can_shift, raises}
 use borrow.Author.Rules.{rules}
 use Rattle.edit_list.proofs.elongate_at.Statement.{statement}
 use Rattle.edit_list.proofs.elongate_at.Tie as tie
-use Rattle.edit_list.proofs.shift.Reads as shift-reads
-use Rattle.elongate.proofs.write.Reads as write-reads
 
--- src/lib.rt:207:15
 mul_low : tie.Need-overflow-mul-low
 mul_low c = search rules
 
--- src/lib.rt:212:9
-slice-aggregate-write : tie.Need-slice-aggregate-write
-slice-aggregate-write c = search rules
+slice-aggregate-elongate : tie.Need-slice-aggregate-elongate
+slice-aggregate-elongate c = search rules
 
--- src/lib.rt:215:9
-mul-write : tie.Need-overflow-mul-write
-mul-write c = search rules
+mul-elongate : tie.Need-overflow-mul-elongate
+mul-elongate c = search rules
 
--- src/lib.rt:215:9
-sub-write : tie.Need-overflow-sub-write
-sub-write c = search rules
+sub-elongate : tie.Need-overflow-sub-elongate
+sub-elongate c = search rules
 
--- src/lib.rt:215:9
-part-write-start : tie.Need-slice-bounds-write-start
-part-write-start c = search rules
+part-elongate-start : tie.Need-slice-bounds-elongate-start
+part-elongate-start c = search rules
 
--- src/lib.rt:215:9
-part-write-end : tie.Need-slice-bounds-write-end
-part-write-end c = search rules
+part-elongate-end : tie.Need-slice-bounds-elongate-end
+part-elongate-end c = search rules
 
--- src/lib.rt:216:9
-mul-write-2 : tie.Need-overflow-mul-write-2
-mul-write-2 c = search rules
+mul-elongate-2 : tie.Need-overflow-mul-elongate-2
+mul-elongate-2 c = search rules
 
--- src/lib.rt:216:9
-sub-write-2 : tie.Need-overflow-sub-write-2
-sub-write-2 c = search rules
+sub-elongate-2 : tie.Need-overflow-sub-elongate-2
+sub-elongate-2 c = search rules
 
--- src/lib.rt:216:9
-part-write-start-2 : tie.Need-slice-bounds-write-start-2
-part-write-start-2 c = search rules
+part-elongate-start-2 : tie.Need-slice-bounds-elongate-start-2
+part-elongate-start-2 c = search rules
 
--- src/lib.rt:216:9
-part-write-end-2 : tie.Need-slice-bounds-write-end-2
-part-write-end-2 c = search rules
+part-elongate-end-2 : tie.Need-slice-bounds-elongate-end-2
+part-elongate-end-2 c = search rules
 
--- src/lib.rt:217:9
-slice-aggregate-write-2 : tie.Need-slice-aggregate-write-2
-slice-aggregate-write-2 c = search rules
+slice-aggregate-elongate-2 : tie.Need-slice-aggregate-elongate-2
+slice-aggregate-elongate-2 c = search rules
 
--- src/lib.rt:208:9
-write-requires : tie.Need-write-requires
-write-requires c κs =
-    let s = c.before.before.before.before.before.before.before.before.before.before.before in
-    can_write s.requires _ refl
+elongate-requires : tie.Need-elongate-requires
+elongate-requires c κs = search rules
 
--- src/lib.rt:219:5
+enum-known-written : tie.Need-enum-known-written
+enum-known-written c = search rules
+
 shift-requires : tie.Need-shift-requires
 shift-requires c κs =
-    let w = c.before.before.before.before.before.before.before.before in
-    let s = w.before.before.before.before.before.before.before.before.before.before.before.before in
-    can_shift s.requires _ refl w.write.ensures (omega (arith, s.requires.in-keys, s.well-formed.1.1.1.1.1.1.0))
+    let c2 = c.before.before in
+    let c11 = c2.before.before.before.before.before.before.before.before.before in
+    let c24 = c11.before.before.before.before.before.before.before.before.before.before.before.before.before in
+    can_shift c24.requires _ refl c11.elongate.ensures _ c2.written.given.1 (omega (arith, c24.requires.in-keys, c24.well-formed.1.1.1.1.1.1.1.0))
 
--- src/lib.rt:193:1
+enum_told : tie.Need-enum-told
+enum_told c = search rules
+
 same_length : tie.Need-same-length
 same_length c = search rules
 
--- src/lib.rt:193:1
 same-length-2 : tie.Need-same-length-2
 same-length-2 c = search rules
 
--- src/lib.rt:193:1
 same-length-3 : tie.Need-same-length-3
 same-length-3 c = search rules
 
--- src/lib.rt:193:1
 returns : tie.Need-returns
 returns c =
-    let t = c.before.before in
-    let w = t.before.before.before.before.before.before.before.before.before in
-    let s = w.before.before.before.before.before.before.before.before.before.before.before.before in
-    raises s.requires _ refl w.write.ensures t.shift.ensures
+    let c2 = c.before.before in
+    let c5 = c2.before.before.before in
+    let c14 = c5.before.before.before.before.before.before.before.before.before in
+    let c27 = c14.before.before.before.before.before.before.before.before.before.before.before.before.before in
+    raises c27.requires _ refl c14.elongate.ensures _ c5.written.given.1 c2.shift.ensures
+
+same-length-4 : tie.Need-same-length-4
+same-length-4 c = search rules
+
+same-length-5 : tie.Need-same-length-5
+same-length-5 c = search rules
+
+same-length-6 : tie.Need-same-length-6
+same-length-6 c = search rules
+
+returns-2 : tie.Need-returns-2
+returns-2 c =
+    let c9 = c.before.before.before.before.before.before.before.before.before in
+    let c22 = c9.before.before.before.before.before.before.before.before.before.before.before.before.before in
+    absurd (never_refused c22.requires _ refl c9.elongate.ensures _ c.enum_told.given.1)
 
 pub elongate-at-spec : {M : Type 1} → statement M
 elongate-at-spec =
     tie.close
     (tie.spec
     mul_low
-    slice-aggregate-write
-    mul-write
-    sub-write
-    part-write-start
-    part-write-end
-    mul-write-2
-    sub-write-2
-    part-write-start-2
-    part-write-end-2
-    slice-aggregate-write-2
-    write-requires
+    slice-aggregate-elongate
+    mul-elongate
+    sub-elongate
+    part-elongate-start
+    part-elongate-end
+    mul-elongate-2
+    sub-elongate-2
+    part-elongate-start-2
+    part-elongate-end-2
+    slice-aggregate-elongate-2
+    elongate-requires
+    enum-known-written
     shift-requires
+    enum_told
     same_length
     same-length-2
     same-length-3
-    returns)
+    returns
+    same-length-4
+    same-length-5
+    same-length-6
+    returns-2)

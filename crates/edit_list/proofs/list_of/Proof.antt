@@ -47,7 +47,7 @@ slice-aggregate-elongate-at-3 c = search rules
 
 elongate-at-requires : tie.Need-elongate-at-requires
 elongate-at-requires c κs =
-    let c13 = c.before.before.before.before.before.before.before.before.before.before.before.before in
+    let c13 = c.before.before.before.before.before.before.before.before.before.before.before.before.before in
     let c23 = c13.before.before.before.before.before.before.before.before.before.before in
     elongable c23.requires refl refl refl c13.raws-of.ensures
 
@@ -66,7 +66,7 @@ same-length-4 c = search rules
 returns : tie.Need-returns
 returns c =
     let c6 = c.before.before.before.before.before.before in
-    let c20 = c6.before.before.before.before.before.before.before.before.before.before.before.before.before in
+    let c20 = c6.before.before.before.before.before.before.before.before.before.before.before.before.before.before in
     let c30 = c20.before.before.before.before.before.before.before.before.before.before in
     lists c30.requires refl refl refl c20.raws-of.ensures c6.elongate-at.ensures
 

@@ -2,7 +2,6 @@
 -- How: loop `items` keeps `Judging`, and each way through it is a law of proofs/Judging.antt.
 use Prim.Native.Nat.{◌-◌}
 use native.Mathlib.Omega.{arith}
-use Rattle.edit_format.specs.Reading.{first_item}
 use Rattle.edit_read.specs.Judged.{Judging}
 use Rattle.edit_read.proofs.Judging.{begins, goes_on, fails, whole}
 use borrow.Author.Rules.{rules}
@@ -43,7 +42,6 @@ add-t9 : tie.Need-overflow-add-t9 invariant-items decreases-items
 add-t9 c = search rules
 
 returns : tie.Need-returns invariant-items decreases-items
-unfolding first_item
 returns c = fails c.before.before.before.before.items.invariant c.before.before.before.items-test.true (rw c.enum_told.given.1 at c.before.before.item-line.ensures)
 
 judge-end-requires : tie.Need-judge-end-requires invariant-items decreases-items

@@ -13,16 +13,16 @@ merge-operations-consuming-insert-requires : tie.Need-merge-operations-consuming
 merge-operations-consuming-insert-requires c κs = meetable _ _ c.before.before.before.before.requires.0
 
 shift-of-requires : tie.Need-shift-of-requires
-shift-of-requires c κs = let f = c.before.before.before.before.before.before.before.before.requires.0 in let m = c.before.before.before.merge-operations-consuming-insert.ensures in (f.lies, subst (λ (x : Met). x.lost ≤ size c.before.before.before.before.before.before.before.before.args.a) (sym m.0) (lost_most c.before.before.before.before.before.before.before.before.args.least _ _ _ c.before.before.before.before.before.before.before.before.args.a c.before.before.before.before.before.before.before.before.args.last f.keyed), placeable c.before.before.before.before.before.before.before.before.args.least c.before.before.before.before.before.before.before.before.args.a c.before.before.before.before.before.before.before.before.args.last f m.1 _ m.0)
+shift-of-requires c κs = let f = c.before.before.before.before.before.before.before.before.requires.0 in let m = c.before.before.before.merge-operations-consuming-insert.ensures in (f.lies, subst (λ (x : Met). x.lost ≤ size c.before.before.before.before.before.before.before.before.args.a) (sym m.0) (lost_most _ _ _ c.before.before.before.before.before.before.before.before.args.a c.before.before.before.before.before.before.before.before.args.last f.keyed), placeable c.before.before.before.before.before.before.before.before.args.a c.before.before.before.before.before.before.before.before.args.last f m.1 _ m.0)
 
 used-up-requires : tie.Need-used-up-requires
-used-up-requires c κs = let m = c.before.before.before.before.merge-operations-consuming-insert.ensures in subst (λ (x : Met). Reaches c.before.before.before.before.before.before.before.before.before.args.last x c.before.before.before.before.before.before.before.before.before.args.fill) (sym m.0) (reaches c.before.before.before.before.before.before.before.before.before.args.least c.before.before.before.before.before.before.before.before.before.args.a c.before.before.before.before.before.before.before.before.before.args.last c.before.before.before.before.before.before.before.before.before.requires.0)
+used-up-requires c κs = let m = c.before.before.before.before.merge-operations-consuming-insert.ensures in subst (λ (x : Met). Reaches c.before.before.before.before.before.before.before.before.before.args.last x c.before.before.before.before.before.before.before.before.before.args.fill) (sym m.0) (reaches c.before.before.before.before.before.before.before.before.before.args.a c.before.before.before.before.before.before.before.before.before.args.last c.before.before.before.before.before.before.before.before.before.requires.0)
 
 same_length : tie.Need-same-length
 same_length c = search rules
 
 returns : tie.Need-returns
-returns c = let m = c.before.before.before.before.before.merge-operations-consuming-insert.ensures in meets c.before.before.before.before.before.before.before.before.before.before.args.least c.before.before.before.before.before.before.before.before.before.before.args.a c.before.before.before.before.before.before.before.before.before.before.args.last c.before.before.before.before.before.before.before.before.before.before.requires.0 m.1 _ _ _ _ _ _ _ c.before.before.before.before.before.before.before.before.before.before.requires.1 m.0 c.before.Shift-of.ensures c.used-up.ensures
+returns c = let m = c.before.before.before.before.before.merge-operations-consuming-insert.ensures in meets c.before.before.before.before.before.before.before.before.before.before.args.a c.before.before.before.before.before.before.before.before.before.before.args.last c.before.before.before.before.before.before.before.before.before.before.requires.0 m.1 _ _ _ _ _ _ _ c.before.before.before.before.before.before.before.before.before.before.requires.1 m.0 c.before.Shift-of.ensures c.used-up.ensures
 
 pub meet-spec : {M : Type 1} → statement M
 meet-spec =

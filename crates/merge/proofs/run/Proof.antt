@@ -13,11 +13,11 @@ use Rattle.merge.proofs.run.Statement.{statement}
 use Rattle.merge.proofs.run.Tie as tie
 
 abbrev invariant-turns : tie.invariant-turns
-invariant-turns original text spans keys least left-operations right-operations left-cursors right-cursors priority work₀ mid half out₀ moved₀ left₀ right₀ totals₀ work out moved left right totals =
-    Going (frame least original text spans keys left-operations right-operations left-cursors right-cursors priority mid half work₀ out₀ moved₀) work out moved left right totals
+invariant-turns original text spans keys left-operations right-operations left-cursors right-cursors priority work₀ mid half out₀ moved₀ left₀ right₀ totals₀ work out moved left right totals =
+    Going (frame original text spans keys left-operations right-operations left-cursors right-cursors priority mid half work₀ out₀ moved₀) work out moved left right totals
 
 abbrev decreases-turns : tie.decreases-turns
-decreases-turns original text spans keys least left-operations right-operations left-cursors right-cursors priority work₀ mid half out₀ moved₀ left₀ right₀ totals₀ room out moved left right totals =
+decreases-turns original text spans keys left-operations right-operations left-cursors right-cursors priority work₀ mid half out₀ moved₀ left₀ right₀ totals₀ room out moved left right totals =
     work (ahead_of left-operations left.ahead) + work (ahead_of right-operations right.ahead)
 
 ahead-of-requires : tie.Need-ahead-of-requires invariant-turns decreases-turns
@@ -146,7 +146,7 @@ turns-again c =
       number_is = c15.number_of_lem.ensures;
     })
     c11.turn.ensures c.before.side-of3.ensures c.side-of4.ensures
-    c11.turn.auto.1.1.1.1.1.1.1.1.1.1.1.1.1.1.0 c11.turn.auto.1.1.1.1.1.1.1.1.1.1.1.1.1.1.1.0
+    c11.turn.auto.1.1.1.1.1.1.1.1.1.1.1.1.1.0 c11.turn.auto.1.1.1.1.1.1.1.1.1.1.1.1.1.1.0
 
 pub run_spec : {M : Type 1} → statement M
 run_spec =

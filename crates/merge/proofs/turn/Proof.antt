@@ -24,15 +24,15 @@ use Rattle.merge.proofs.turn.Tie as tie
 
 -- what was ensured of the front that the split gave, said of what is taken
 of-taken :
-    {least : ℕ} {spans keys w w' : List ℕ} {half fill table : ℕ} {x y : Op} {last : Last} {awaited : Bool} {seen merged : ℕ} {r : Meeting} → x ≡ y
-    → Meets least spans keys w w' half fill table x last awaited seen merged r → Meets least spans keys w w' half fill table y last awaited seen merged r
+    {spans keys w w' : List ℕ} {half fill table : ℕ} {x y : Op} {last : Last} {awaited : Bool} {seen merged : ℕ} {r : Meeting} → x ≡ y
+    → Meets spans keys w w' half fill table x last awaited seen merged r → Meets spans keys w w' half fill table y last awaited seen merged r
 of-taken e m = rw e at m
 
 at-taken :
-    {least : ℕ} {spans keys ops cs w w₁ w₂ : List ℕ} {half : ℕ} {own other : Side} {totals : Totals} {number : ℕ} {out out' moved moved' : List ℕ} {x y : Op} {tail : Next}
+    {spans keys ops cs w w₁ w₂ : List ℕ} {half : ℕ} {own other : Side} {totals : Totals} {number : ℕ} {out out' moved moved' : List ℕ} {x y : Op} {tail : Next}
     {awaited : Bool} {r : Meeting} {p : Progress} {m : Op} {kept : Memory} {place span : ℕ} {coming : Ahead} → x ≡ y
-    → Parts least spans keys ops cs w w₁ w₂ half own other totals number out out' moved moved' x tail awaited r p m kept place span coming
-    → Parts least spans keys ops cs w w₁ w₂ half own other totals number out out' moved moved' y tail awaited r p m kept place span coming
+    → Parts spans keys ops cs w w₁ w₂ half own other totals number out out' moved moved' x tail awaited r p m kept place span coming
+    → Parts spans keys ops cs w w₁ w₂ half own other totals number out out' moved moved' y tail awaited r p m kept place span coming
 at-taken e q = rw e at q
 
 split-retain-before-requires : tie.Need-split-retain-before-requires
@@ -104,15 +104,15 @@ emit-requires c κs =
 advance-side-requires : tie.Need-advance-side-requires
 advance-side-requires c κs = c.before.before.before.before.before.before.before.before.before.before.before.before.before.before.before.before.before.before.before.before.before.before.before.before.before.before.before.before.before.before.before.before.before.before.before.before.requires.first
 
-add-seen : tie.Need-overflow-add-seen
-add-seen c =
+add-t37 : tie.Need-overflow-add-t37
+add-t37 c =
     let c20 = c.before.before.before.before.before.before.before.before.before.before.before.before.before.before.before.before.before.before.before.before in
     let c25 = c20.before.before.before.before.before in
     let c39 = c25.before.before.before.before.before.before.before.before.before.before.before.before.before.before in
     omega (arith, length_most c39.requires (of-taken c25.split-retain-before.ensures.0 c20.meet.ensures), c39.requires.seen)
 
-add-merged : tie.Need-overflow-add-merged
-add-merged c =
+add-t49 : tie.Need-overflow-add-t49
+add-t49 c =
     let c21 = c.before.before.before.before.before.before.before.before.before.before.before.before.before.before.before.before.before.before.before.before.before in
     let c26 = c21.before.before.before.before.before in
     let c40 = c26.before.before.before.before.before.before.before.before.before.before.before.before.before.before in
@@ -121,8 +121,8 @@ add-merged c =
 span-of-requires : tie.Need-span-of-requires
 span-of-requires c κs = search rules
 
-add-consumed : tie.Need-overflow-add-consumed
-add-consumed c =
+add-t51 : tie.Need-overflow-add-t51
+add-t51 c =
     let c15 = c.before.before.before.before.before.before.before.before.before.before.before.before.before.before.before in
     let c23 = c15.before.before.before.before.before.before.before.before in
     let c28 = c23.before.before.before.before.before in
@@ -182,10 +182,10 @@ turn_spec =
     sub-text
     emit-requires
     advance-side-requires
-    add-seen
-    add-merged
+    add-t37
+    add-t49
     span-of-requires
-    add-consumed
+    add-t51
     same_length
     same-length-2
     same-length-3

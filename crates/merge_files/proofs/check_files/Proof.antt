@@ -1,136 +1,104 @@
--- `check_files` is the first refusal of three files before the merge's own.
--- Each check after those before it have passed. Assumes nothing.
-use mathlib.Core.Path.{sym, ◌∙◌}
-use Rattle.merge_files.proofs.Checking.{original_long, left_long, right_long, past_sizes, refuses, further}
+-- `check_files` gives the first refusal before the merge's own.
+-- Each way fixes the tests before it. Assumes nothing.
 use borrow.Author.Rules.{rules}
+use borrow.Author.Tests.{le-leb, lt-leb, not-true, not-false}
+use mathlib.Core.Path.{sym, ◌∙◌}
+use native.Mathlib.Omega.{arith}
+use lib.ListN.{length}
+use Rattle.merge_files.specs.Steps.{first_of}
+use Rattle.merge_files.proofs.Checking.{reached, left_bad, right_bad, both_good}
 use Rattle.merge_files.proofs.check_files.Statement.{statement}
 use Rattle.merge_files.proofs.check_files.Tie as tie
 
 returns : tie.Need-returns
+unfolding first_of
 returns c =
     let s = c.before.before.before.before in
-    original_long s.args.original.now s.args.left.now s.args.right.now c.if1.true
+    rw (lt-leb (length s.args.original.now) 2048 (omega (arith, c.if1.true)))
 
 returns-2 : tie.Need-returns-2
+unfolding first_of
 returns-2 c =
-    let o1 = c.before in
-    let s = o1.before.before.before.before in
-    left_long s.args.original.now s.args.left.now s.args.right.now o1.if1.false c.if2.true
+    let s = c.before.before.before.before.before in
+    rw (le-leb (length s.args.original.now) 2048 (omega (arith, c.before.if1.false)), lt-leb (length s.args.left.now) 2048 (omega (arith, c.if2.true)))
 
 returns-3 : tie.Need-returns-3
+unfolding first_of
 returns-3 c =
-    let o2 = c.before in
-    let o1 = o2.before in
-    let s = o1.before.before.before.before in
-    right_long s.args.original.now s.args.left.now s.args.right.now o1.if1.false o2.if2.false c.if3.true
+    let s = c.before.before.before.before.before.before in
+    rw (le-leb (length s.args.original.now) 2048 (omega (arith, c.before.before.if1.false)), le-leb (length s.args.left.now) 2048 (omega (arith, c.before.if2.false)), lt-leb (length s.args.right.now) 2048 (omega (arith, c.if3.true)))
 
-check-utf8-requires : tie.Need-check-utf8-requires
-check-utf8-requires c κs = search rules
+is-utf8-requires : tie.Need-is-utf8-requires
+is-utf8-requires c κs = search rules
 
-enum-known-refusal : tie.Need-enum-known-refusal
-enum-known-refusal c = search rules
+returns-4 : tie.Need-returns-4
+unfolding first_of
+returns-4 c =
+    let s = c.before.before.before.before.before.before.before.before in
+    rw (le-leb (length s.args.original.now) 2048 (omega (arith, c.before.before.before.before.if1.false)), le-leb (length s.args.left.now) 2048 (omega (arith, c.before.before.before.if2.false)), le-leb (length s.args.right.now) 2048 (omega (arith, c.before.before.if3.false)), sym c.before.is-utf8.ensures ∙ not-true _ c.if4.true)
+
+is-utf8-requires-2 : tie.Need-is-utf8-requires-2
+is-utf8-requires-2 c κs = search rules
+
+returns-5 : tie.Need-returns-5
+unfolding first_of
+returns-5 c =
+    let s = c.before.before.before.before.before.before.before.before.before.before in
+    rw (le-leb (length s.args.original.now) 2048 (omega (arith, c.before.before.before.before.before.before.if1.false)), le-leb (length s.args.left.now) 2048 (omega (arith, c.before.before.before.before.before.if2.false)), le-leb (length s.args.right.now) 2048 (omega (arith, c.before.before.before.before.if3.false)), sym c.before.before.before.is-utf8.ensures ∙ not-false _ c.before.before.if4.false, sym c.before.is-utf82.ensures ∙ not-true _ c.if5.true)
+
+is-utf8-requires-3 : tie.Need-is-utf8-requires-3
+is-utf8-requires-3 c κs = search rules
+
+returns-6 : tie.Need-returns-6
+unfolding first_of
+returns-6 c =
+    let s = c.before.before.before.before.before.before.before.before.before.before.before.before in
+    rw (le-leb (length s.args.original.now) 2048 (omega (arith, c.before.before.before.before.before.before.before.before.if1.false)), le-leb (length s.args.left.now) 2048 (omega (arith, c.before.before.before.before.before.before.before.if2.false)), le-leb (length s.args.right.now) 2048 (omega (arith, c.before.before.before.before.before.before.if3.false)), sym c.before.before.before.before.before.is-utf8.ensures ∙ not-false _ c.before.before.before.before.if4.false, sym c.before.before.before.is-utf82.ensures ∙ not-false _ c.before.before.if5.false, sym c.before.is-utf83.ensures ∙ not-true _ c.if6.true)
+
+judge-requires : tie.Need-judge-requires
+judge-requires c κs = search rules
+
+enum-known-of-left : tie.Need-enum-known-of-left
+enum-known-of-left c = search rules
 
 enum_told : tie.Need-enum-told
 enum_told c = search rules
 
-check-utf8-requires-2 : tie.Need-check-utf8-requires-2
-check-utf8-requires-2 c κs = search rules
+returns-7 : tie.Need-returns-7
+returns-7 c =
+    let d = c.before.before.before in
+    let s = d.before.before.before.before.before.before.before.before.before.before.before.before in
+    sym
+    (reached s.args.original.now s.args.left.now s.args.right.now (omega (arith, d.before.before.before.before.before.before.before.before.if1.false)) (omega (arith, d.before.before.before.before.before.before.before.if2.false)) (omega (arith, d.before.before.before.before.before.before.if3.false))
+    (sym d.before.before.before.before.before.is-utf8.ensures ∙ not-false _ d.before.before.before.before.if4.false) (sym d.before.before.before.is-utf82.ensures ∙ not-false _ d.before.before.if5.false) (sym d.before.is-utf83.ensures ∙ not-false _ d.if6.false)
+    ∙ left_bad _ (rw c.enum_told.given.1 at c.before.before.judge.ensures))
 
-enum-known-refusal-2 : tie.Need-enum-known-refusal-2
-enum-known-refusal-2 c = search rules
+judge-requires-2 : tie.Need-judge-requires-2
+judge-requires-2 c κs = search rules
+
+enum-known-of-right : tie.Need-enum-known-of-right
+enum-known-of-right c = search rules
 
 enum-told-2 : tie.Need-enum-told-2
 enum-told-2 c = search rules
 
-check-utf8-requires-3 : tie.Need-check-utf8-requires-3
-check-utf8-requires-3 c κs = search rules
-
-enum-known-refusal-3 : tie.Need-enum-known-refusal-3
-enum-known-refusal-3 c = search rules
-
-enum-told-3 : tie.Need-enum-told-3
-enum-told-3 c = search rules
-
-check-edits-requires : tie.Need-check-edits-requires
-check-edits-requires c κs = search rules
-
-enum-known-refusal-4 : tie.Need-enum-known-refusal-4
-enum-known-refusal-4 c = search rules
-
-enum-told-4 : tie.Need-enum-told-4
-enum-told-4 c = search rules
-
-check-edits-requires-2 : tie.Need-check-edits-requires-2
-check-edits-requires-2 c κs = search rules
-
-returns-4 : tie.Need-returns-4
-returns-4 c =
-    let q = c.before in
-    let u0 = q.before.before in
-    let o3 = u0.before in
-    let o2 = o3.before in
-    let o1 = o2.before in
-    let s = o1.before.before.before.before in
-    refuses s.args.original.now s.args.left.now s.args.right.now o1.if1.false o2.if2.false o3.if3.false _ _ (sym q.refusal.given.1 ∙ u0.check-utf8.ensures) (past_sizes s.args.original.now s.args.left.now s.args.right.now o1.if1.false o2.if2.false o3.if3.false)
-
-returns-5 : tie.Need-returns-5
-returns-5 c =
-    let q = c.before in
-    let u1 = q.before.before in
-    let e0 = u1.before in
-    let u0 = e0.before.before in
-    let o3 = u0.before in
-    let o2 = o3.before in
-    let o1 = o2.before in
-    let s = o1.before.before.before.before in
-    refuses s.args.original.now s.args.left.now s.args.right.now o1.if1.false o2.if2.false o3.if3.false _ _ (sym q.refusal2.given.1 ∙ u1.check-utf82.ensures) (further s.args.original.now s.args.left.now s.args.right.now o1.if1.false o2.if2.false o3.if3.false _ _ (sym e0.enum_told.given.1 ∙ u0.check-utf8.ensures) (past_sizes s.args.original.now s.args.left.now s.args.right.now o1.if1.false o2.if2.false o3.if3.false))
-
-returns-6 : tie.Need-returns-6
-returns-6 c =
-    let q = c.before in
-    let u2 = q.before.before in
-    let e1 = u2.before in
-    let u1 = e1.before.before in
-    let e0 = u1.before in
-    let u0 = e0.before.before in
-    let o3 = u0.before in
-    let o2 = o3.before in
-    let o1 = o2.before in
-    let s = o1.before.before.before.before in
-    refuses s.args.original.now s.args.left.now s.args.right.now o1.if1.false o2.if2.false o3.if3.false _ _ (sym q.refusal3.given.1 ∙ u2.check-utf83.ensures) (further s.args.original.now s.args.left.now s.args.right.now o1.if1.false o2.if2.false o3.if3.false _ _ (sym e1.enum-told2.given.1 ∙ u1.check-utf82.ensures) (further s.args.original.now s.args.left.now s.args.right.now o1.if1.false o2.if2.false o3.if3.false _ _ (sym e0.enum_told.given.1 ∙ u0.check-utf8.ensures) (past_sizes s.args.original.now s.args.left.now s.args.right.now o1.if1.false o2.if2.false o3.if3.false)))
-
-returns-7 : tie.Need-returns-7
-returns-7 c =
-    let q = c.before in
-    let u3 = q.before.before in
-    let e2 = u3.before in
-    let u2 = e2.before.before in
-    let e1 = u2.before in
-    let u1 = e1.before.before in
-    let e0 = u1.before in
-    let u0 = e0.before.before in
-    let o3 = u0.before in
-    let o2 = o3.before in
-    let o1 = o2.before in
-    let s = o1.before.before.before.before in
-    refuses s.args.original.now s.args.left.now s.args.right.now o1.if1.false o2.if2.false o3.if3.false _ _ (sym q.refusal4.given.1 ∙ u3.check-edits.ensures) (further s.args.original.now s.args.left.now s.args.right.now o1.if1.false o2.if2.false o3.if3.false _ _ (sym e2.enum-told3.given.1 ∙ u2.check-utf83.ensures) (further s.args.original.now s.args.left.now s.args.right.now o1.if1.false o2.if2.false o3.if3.false _ _ (sym e1.enum-told2.given.1 ∙ u1.check-utf82.ensures) (further s.args.original.now s.args.left.now s.args.right.now o1.if1.false o2.if2.false o3.if3.false _ _ (sym e0.enum_told.given.1 ∙ u0.check-utf8.ensures) (past_sizes s.args.original.now s.args.left.now s.args.right.now o1.if1.false o2.if2.false o3.if3.false))))
-
 returns-8 : tie.Need-returns-8
 returns-8 c =
-    let u4 = c in
-    let e3 = u4.before in
-    let u3 = e3.before.before in
-    let e2 = u3.before in
-    let u2 = e2.before.before in
-    let e1 = u2.before in
-    let u1 = e1.before.before in
-    let e0 = u1.before in
-    let u0 = e0.before.before in
-    let o3 = u0.before in
-    let o2 = o3.before in
-    let o1 = o2.before in
-    let s = o1.before.before.before.before in
-    u4.check-edits2.ensures ∙ sym (further s.args.original.now s.args.left.now s.args.right.now o1.if1.false o2.if2.false o3.if3.false _ _ (sym e3.enum-told4.given.1 ∙ u3.check-edits.ensures) (further s.args.original.now s.args.left.now s.args.right.now o1.if1.false o2.if2.false o3.if3.false _ _ (sym e2.enum-told3.given.1 ∙ u2.check-utf83.ensures) (further s.args.original.now s.args.left.now s.args.right.now o1.if1.false o2.if2.false o3.if3.false _ _ (sym e1.enum-told2.given.1 ∙ u1.check-utf82.ensures) (further s.args.original.now s.args.left.now s.args.right.now o1.if1.false o2.if2.false o3.if3.false _ _ (sym e0.enum_told.given.1 ∙ u0.check-utf8.ensures) (past_sizes s.args.original.now s.args.left.now s.args.right.now o1.if1.false o2.if2.false o3.if3.false)))))
+    let d = c.before.before.before.before.before.before.before in
+    let s = d.before.before.before.before.before.before.before.before.before.before.before.before in
+    sym
+    (reached s.args.original.now s.args.left.now s.args.right.now (omega (arith, d.before.before.before.before.before.before.before.before.if1.false)) (omega (arith, d.before.before.before.before.before.before.before.if2.false)) (omega (arith, d.before.before.before.before.before.before.if3.false))
+    (sym d.before.before.before.before.before.is-utf8.ensures ∙ not-false _ d.before.before.before.before.if4.false) (sym d.before.before.before.is-utf82.ensures ∙ not-false _ d.before.before.if5.false) (sym d.before.is-utf83.ensures ∙ not-false _ d.if6.false)
+    ∙ right_bad (rw c.before.before.before.before.of_left.given.1 at c.before.before.before.before.before.before.judge.ensures) (rw c.enum-told2.given.1 at c.before.before.judge2.ensures))
+
+returns-9 : tie.Need-returns-9
+returns-9 c =
+    let d = c.before.before.before.before.before.before.before.before in
+    let s = d.before.before.before.before.before.before.before.before.before.before.before.before in
+    sym
+    (reached s.args.original.now s.args.left.now s.args.right.now (omega (arith, d.before.before.before.before.before.before.before.before.if1.false)) (omega (arith, d.before.before.before.before.before.before.before.if2.false)) (omega (arith, d.before.before.before.before.before.before.if3.false))
+    (sym d.before.before.before.before.before.is-utf8.ensures ∙ not-false _ d.before.before.before.before.if4.false) (sym d.before.before.before.is-utf82.ensures ∙ not-false _ d.before.before.if5.false) (sym d.before.is-utf83.ensures ∙ not-false _ d.if6.false)
+    ∙ both_good (rw c.before.before.before.before.before.of_left.given.1 at c.before.before.before.before.before.before.before.judge.ensures) (rw c.before.of_right.given.1 at c.before.before.before.judge2.ensures))
 
 pub check-files-spec : {M : Type 1} → statement M
 check-files-spec =
@@ -139,21 +107,18 @@ check-files-spec =
     returns
     returns-2
     returns-3
-    check-utf8-requires
-    enum-known-refusal
-    enum_told
-    check-utf8-requires-2
-    enum-known-refusal-2
-    enum-told-2
-    check-utf8-requires-3
-    enum-known-refusal-3
-    enum-told-3
-    check-edits-requires
-    enum-known-refusal-4
-    enum-told-4
-    check-edits-requires-2
+    is-utf8-requires
     returns-4
+    is-utf8-requires-2
     returns-5
+    is-utf8-requires-3
     returns-6
+    judge-requires
+    enum-known-of-left
+    enum_told
     returns-7
-    returns-8)
+    judge-requires-2
+    enum-known-of-right
+    enum-told-2
+    returns-8
+    returns-9)

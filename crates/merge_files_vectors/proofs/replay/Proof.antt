@@ -9,7 +9,7 @@ use Rattle.merge_files_vectors.proofs.replay.Tie as tie
 
 abbrev invariant-cases : tie.invariant-cases
 invariant-cases name bytes original₀ left₀ right₀ due₀ out₀ tally₀ at₀ original left right due out tally at =
-    (length original ≡ 4096) × (length left ≡ 4096) × (length right ≡ 4096) × (length due ≡ 4096) × (length out ≡ 14393)
+    (length original ≡ 4096) × (length left ≡ 4096) × (length right ≡ 4096) × (length due ≡ 4096) × (length out ≡ 4096)
 
 abbrev decreases-cases : tie.decreases-cases
 decreases-cases name bytes original₀ left₀ right₀ due₀ out₀ tally₀ at₀ original left right due out tally at = length bytes - at

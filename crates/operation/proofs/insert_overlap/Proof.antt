@@ -1,14 +1,12 @@
--- Shown: `insert_overlap` answers `overlap_at`.
+-- Shown: `insert_overlap` answers `overlap_of`.
 -- How: each way through it is a law of proofs/Scratch.antt.
-use Rattle.operation.proofs.Scratch.{part_is, scratched, rest_is, untouched}
+use Rattle.operation.proofs.Scratch.{part_is, scratched, rest-is, untouched}
 use Rattle.overlap.specs.Table.{Table, Filled}
-use Rattle.overlap.specs.declared.Range.{Range}
-use Rattle.overlap.proofs.Overlaps.{overlaps, counted_is}
 use borrow.Rule.Slice.PartMut.{mid_of, put_mid, mid_len}
 use lib.Seq.{slice}
 use lib.ListN.{length, take, drop}
 use mathlib.Core.List.{List}
-use mathlib.Core.Path.{◌≡◌, sym, ap, ◌∙◌, subst}
+use mathlib.Core.Path.{◌≡◌, sym, ◌∙◌, subst}
 use Prim.Native.Nat.{ℕ, ◌+◌, ◌-◌, ◌≤◌}
 use native.Mathlib.Omega.{arith}
 use borrow.Author.Rules.{rules}
@@ -21,7 +19,7 @@ scan-fits :
     → Table new (take (length (put_mid at (length w - at) w t) - at) (drop at (put_mid at (length w - at) w t))) (length new)
     × (length new ≤ length (take (length (put_mid at (length w - at) w t) - at) (drop at (put_mid at (length w - at) w t))))
 scan-fits w t at new h l f =
-    let e = rest_is w t at (omega arith) l in
+    let e = rest-is w t at (omega arith) l in
     let lm : length (mid_of at (length w - at) w) ≡ length w - at = mid_len at (length w) w (omega arith) in
     (subst (λ (x : List ℕ). Table new x (length new)) (sym e) f.table, subst (λ (x : List ℕ). length new ≤ length x) (sym e) (omega (arith, l, lm)))
 
@@ -98,27 +96,22 @@ scan-requires c κs =
     let n : length (mid_of b.first (b.first + b.count - b.first) b.keys.now) ≡ b.first + b.count - b.first = mid_len b.first (b.first + b.count) b.keys.now r.0 in
     scan-fits b.work.now c.before.before.before.before.before.before.fill.new.1.0 b.table _ (omega (arith, r.2, n)) c.before.before.before.before.before.before.fill.auto.1.0 c.before.before.before.before.before.before.fill.ensures
 
-count-from-requires : tie.Need-count-from-requires
-count-from-requires c κs = subst (λ (r : Range). r.start ≤ r.end) (sym c.scan.ensures) (overlaps _ _).low
-
 same_length : tie.Need-same-length
 same_length c = search rules
 
 returns : tie.Need-returns
 returns c =
-    let b = c.before.before.before.before.before.before.before.before.before.before.before.before.before.args in
-    let r = c.before.before.before.before.before.before.before.before.before.before.before.before.before.requires in
+    let b = c.before.before.before.before.before.before.before.before.before.before.before.before.args in
+    let r = c.before.before.before.before.before.before.before.before.before.before.before.before.requires in
     let n : length (mid_of b.first (b.first + b.count - b.first) b.keys.now) ≡ b.first + b.count - b.first = mid_len b.first (b.first + b.count) b.keys.now r.0 in
     let e : length (mid_of b.first (b.first + b.count - b.first) b.keys.now) ≡ b.count = omega (arith, n) in
     let w = b.work.now in
-    let t = c.before.before.before.before.before.before.before.before.fill.new.1.0 in
+    let t = c.before.before.before.before.before.before.before.fill.new.1.0 in
     let m = mid_of b.table (length w - b.table) w in
-    let s = scratched w t b.table b.count r.2 c.before.before.before.before.before.before.before.before.fill.auto.1.0 (subst (λ (k : ℕ). drop k t ≡ drop k m) e c.before.before.before.before.before.before.before.before.fill.ensures.kept) in
+    let s = scratched w t b.table b.count r.2 c.before.before.before.before.before.before.before.fill.auto.1.0 (subst (λ (k : ℕ). drop k t ≡ drop k m) e c.before.before.before.before.before.before.before.fill.ensures.kept) in
     let u : mid_of b.from (b.fill - b.from) (put_mid b.table (length w - b.table) w t) ≡ slice b.from b.fill w =
     part_is b.from b.fill _ r.3 (omega (arith, s.same, r.3, r.4)) ∙ untouched s b.from b.fill r.3 r.4 r.5 in
-    let q : mid_of b.first (b.first + b.count - b.first) b.keys.now ≡ slice b.first (b.first + b.count) b.keys.now =
-    part_is b.first (b.first + b.count) b.keys.now (omega arith) (omega (arith, r.0)) in
-    (c.count-from.ensures ∙ counted_is b.least _ _ (sym e ∙ ap length q) (c.before.scan.ensures ∙ cc (u, q)), s)
+    (c.scan.ensures ∙ cc (u, part_is b.first (b.first + b.count) b.keys.now (omega arith) (omega (arith, r.0))), s)
 
 pub insert-overlap-spec : {M : Type 1} → statement M
 insert-overlap-spec =
@@ -147,6 +140,5 @@ insert-overlap-spec =
     part-scan-start-3
     part-scan-end-3
     scan-requires
-    count-from-requires
     same_length
     returns)

@@ -8,7 +8,7 @@ use Rattle.operation.specs.Meets.{met, met_in, met_by}
 use Rattle.operation.specs.Views.{Meetable}
 use Rattle.operation.specs.declared.Last.TheVariants.{Inserted}
 use Rattle.merging.specs.declared.Op.TheVariants.{Insert}
-use Rattle.overlap.proofs.Overlaps.{part_at}
+use Rattle.overlap.proofs.Overlaps.{overlaps}
 use Rattle.overlap.specs.declared.Range.{Range}
 use mathlib.Core.Path.{sym, ap, ◌∙◌}
 use Prim.Native.Nat.{ℕ}
@@ -53,8 +53,8 @@ enum-known-last-3 c = search rules
 insert-overlap-requires : tie.Need-insert-overlap-requires
 insert-overlap-requires c κs = let m : Meetable c.before.before.before.before.before.before.before.before.before.args.keys.now c.before.before.before.before.before.before.before.before.before.args.work.now (Insert c.before.before.before.before.before.a2.given.0.0 c.before.before.before.before.before.a2.given.0.1.0 c.before.before.before.before.before.a2.given.0.1.1.0) (Inserted c.before.before.last3.given.0.0 c.before.before.last3.given.0.1.0) c.before.before.before.before.before.before.before.before.before.args.fill c.before.before.before.before.before.before.before.before.before.args.table = rw (c.before.before.before.before.before.a2.given.1, c.before.before.last3.given.1) at c.before.before.before.before.before.before.before.before.before.requires.1 in (m.lent, m.few, m.place, m.apart.0, m.filled, m.apart.1)
 
-sub-lost : tie.Need-overflow-sub-lost
-sub-lost c = omega (arith, ap (λ (r : Range). r.start) c.before.before.before.insert-overlap.ensures.0, ap (λ (r : Range). r.end) c.before.before.before.insert-overlap.ensures.0, (part_at (slice c.before.before.before.before.before.before.last3.given.0.1.0 c.before.before.before.before.before.before.before.before.before.before.before.before.before.args.fill c.before.before.before.before.before.before.before.before.before.before.before.before.before.args.work.now) (slice c.before.before.before.before.before.before.before.before.before.a2.given.0.1.0 (c.before.before.before.before.before.before.before.before.before.a2.given.0.1.0 + c.before.before.before.before.before.before.before.before.before.a2.given.0.1.1.0) c.before.before.before.before.before.before.before.before.before.before.before.before.before.args.keys.now) c.before.before.before.before.before.before.before.before.before.before.before.before.before.args.least).low)
+sub-t26 : tie.Need-overflow-sub-t26
+sub-t26 c = omega (arith, ap (λ (r : Range). r.start) c.before.before.before.insert-overlap.ensures.0, ap (λ (r : Range). r.end) c.before.before.before.insert-overlap.ensures.0, (overlaps (slice c.before.before.before.before.before.before.last3.given.0.1.0 c.before.before.before.before.before.before.before.before.before.before.before.before.before.args.fill c.before.before.before.before.before.before.before.before.before.before.before.before.before.args.work.now) (slice c.before.before.before.before.before.before.before.before.before.a2.given.0.1.0 (c.before.before.before.before.before.before.before.before.before.a2.given.0.1.0 + c.before.before.before.before.before.before.before.before.before.a2.given.0.1.1.0) c.before.before.before.before.before.before.before.before.before.before.before.before.before.args.keys.now)).low)
 
 enum-known-a-3 : tie.Need-enum-known-a-3
 enum-known-a-3 c = search rules
@@ -85,7 +85,7 @@ same_length : tie.Need-same-length
 same_length c = search rules
 
 returns-5 : tie.Need-returns-5
-returns-5 c = (ap met_in c.before.before.before.insert-overlap.ensures.0 ∙ sym (met-inserts _ _ _ _ _ _ _ _ _ _ _ c.before.before.before.before.before.before.before.before.before.a2.given.1 c.before.before.before.before.before.before.last3.given.1), rw c.before.before.before.before.before.before.before.before.before.a2.given.1 c.before.before.before.insert-overlap.ensures.1)
+returns-5 c = (ap met_in c.before.before.before.insert-overlap.ensures.0 ∙ sym (met-inserts _ _ _ _ _ _ _ _ _ _ c.before.before.before.before.before.before.before.before.before.a2.given.1 c.before.before.before.before.before.before.last3.given.1), rw c.before.before.before.before.before.before.before.before.before.a2.given.1 c.before.before.before.insert-overlap.ensures.1)
 
 returns-6 : tie.Need-returns-6
 unfolding met_by
@@ -107,7 +107,7 @@ merge-operations-consuming-insert-spec =
     not-inserts-requires-4
     enum-known-last-3
     insert-overlap-requires
-    sub-lost
+    sub-t26
     enum-known-a-3
     merge-operations-requires-2
     not-inserts-requires-5

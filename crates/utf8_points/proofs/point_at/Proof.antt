@@ -1,5 +1,5 @@
 -- `point_at` gives the number and the length of the good sequence at a place.
--- The one bits at the top of the first byte say the length; the leaf functions give the number. Assumes nothing.
+-- The first byte says the length; the leaf functions give the number. Assumes nothing.
 use mathlib.Core.Path.{sym, ◌∙◌}
 use native.Mathlib.Omega.{arith}
 use Rattle.utf8_read.proofs.Sequences.{value_1, value_2, value_3, value_4}
@@ -11,17 +11,13 @@ use Rattle.utf8_points.proofs.point_at.Tie as tie
 shared-slice-read-a : tie.Need-shared-slice-read-a
 shared-slice-read-a c = search rules
 
-ones-of-requires : tie.Need-ones-of-requires
-ones-of-requires c κs = search rules
-
 wide-requires : tie.Need-wide-requires
 wide-requires c κs = search rules
 
 returns : tie.Need-returns
 returns c =
-    let c2 = c.before.before in
-    let c5 = c2.before.before.before in
-    let k = known_1 _ _ c5.requires.0 c5.requires.1 _ c2.ones-of.ensures c.before.if1.true in
+    let c4 = c.before.before.before.before in
+    let k = known_1 _ _ c4.requires.0 c4.requires.1 c.before.if1.true in
     pointed _ k (c.wide.ensures ∙ sym (value_1 _ _ k.ends))
 
 add-two-of : tie.Need-overflow-add-two-of
@@ -29,18 +25,16 @@ add-two-of c = search rules
 
 shared-slice-read-two-of : tie.Need-shared-slice-read-two-of
 shared-slice-read-two-of c =
-    let c3 = c.before.before.before in
-    let c6 = c3.before.before.before in
-    omega (arith, known_2 _ _ c6.requires.0 c6.requires.1 (omega (arith, c3.ones-of.ensures)))
+    let c5 = c.before.before.before.before.before in
+    omega (arith, known_2 _ _ c5.requires.0 c5.requires.1 c.before.before.if1.false c.before.if2.true)
 
 two-of-requires : tie.Need-two-of-requires
 two-of-requires c κs = search rules
 
 returns-2 : tie.Need-returns-2
 returns-2 c =
-    let c4 = c.before.before.before.before in
-    let c7 = c4.before.before.before in
-    let k = known_2 _ _ c7.requires.0 c7.requires.1 (omega (arith, c4.ones-of.ensures)) in
+    let c6 = c.before.before.before.before.before.before in
+    let k = known_2 _ _ c6.requires.0 c6.requires.1 c.before.before.before.if1.false c.before.before.if2.true in
     pointed _ k (c.two-of.ensures ∙ sym (value_2 _ _ k.ends))
 
 add-three-of : tie.Need-overflow-add-three-of
@@ -48,27 +42,24 @@ add-three-of c = search rules
 
 shared-slice-read-three-of : tie.Need-shared-slice-read-three-of
 shared-slice-read-three-of c =
-    let c4 = c.before.before.before.before in
-    let c7 = c4.before.before.before in
-    omega (arith, known_3 _ _ c7.requires.0 c7.requires.1 (omega (arith, c4.ones-of.ensures)))
+    let c6 = c.before.before.before.before.before.before in
+    omega (arith, known_3 _ _ c6.requires.0 c6.requires.1 c.before.before.if2.false c.before.if3.true)
 
 add-three-of-2 : tie.Need-overflow-add-three-of-2
 add-three-of-2 c = search rules
 
 shared-slice-read-three-of-2 : tie.Need-shared-slice-read-three-of-2
 shared-slice-read-three-of-2 c =
-    let c5 = c.before.before.before.before.before in
-    let c8 = c5.before.before.before in
-    omega (arith, known_3 _ _ c8.requires.0 c8.requires.1 (omega (arith, c5.ones-of.ensures)))
+    let c7 = c.before.before.before.before.before.before.before in
+    omega (arith, known_3 _ _ c7.requires.0 c7.requires.1 c.before.before.before.if2.false c.before.before.if3.true)
 
 three-of-requires : tie.Need-three-of-requires
 three-of-requires c κs = search rules
 
 returns-3 : tie.Need-returns-3
 returns-3 c =
-    let c6 = c.before.before.before.before.before.before in
-    let c9 = c6.before.before.before in
-    let k = known_3 _ _ c9.requires.0 c9.requires.1 (omega (arith, c6.ones-of.ensures)) in
+    let c8 = c.before.before.before.before.before.before.before.before in
+    let k = known_3 _ _ c8.requires.0 c8.requires.1 c.before.before.before.before.if2.false c.before.before.before.if3.true in
     pointed _ k (c.three-of.ensures ∙ sym (value_3 _ _ k.ends))
 
 add-four-of : tie.Need-overflow-add-four-of
@@ -76,36 +67,32 @@ add-four-of c = search rules
 
 shared-slice-read-four-of : tie.Need-shared-slice-read-four-of
 shared-slice-read-four-of c =
-    let c4 = c.before.before.before.before in
-    let c7 = c4.before.before.before in
-    omega (arith, known_4 _ _ c7.requires.0 c7.requires.1 _ c4.ones-of.ensures c.before.if3.false)
+    let c6 = c.before.before.before.before.before.before in
+    omega (arith, known_4 _ _ c6.requires.0 c6.requires.1 c.before.if3.false)
 
 add-four-of-2 : tie.Need-overflow-add-four-of-2
 add-four-of-2 c = search rules
 
 shared-slice-read-four-of-2 : tie.Need-shared-slice-read-four-of-2
 shared-slice-read-four-of-2 c =
-    let c5 = c.before.before.before.before.before in
-    let c8 = c5.before.before.before in
-    omega (arith, known_4 _ _ c8.requires.0 c8.requires.1 _ c5.ones-of.ensures c.before.before.if3.false)
+    let c7 = c.before.before.before.before.before.before.before in
+    omega (arith, known_4 _ _ c7.requires.0 c7.requires.1 c.before.before.if3.false)
 
 add-four-of-3 : tie.Need-overflow-add-four-of-3
 add-four-of-3 c = search rules
 
 shared-slice-read-four-of-3 : tie.Need-shared-slice-read-four-of-3
 shared-slice-read-four-of-3 c =
-    let c6 = c.before.before.before.before.before.before in
-    let c9 = c6.before.before.before in
-    omega (arith, known_4 _ _ c9.requires.0 c9.requires.1 _ c6.ones-of.ensures c.before.before.before.if3.false)
+    let c8 = c.before.before.before.before.before.before.before.before in
+    omega (arith, known_4 _ _ c8.requires.0 c8.requires.1 c.before.before.before.if3.false)
 
 four-of-requires : tie.Need-four-of-requires
 four-of-requires c κs = search rules
 
 returns-4 : tie.Need-returns-4
 returns-4 c =
-    let c7 = c.before.before.before.before.before.before.before in
-    let c10 = c7.before.before.before in
-    let k = known_4 _ _ c10.requires.0 c10.requires.1 _ c7.ones-of.ensures c.before.before.before.before.if3.false in
+    let c9 = c.before.before.before.before.before.before.before.before.before in
+    let k = known_4 _ _ c9.requires.0 c9.requires.1 c.before.before.before.before.if3.false in
     pointed _ k (c.four-of.ensures ∙ sym (value_4 _ _ k.ends))
 
 pub point-at-spec : {M : Type 1} → statement M
@@ -113,7 +100,6 @@ point-at-spec =
     tie.close
     (tie.spec
     shared-slice-read-a
-    ones-of-requires
     wide-requires
     returns
     add-two-of

@@ -1,12 +1,12 @@
-//! The merge of three files, from their bytes: as an edit file, as a text, as a history.
+//! The program's work, from the bytes of three files.
 
 use oracle::{
-    flat::{HISTORY_STRIDE, NUMBER, Spans, TEXT},
+    flat::{NUMBER, TEXT},
     paper::{
         cases::programs::{Triple, largest_edit_file, triple},
         edit_file,
-        program::{MergedFiles, merge_files},
-        refusal::{AMPLE, size},
+        program::program,
+        refusal::{AMPLE, Refusal, size},
     },
     random::Random,
 };
@@ -14,7 +14,7 @@ use oracle::{
 use super::edit_files;
 use crate::{
     damage::{damage, near_byte},
-    family::{Family, Kind, Part, Tally, call, fitted, rooms},
+    family::{Family, Kind, Part, Tally, call, rooms},
     memory::{Lent, Room, Style},
     plan::Plan,
 };
@@ -24,8 +24,6 @@ pub struct MergeFiles {
     left: Lent<u8>,
     right: Lent<u8>,
     out: Room<u8>,
-    spans: Room<usize>,
-    points: Room<u32>,
 }
 
 fn written(items: &[i64], text: &[u32]) -> Vec<u8> {
@@ -115,9 +113,8 @@ fn at_limits(random: &mut Random) -> Triple {
 impl Family for MergeFiles {
     type Input = Triple;
 
-    const CALLS: &'static [&'static str] =
-        &["merge_files", "merge_files_text", "merge_files_history"];
-    const FULL: u64 = 4_000_000;
+    const CALLS: &'static [&'static str] = &["merge_files"];
+    const FULL: u64 = 1_000_000;
     const LIMITS: u64 = 3_000;
 
     fn new(style: Style) -> Self {
@@ -126,8 +123,6 @@ impl Family for MergeFiles {
             left: Lent::new(style),
             right: Lent::new(style),
             out: Room::new(style),
-            spans: Room::new(style),
-            points: Room::new(style),
         }
     }
 
@@ -162,49 +157,26 @@ impl Family for MergeFiles {
 
     fn compare(&mut self, input: &Triple, salt: u64, tally: &mut Tally) -> Result<(), String> {
         let [original, left, right] = input;
-        let merged = merge_files(original, left, right);
-        let merged = merged.as_ref().map_err(|refusal| *refusal);
-        let file = merged.and_then(MergedFiles::file);
-        let text = merged.and_then(MergedFiles::text);
-        let history = merged.and_then(MergedFiles::history);
+        let written = program(Some(original), Some(left), Some(right));
+        let refused = std::str::from_utf8(&written)
+            .ok()
+            .and_then(|line| line.strip_prefix("refused=")?.trim_end().parse().ok());
+        let asked = [written.len()];
+        let lent = rooms(&mut Random::new(salt), Some(asked));
 
-        let bytes = |bytes: &Vec<u8>| [bytes.len()];
-        let mut random = Random::new(salt);
         let original = self.original.lend(original, salt);
         let left = self.left.lend(left, salt);
         let right = self.right.lend(right, salt);
-
-        let lent = rooms(&mut random, file.as_ref().ok().map(bytes));
         let out = self.out.lend(lent[0], salt);
         let got = call!(fleecelatch_merge_files(original, left, right, out));
-        let answer = fitted(&file, file.as_ref().ok().map(bytes), lent);
-        tally.answer(0, got, answer.map(bytes))?;
-        self.out.holds("out", answer.map_or(&[], |file| file))?;
-
-        let lent = rooms(&mut random, text.as_ref().ok().map(bytes));
-        let out = self.out.lend(lent[0], salt);
-        let got = call!(fleecelatch_merge_files_text(original, left, right, out));
-        let answer = fitted(&text, text.as_ref().ok().map(bytes), lent);
-        tally.answer(1, got, answer.map(bytes))?;
-        self.out.holds("out", answer.map_or(&[], |text| text))?;
-
-        let asked = history
-            .as_ref()
-            .ok()
-            .map(|history| [history.spans.len(), history.text.len()]);
-        let lent = rooms(&mut random, asked);
-        let spans = self.spans.lend(lent[0], salt);
-        let points = self.points.lend(lent[1], salt);
-        let got = call!(fleecelatch_merge_files_history(
-            original, left, right, spans, points
-        ));
-        let answer = fitted(&history, asked, lent);
-        let counts = |history: &Spans| [history.spans.len() / HISTORY_STRIDE, history.text.len()];
-        tally.answer(2, got, answer.map(counts))?;
-        self.spans
-            .holds("history", answer.map_or(&[], |history| &history.spans))?;
-        self.points
-            .holds("text", answer.map_or(&[], |history| &history.text))
+        let short = lent[0] < written.len();
+        if short {
+            tally.answer::<1>(0, got, Err(Refusal::Room))?;
+        } else {
+            let counts = [written.len(), usize::from(refused.is_some())];
+            tally.answer_as(0, got, Ok(counts), refused)?;
+        }
+        self.out.holds("out", if short { &[] } else { &written })
     }
 
     fn parts(input: &mut Triple) -> Vec<(&'static str, &mut dyn Part)> {

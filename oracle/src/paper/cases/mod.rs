@@ -29,7 +29,6 @@ pub fn files() -> Vec<(&'static str, Vectors)> {
         ("utf8_pairs.txt", utf8::pairs()),
         ("utf8_write.txt", utf8::write()),
         ("merge_files.txt", programs::merge_files()),
-        ("merge_files_views.txt", programs::merge_files_views()),
         ("outputs_refused.txt", lists::outputs_refused()),
         ("checks.txt", lists::checks()),
     ]

@@ -2,11 +2,11 @@
 //! UTF-8 in each file, and two refusals at once.
 
 use super::super::edit_file;
-use super::super::program::{merge_files as merged_files, program};
+use super::super::program::program;
 use super::super::refusal::{AMPLE, size};
 use super::edit_files::{EMPTY, good};
-use super::{answer, points};
-use crate::flat::{HISTORY_STRIDE, NUMBER, TEXT};
+use super::points;
+use crate::flat::{NUMBER, TEXT};
 use crate::random::Random;
 use crate::vectors::Vectors;
 
@@ -16,57 +16,15 @@ pub type Triple = [Vec<u8>; 3];
 const LEFT: usize = 1;
 const RIGHT: usize = 2;
 
-/// Each triple of files, and what the program writes.
 pub fn merge_files() -> Vectors {
     let mut vectors = Vectors::new();
-    for files in triples() {
-        for file in &files {
+    let mut case = |files: &Triple| {
+        for file in files {
             vectors.line(file);
         }
-        let [original, left, right] = &files;
+        let [original, left, right] = files;
         vectors.line(&program(Some(original), Some(left), Some(right)));
-    }
-    vectors
-}
-
-/// Text and history of the merge, or its refusal with what it carries: of each triple that is
-/// accepted, of some more, and of every fourth that is refused.
-pub fn merge_files_views() -> Vectors {
-    let mut random = Random::new(112);
-    let more = (0..24).map(|_| triple(&mut random));
-    let mut refused = 0;
-    let mut vectors = Vectors::new();
-    for files in triples().into_iter().chain(more) {
-        let [original, left, right] = &files;
-        let merged = merged_files(original, left, right);
-        refused += usize::from(merged.is_err());
-        if merged.is_err() && refused % 4 != 0 {
-            continue;
-        }
-        for file in &files {
-            vectors.line(file);
-        }
-        let views = merged.and_then(|merged| Ok((merged.text()?, merged.history()?)));
-        let counts = views.as_ref().map(|(text, history)| {
-            let spans = history.spans.len() / HISTORY_STRIDE;
-            vec![text.len(), spans, history.text.len()]
-        });
-        answer(&mut vectors, counts.map_err(|refusal| *refusal));
-        let (text, spans, points) = match views {
-            Ok((text, history)) => (text, history.spans, history.text),
-            Err(_) => Default::default(),
-        };
-        vectors.line(&text);
-        vectors.line(&spans);
-        vectors.line(&points);
-    }
-    vectors
-}
-
-/// The triples of files.
-fn triples() -> Vec<Triple> {
-    let mut triples = Vec::new();
-    let mut case = |files: &Triple| triples.push(files.clone());
+    };
     let with = |files: &Triple, place: usize, bytes: &[u8]| {
         let mut files = files.clone();
         files[place] = bytes.to_vec();
@@ -142,7 +100,7 @@ fn triples() -> Vec<Triple> {
         }
     }
     case(&with(&with(&small, 0, b"a\x80"), RIGHT, &oversize));
-    triples
+    vectors
 }
 
 /// The edit file of a diff that can be written.
