@@ -1,18 +1,18 @@
-//! Links the proved library: libexports.a of the folder `FLEECELATCH_LIB`, else of ../target/staticlib.
+//! Links the proved library: libexports.a of the folder `FLEECELATCH_LIB`, else of ../crates/exports/out.
 
 use std::{env, path::PathBuf};
 
 fn main() {
     println!("cargo::rerun-if-env-changed=FLEECELATCH_LIB");
     let folder = env::var_os("FLEECELATCH_LIB").map_or_else(
-        || PathBuf::from(env!("CARGO_MANIFEST_DIR")).join("../target/staticlib"),
+        || PathBuf::from(env!("CARGO_MANIFEST_DIR")).join("../crates/exports/out"),
         PathBuf::from,
     );
     let archive = folder.join("libexports.a");
     println!("cargo::rerun-if-changed={}", archive.display());
     if !archive.exists() {
         println!(
-            "cargo::error={} is absent: run `rt staticlib exports` at the root of the repository, or name the archive's folder in FLEECELATCH_LIB",
+            "cargo::error={} is absent: run `rt lib exports` at the root of the repository, or name the archive's folder in FLEECELATCH_LIB",
             archive.display()
         );
         return;

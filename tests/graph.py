@@ -26,7 +26,7 @@ def crate_of(path):
 
 def imports(text):
     """What a file names of specifications: the name there, and crate, module and name of the definition."""
-    for crate, module, names in re.findall(r'use Rattle·(\w+?)(?:·specs)?\.specs\.([\w.]+)\.\{([^}]*)\}', text):
+    for crate, module, names in re.findall(r'use Rattle\.(\w+)\.specs\.([\w.]+)\.\{([^}]*)\}', text):
         for item in names.split(','):
             name, _, other = item.strip().partition(' as ')
             yield other or name, (crate, module, name)

@@ -17,19 +17,8 @@ HEAD = re.compile(r"^(\s*)(?:(?:pub|abbrev|unfoldable|opaque|rec)\s+)*([^\s:(){}
 TYPE = re.compile(r"^\s*(?:(?:pub|abbrev|unfoldable)\s+)*(?:record|data)\s+([^\s:(){}]+)")
 FIELD = re.compile(r"(?:record\s*\{|;)\s*([a-z][^\s:(){}|.;=]*)\s*:")
 USE = re.compile(r"^(?:ghost )?use ([A-Za-z_][\w.·']*)\.\{([^}]*)\}", re.M)
-# where the plain rule would make a name of the library or of the file itself
-BY_HAND = {
-    "value-of": "value_of_lem",
-    "length-of": "length_of_lem",
-    "text-of": "text_of_lem",
-    "apply-with-all": "apply_with_all_lem",
-    "apply-with-history": "apply_with_history_lem",
-}
-
 
 def turned(name):
-    if name in BY_HAND:
-        return BY_HAND[name]
     if "-" in name:
         name = name.replace("-", "_")
     if name[:1].islower():
@@ -128,6 +117,32 @@ def contract(text, names, keep):
     return re.sub(r"`[^`\n]*`", lambda m: respell(m.group(0), names, keep), "\n".join(out))
 
 
+def pages():
+    """Between backticks in pages, each word that no file declares but whose turned form one does."""
+    now = set()
+    for p in files(".antt"):
+        if not p.endswith("/Proof.antt"):
+            now |= declared(open(p, encoding="utf-8").read())
+    paths = [n for n in os.listdir(".") if n.endswith(".md")]
+    paths += [os.path.join("docs", n) for n in os.listdir("docs") if n.endswith(".md") and n != "PORT.md"]
+    changed = 0
+
+    def word(m):
+        w = m.group(0)
+        if w in now:
+            return w
+        new = turned(w.replace("′", "'"))
+        return new if new in now else new + "_lem" if new + "_lem" in now else w
+
+    for p in sorted(paths):
+        t = open(p, encoding="utf-8").read()
+        new = re.sub(r"`[^`\n]*`", lambda m: WORD.sub(word, m.group(0)), t)
+        if new != t:
+            changed += 1
+            open(p, "w", encoding="utf-8").write(new)
+    return changed
+
+
 def main():
     own = set(crates())
     texts = {p: open(p, encoding="utf-8").read() for p in files((".antt", ".rt"))}
@@ -138,15 +153,28 @@ def main():
             new = turned(n)
             if new != n:
                 names[n] = new
+    # a lemma that would have the name of what it speaks of gets `_lem`, as in the library
+    seen = {p: set(WORD.findall("\n".join(re.sub(r"^use [\w.+]*", "", code(l)) for l in t.split("\n")))) for p, t in texts.items() if p.endswith(".antt")}
+    camel = {to for n, to in names.items() if "-" not in n}
+    for p, ns in per.items():
+        for n in ns & camel:
+            if any(names[m] == n for m in seen[p] if m in names):
+                names[n] = n + "_lem"
+    for n in sorted(names):
+        if "-" not in n:
+            continue
+        new = names[n]
+        other = {m for m, to in names.items() if to == new and m != n} | {new}
+        if any(n in words and words & other for words in seen.values()):
+            names[n] = new + "_lem"
     bad = 0
-    for p, ns in sorted(per.items()):
+    for p, words in sorted(seen.items()):
         to = {}
-        words = set(WORD.findall("\n".join(code(l) for l in texts[p].split("\n"))))
-        for n in sorted(ns):
-            new = turned(n)
-            if to.setdefault(new, n) != n or (new != n and new in words):
+        for n in sorted(words):
+            new = names.get(n, n)
+            if to.setdefault(new, n) != n and not p.endswith("/Proof.antt"):
                 bad += 1
-                print(f"{p}: {n} would be {new}, which is there")
+                print(f"{p}: {n} and {to[new]} would be {new}")
     if bad and "--force" not in sys.argv:
         raise SystemExit(f"respell: {bad} names fall together; nothing was written")
     changed = 0
@@ -174,13 +202,7 @@ def main():
             if new != t:
                 changed += 1
                 open(p, "w", encoding="utf-8").write(new)
-    pages = [n for n in os.listdir(".") if n.endswith(".md")] + [os.path.join("docs", n) for n in os.listdir("docs") if n.endswith(".md")]
-    for p in sorted(pages):
-        t = open(p, encoding="utf-8").read()
-        new = re.sub(r"`[^`\n]*`", lambda m: respell(m.group(0), names, set()), t)
-        if new != t:
-            changed += 1
-            open(p, "w", encoding="utf-8").write(new)
+    changed += pages()
     print(f"respell: {len(names)} names, {changed} files changed")
 
 

@@ -1,12 +1,12 @@
 //! Links the proved library: libexports.a of the folder `FLEECELATCH_LIB`, else of
-//! ../../target/staticlib, where `rt staticlib exports` writes it.
+//! ../../crates/exports/out, where `rt lib exports` writes it.
 
 use std::{env, path::PathBuf};
 
 fn main() {
     println!("cargo::rerun-if-env-changed=FLEECELATCH_LIB");
     let folder = env::var_os("FLEECELATCH_LIB").map_or_else(
-        || PathBuf::from(env!("CARGO_MANIFEST_DIR")).join("../../target/staticlib"),
+        || PathBuf::from(env!("CARGO_MANIFEST_DIR")).join("../../crates/exports/out"),
         PathBuf::from,
     );
     let archive = folder.join("libexports.a");
@@ -14,7 +14,7 @@ fn main() {
 
     if !archive.exists() {
         println!(
-            "cargo::error=there is no {}: run `rt staticlib exports` at the root of the \
+            "cargo::error=there is no {}: run `rt lib exports` at the root of the \
              repository, or name the archive's folder in FLEECELATCH_LIB",
             archive.display()
         );

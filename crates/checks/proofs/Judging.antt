@@ -2,10 +2,9 @@
 -- By the laws of chains, over what the code has tested. Assumes nothing.
 use Prim.Native.Nat.{ℕ, ◌<◌}
 use mathlib.Core.Path.{◌≡◌, sym, ◌∙◌}
-use mathlib.Core.Bool.{Bool, true, false, not, ◌&&◌}
+use mathlib.Core.Bool.{Bool, true, false, ◌&&◌}
 use mathlib.Core.List.{List}
 use lib.ListN.{length}
-use borrow.Author.Tests.{not-true, not-false}
 use Rattle.refusal.specs.declared.Refusal.{Refusal}
 use Rattle.refusal.specs.declared.Refusal.TheVariants.{Size}
 use Rattle.records.specs.declared.Operation.{Operation}
@@ -22,11 +21,11 @@ use Rattle.shapes.specs.Tiling.{tiling_of}
 use Rattle.shapes.proofs.Accepted.{text_small}
 
 -- the sizes of the texts are kept, x, and those of the lists were asked
-pub sizes_refuse : (w : Verdict) {x y z : Bool} → x ≡ true → z ≡ y → not z ≡ true → Refused Size ≡ and_then (sized (x && y)) w
-sizes_refuse w f e n = too_big _ w (second_no _ _ f (sym e ∙ not-true _ n))
+pub sizes_refuse : (w : Verdict) {x y z : Bool} → x ≡ true → z ≡ y → z ≡ false → Refused Size ≡ and_then (sized (x && y)) w
+sizes_refuse w f e n = too_big _ w (second_no _ _ f (sym e ∙ n))
 
-pub sizes_pass : {x y z : Bool} {v w : Verdict} → x ≡ true → z ≡ y → not z ≡ false → v ≡ w → v ≡ and_then (sized (x && y)) w
-sizes_pass f e n k = fits _ _ _ (both_yes _ _ f (sym e ∙ not-false _ n)) k
+pub sizes_pass : {x y z : Bool} {v w : Verdict} → x ≡ true → z ≡ y → z ≡ true → v ≡ w → v ≡ and_then (sized (x && y)) w
+sizes_pass f e n k = fits _ _ _ (both_yes _ _ f (sym e ∙ n)) k
 
 -- a check answered u
 pub check_refuses : (w : Verdict) {u a : Verdict} {r : Refusal} → u ≡ a → u ≡ Refused r → Refused r ≡ and_then a w

@@ -1,5 +1,7 @@
 // The checks of lists: refusals 3, 4, 1, 2 and 5, in this order, of one list and of the two of a
 // merge.
+#![tactic(auto)]
+
 ghost use Rattle.std.specs.Prelude.{◌≡◌, ◌+◌, ◌≤◌, true, false, length};
 ghost use Rattle.records.specs.Operations.{operations_of};
 ghost use Rattle.records.specs.Tokens.{tokens_lent, tokens_from};
@@ -93,7 +95,7 @@ fn judge_lists(
 }
 
 // What a look at an insert's tokens finds: their text, capped; or that something may be to refuse.
-#[derive(Drop)]
+#[derive(Clone, Copy)]
 struct Run {
     good: bool,
     text: usize,
@@ -150,7 +152,7 @@ fn pass_insert(spans: &[u32], keys: &[u32], n: usize, o: records::Operation) -> 
 
 // What one pass over a list's operations sums up: the tokens and the text that it inserts, and the
 // original that it retains; or that it may have found something to refuse.
-#[derive(Drop)]
+#[derive(Clone, Copy)]
 struct Pass {
     good: bool,
     tokens: usize,
@@ -270,7 +272,7 @@ fn good_sums(
 
 // The verdict with two sums of what is accepted: of one list how much text it inserts and how long its
 // text is, of the two of a merge how many tokens each inserts.
-#[derive(Drop)]
+#[derive(Clone, Copy)]
 pub enum Checked {
     Sums { first: usize, second: usize },
     Refused(refusal::Refusal),

@@ -19,7 +19,7 @@ use Rattle.diff.specs.Items.{numbered, ranged, item_of, item_at, items_from, ite
 
 -- a number of a slice is what its machine word reads as
 pub reads_back : (z : ℤ) → mag z < 2 ^ 63 → to_z w64 (of_z w64 z) ≡ z
-reads_back z h = to_z-of_z (record { sfits = h })
+reads_back z h = to_z-of_z {w = w64} (record { sfits = h })
 
 -- a number whose machine word is small is that word
 pub word_is : (z : ℤ) (k : ℕ) → k < 2 ^ 63 → mag z < 2 ^ 63 → of_z w64 z ≡ k → z ≡ pos k

@@ -10,7 +10,7 @@ ghost use Rattle.diff.specs.Passes.{pointed, surveyed, walked};
 use refusal::Refusal;
 
 // An item read out of the slice. Neither: of unknown kind, or a range outside what was lent.
-#[derive(Drop)]
+#[derive(Clone, Copy)]
 pub enum Item {
     Retain(u64),
     Delete(u64),
@@ -79,7 +79,7 @@ pub fn item_at(items: &[i64], lent: usize, i: usize) -> Item
 }
 
 // A place found, or none.
-#[derive(Drop)]
+#[derive(Clone, Copy)]
 pub enum Bad {
     At(usize),
     Nowhere,
@@ -133,7 +133,7 @@ fn passes(items: &[i64], lent: usize, from: usize, before: usize) -> bool
 }
 
 // What a look at all items finds: texts too long together, the first item that is neither number nor text, or how much text is used.
-#[derive(Drop)]
+#[derive(Clone, Copy)]
 pub enum Surveyed {
     TooLong,
     Stopped(Refusal),
@@ -170,7 +170,7 @@ pub fn survey(items: &[i64], lent: usize) -> Surveyed
 }
 
 // Where the numbers lead over an original: the position and how much is retained, or the first number that asks too much.
-#[derive(Drop)]
+#[derive(Clone, Copy)]
 pub enum Walked {
     Reached { position: usize, kept: usize },
     Stopped(Refusal),

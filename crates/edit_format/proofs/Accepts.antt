@@ -141,10 +141,10 @@ step_good (num l cs n) b g =
 step_good (open' h is) b g = keyed_good (item h is (kind_of b)) 0 b (g, refl)
 step_good (after h is) b g = tt
 
-run_good : (s : State) (p : List ℕ) → GoodAt s → GoodAt (run s p)
+run_good_lem : (s : State) (p : List ℕ) → GoodAt s → GoodAt (run s p)
 unfolding run
-run_good s [] g = g
-run_good s (b ∷ p) g = run_good (step s b) p (step_good s b g)
+run_good_lem s [] g = g
+run_good_lem s (b ∷ p) g = run_good_lem (step s b) p (step_good s b g)
 
 finish_good : (s : State) {is : List Item} → GoodAt s → finish s ≡ Accepted is → Good is
 unfolding finish
@@ -164,7 +164,7 @@ finish_good (after h js) {is} g e =
 
 pub accepted_good : (p : List ℕ) {is : List Item} → read_file p ≡ Accepted is → Good is
 unfolding read_file
-accepted_good p e = finish_good (run (key form 0) p) (run_good (key form 0) p tt) e
+accepted_good p e = finish_good (run (key form 0) p) (run_good_lem (key form 0) p tt) e
 
 -- accepted exactly when written
 pub accepted_iff : (p : List ℕ) (is : List Item) → (read_file p ≡ Accepted is → Good is × (p ≡ written is)) × (Good is × (p ≡ written is) → read_file p ≡ Accepted is)

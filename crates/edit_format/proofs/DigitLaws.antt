@@ -21,9 +21,9 @@ digit_back d =
     (λ e. let h : d < 10 = ltb-true d 10 e in rw (lt-ltb (d + 48) 58 (omega arith)) (omega arith))
     (λ e. let h : 10 ≤ d = ltb-false d 10 e in rw (le-ltb (d + 87) 58 (omega arith)) (omega arith))
 
-pub is_digit : (m d : ℕ) → d < m → is_digit m (digit d) ≡ true
+pub is_digit_lem : (m d : ℕ) → d < m → is_digit m (digit d) ≡ true
 unfolding is_digit
-is_digit m d h = rw (digit_back d, eq-eqb (digit d) (digit d) refl, lt-ltb d m h)
+is_digit_lem m d h = rw (digit_back d, eq-eqb (digit d) (digit d) refl, lt-ltb d m h)
 
 -- what a digit's byte says
 pub digit_writes : (m b : ℕ) → is_digit m b ≡ true → digit (digit_of b) ≡ b

@@ -16,7 +16,7 @@ use Rattle.edit_format.specs.Written.{Head, form_key, original_key, result_key, 
 use Rattle.edit_format.specs.Reading.{Line, form, original, result, items, item, ending, keeping, dropping, adding, State, key, gap, num, open', after, kind_key, key_of, base, several, hexes, fits_item, fits, item_of, opened, next, begun, keyed, numbered, kind_of, step, run, Accepted, finish, read_file}
 use Rattle.room.proofs.Choices.{pick_elim}
 use Rattle.room.proofs.Bools.{and_left, and_right}
-use Rattle.edit_format.proofs.DigitLaws.{digit_back, is_digit, no_digit_lf, no_digit_space, shorter}
+use Rattle.edit_format.proofs.DigitLaws.{digit_back, is_digit_lem, no_digit_lf, no_digit_space, shorter}
 use Rattle.edit_format.proofs.NoBeginning.{run_append}
 
 base_big : (l : Line) → 1 < base l
@@ -46,11 +46,11 @@ gap_past l cs b = refl
 
 one_read : (l : Line) (cs : List ℕ) (d : ℕ) → d < base l → begun l cs (digit d) ≡ num l cs d
 unfolding begun
-one_read l cs d h = rw (is_digit (base l) d h, digit_back d)
+one_read l cs d h = rw (is_digit_lem (base l) d h, digit_back d)
 
 more_read : (l : Line) (cs : List ℕ) (n d : ℕ) → (n ≡ 0 → ⊥) → d < base l → step (num l cs n) (digit d) ≡ num l cs (n * base l + d)
 unfolding step numbered
-more_read l cs n d g h = rw (is_digit (base l) d h, ne_eqb n 0 g, digit_back d)
+more_read l cs n d g h = rw (is_digit_lem (base l) d h, ne_eqb n 0 g, digit_back d)
 
 -- the digits of a number, from where a number begins
 number_read : (l : Line) (cs : List ℕ) (s : State) → ((b : ℕ) → step s b ≡ begun l cs b) → (f n : ℕ) → n ≤ f → run s (digits_in f (base l) n) ≡ num l cs n

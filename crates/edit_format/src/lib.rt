@@ -1,4 +1,6 @@
 // The edit file's format: its definitions are in specs/ and its laws in proofs/. Here are the digits, which reader and writer share.
+#![tactic(auto)]
+
 ghost use Rattle.std.specs.Prelude.{◌≡◌, ◌<◌};
 ghost use Rattle.edit_format.specs.Digits.{value_of};
 

@@ -19,8 +19,8 @@ use Rattle.edit_lines.specs.declared.Number.TheVariants.{Value, Bad}
 pub product_fits : {n m d : ℕ} → n ≤ 2000000 → m ≤ 16 → d ≤ 16 → n * m + d ≤ 32000016
 product_fits h g f = let w = mul-le-mul h g in omega (arith, w)
 
-is_digit : (m b : ℕ) → m ≤ 16 → value_of b < m → is_digit m b ≡ true
-is_digit m b h g = sym (value_test m b h) ∙ lt-ltb (value_of b) m g
+is_digit_lem : (m b : ℕ) → m ≤ 16 → value_of b < m → is_digit m b ≡ true
+is_digit_lem m b h g = sym (value_test m b h) ∙ lt-ltb (value_of b) m g
 
 is_none : (m b : ℕ) → m ≤ 16 → m ≤ value_of b → is_digit m b ≡ false
 is_none m b h g = sym (value_test m b h) ∙ le-ltb (value_of b) m g
@@ -39,7 +39,7 @@ module _ (p : List ℕ) (m i : ℕ) (small : m ≤ 16) where
 
   pub scan_on : i < length p → value_of (get_or p i 0) < m → scan m i (drop i p) ≡ more m (value_of (get_or p i 0)) (i + 1) (drop (i + 1) p)
   unfolding scan
-  scan_on h g = rw (at_byte p i h, is_digit m (get_or p i 0) small g, value_of_lem m (get_or p i 0) small (is_digit m (get_or p i 0) small g))
+  scan_on h g = rw (at_byte p i h, is_digit_lem m (get_or p i 0) small g, value_of_lem m (get_or p i 0) small (is_digit_lem m (get_or p i 0) small g))
 
   pub more_end : (n : ℕ) → length p ≤ i → more m n i (drop i p) ≡ Value n i
   unfolding more
@@ -51,11 +51,11 @@ module _ (p : List ℕ) (m i : ℕ) (small : m ≤ 16) where
 
   pub more_zero : (n : ℕ) → i < length p → value_of (get_or p i 0) < m → n ≡ 0 → more m n i (drop i p) ≡ Bad
   unfolding more
-  more_zero n h g z = rw (at_byte p i h, is_digit m (get_or p i 0) small g, eq-eqb n 0 z)
+  more_zero n h g z = rw (at_byte p i h, is_digit_lem m (get_or p i 0) small g, eq-eqb n 0 z)
 
   pub more_on : (n : ℕ) → i < length p → value_of (get_or p i 0) < m → (n ≡ 0 → ⊥) → more m n i (drop i p) ≡ more m (cap (n * m + value_of (get_or p i 0))) (i + 1) (drop (i + 1) p)
   unfolding more
-  more_on n h g z = rw (at_byte p i h, is_digit m (get_or p i 0) small g, ne_eqb n 0 z, value_of_lem m (get_or p i 0) small (is_digit m (get_or p i 0) small g))
+  more_on n h g z = rw (at_byte p i h, is_digit_lem m (get_or p i 0) small g, ne_eqb n 0 z, value_of_lem m (get_or p i 0) small (is_digit_lem m (get_or p i 0) small g))
 
 -- past the end stands no LF and no space
 pub past_end : (p : List ℕ) (i b : ℕ) → length p ≤ i → 0 < b → eqb (get_or p i 0) b ≡ false

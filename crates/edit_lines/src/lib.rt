@@ -1,4 +1,6 @@
 // The leaves of an edit file's lines, at a place of any bytes: a number, a line of one number, a code point. Line keys are byte strings.
+#![tactic(auto)]
+
 ghost use Rattle.std.specs.Prelude.{◌≡◌, ◌+◌, ◌*◌, ◌≤◌, ◌<◌, length, drop};
 ghost use Rattle.edit_format.specs.Tests.{begins};
 ghost use Rattle.edit_lines.specs.Scan.{cap, scan, closed_at, line_at, ended_at, point_at, Stands, Closes};
@@ -6,21 +8,21 @@ ghost use Rattle.edit_lines.specs.Scan.{cap, scan, closed_at, line_at, ended_at,
 use numbers::bytes::wide;
 
 // A number and the place after it. A number above every size is held as CAP.
-#[derive(Drop)]
+#[derive(Clone, Copy)]
 pub enum Number {
     Value { value: u32, next: usize },
     Bad,
 }
 
 // A number that was judged, and the place after it.
-#[derive(Drop)]
+#[derive(Clone, Copy)]
 pub struct Judged {
     pub value: u32,
     pub next: usize,
 }
 
 // A code point and the place after the space or the LF that follows it.
-#[derive(Drop)]
+#[derive(Clone, Copy)]
 pub enum Point {
     More { point: u32, next: usize },
     Last { point: u32, next: usize },

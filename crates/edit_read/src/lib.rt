@@ -1,5 +1,7 @@
 // The reader of edit files: line by line from any bytes. All of a file is judged first, in one pass that writes nothing; an accepted
 // file's items and text then go into the rooms in a second pass over its item lines.
+#![tactic(auto)]
+
 ghost use Rattle.std.specs.Prelude.{◌≡◌, List, [], ◌+◌, ◌*◌, ◌≤◌, ◌<◌, length, drop};
 ghost use Rattle.room.specs.Placed.{answered};
 ghost use Rattle.edit_format.specs.Items.{Item};
@@ -14,14 +16,14 @@ use item_records::{dropped_number, plain_number, put_record};
 use refusal::Refusal;
 
 // How many code points an add line has, and the place after it.
-#[derive(Drop)]
+#[derive(Clone, Copy)]
 pub enum Points {
     Good { count: u32, next: usize },
     Bad,
 }
 
 // What the header says, and the place after it.
-#[derive(Drop)]
+#[derive(Clone, Copy)]
 pub struct Header {
     pub original: u32,
     pub result: u32,
@@ -29,7 +31,7 @@ pub struct Header {
     pub next: usize,
 }
 
-#[derive(Drop)]
+#[derive(Clone, Copy)]
 pub enum Heading {
     Good(Header),
     // The first bad line.
@@ -38,7 +40,7 @@ pub enum Heading {
 
 // The items so far: what they use of the original, what of it they keep, what they add, whether the last is a keep; and the place after
 // them.
-#[derive(Drop)]
+#[derive(Clone, Copy)]
 pub struct Sums {
     pub next: usize,
     pub used: u32,
@@ -47,20 +49,20 @@ pub struct Sums {
     pub joined: bool,
 }
 
-#[derive(Drop)]
+#[derive(Clone, Copy)]
 pub enum Turn {
     Good(Sums),
     Bad,
 }
 
 // A file's next place in the text's room, and the place of its next line.
-#[derive(Drop)]
+#[derive(Clone, Copy)]
 pub enum Spot {
     Good { start: usize, next: usize },
     Bad,
 }
 
-#[derive(Drop)]
+#[derive(Clone, Copy)]
 pub enum Verdict {
     // How many items, with how many code points; the original's length; the place of the first item's line.
     Accepted {
@@ -75,7 +77,7 @@ pub enum Verdict {
 }
 
 // How many items and how many code points a file has.
-#[derive(Drop)]
+#[derive(Clone, Copy)]
 pub enum FileRead {
     Counts { items: usize, text: usize },
     Refused(Refusal),

@@ -1,5 +1,7 @@
 // What the programs that run the vectors of edit files share: a case's file, text and items, in pieces, by which sizes at their limits are
 // said in short lines.
+#![tactic(auto)]
+
 ghost use Rattle.edit_vectors.specs.Cases.{Fits};
 
 mod pieces;
@@ -7,7 +9,7 @@ mod pieces;
 use vectors::Due;
 
 // How much of the rooms a case's file, text and items take, what is due, and the offset behind these lines.
-#[derive(Drop)]
+#[derive(Clone, Copy)]
 pub struct Case {
     pub file: usize,
     pub text: usize,

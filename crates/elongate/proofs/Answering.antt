@@ -31,7 +31,7 @@ use Rattle.elongate.specs.Currents.{none, cooked_on}
 use Rattle.elongate.specs.Places.{kind_of}
 use Rattle.elongate.specs.Writes.{Ready, Wrote}
 use Rattle.elongate.specs.Verdicts.{rooms_fit, raw_verdict, Elongates, verdict_on}
-use Rattle.elongate.proofs.Lengths.{pieces_length}
+use Rattle.elongate.proofs.Lengths.{pieces_length_lem}
 use Rattle.elongate.proofs.Arranging.{total_arranged, counts_total, length_total, lengths_total, good_arranged, runs_arranged}
 use Rattle.elongate.proofs.Joining.{some_runs, cooks_all, tokens_joined, joined_length, cooked_length}
 
@@ -47,7 +47,7 @@ module _ (n : ℕ) (spans keys joins : List ℕ) where
       rw (le-leb r.kind 2 g.0.known, le-leb (r.first + r.count) (pieces_lent spans keys joins) g.0.lent, text_by)
       in
       let f = run_length n (tokens_from spans keys r.first r.count) g.0.tokens in
-      let p = pieces_length spans keys joins r.first r.count in
+      let p = pieces_length_lem spans keys joins r.first r.count in
       omega (arith, e, f, p, used_all rs g.1)
 
 same_written : (r : Written) (m t : ℕ) → r.operations ≡ m → r.tokens ≡ t → r ≡ record { operations = m; tokens = t }

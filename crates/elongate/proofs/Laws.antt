@@ -55,28 +55,28 @@ module _ (p : ℕ → Bool) where
       (λ t. rw (chosen_no r (rs ++ ss) t, chosen_no r rs t) (chosen_append rs ss))
 
   -- joining keeps them: only runs of one kind join
-  joined_from : (c : Run) (rs : List Run) → chosen p (joined_from c rs) ≡ chosen p (c ∷ rs)
+  joined_from_lem : (c : Run) (rs : List Run) → chosen p (joined_from c rs) ≡ chosen p (c ∷ rs)
   unfolding joined_from
-  joined_from c [] = refl
-  joined_from c (r ∷ rs) =
+  joined_from_lem c [] = refl
+  joined_from_lem c (r ∷ rs) =
       by_test (joinable c.kind (last_right c.tokens) r) (chosen p (joined_from c (r ∷ rs)) ≡ chosen p (c ∷ r ∷ rs))
       (λ t.
       let k : c.kind ≡ r.kind =
       eqb-true c.kind r.kind (and_left (eqb c.kind r.kind) (not (eqb c.kind 2)) (and_left (eqb c.kind r.kind && not (eqb c.kind 2)) _ t))
       in
-      rw (joins_on c r rs t, joined_from (join c r) rs)
+      rw (joins_on c r rs t, joined_from_lem (join c r) rs)
       (by_test (p c.kind) (chosen p (join c r ∷ rs) ≡ chosen p (c ∷ r ∷ rs))
       (λ u. rw (chosen_yes (join c r) rs u, chosen_yes c (r ∷ rs) u, chosen_yes r rs (rw k at u)) (append_assoc c.tokens r.tokens (chosen p rs)))
       (λ u. rw (chosen_no (join c r) rs u, chosen_no c (r ∷ rs) u, chosen_no r rs (rw k at u)))))
       (λ t.
       rw (joins_apart c r rs t)
       (by_test (p c.kind) (chosen p (c ∷ joined_from r rs) ≡ chosen p (c ∷ r ∷ rs))
-      (λ u. rw (chosen_yes c (joined_from r rs) u, chosen_yes c (r ∷ rs) u, joined_from r rs))
-      (λ u. rw (chosen_no c (joined_from r rs) u, chosen_no c (r ∷ rs) u, joined_from r rs))))
+      (λ u. rw (chosen_yes c (joined_from r rs) u, chosen_yes c (r ∷ rs) u, joined_from_lem r rs))
+      (λ u. rw (chosen_no c (joined_from r rs) u, chosen_no c (r ∷ rs) u, joined_from_lem r rs))))
 
   joined_keeps : (rs : List Run) → chosen p (joined rs) ≡ chosen p rs
   joined_keeps [] = refl
-  joined_keeps (r ∷ rs) = joined_from r rs
+  joined_keeps (r ∷ rs) = joined_from_lem r rs
 
   front_same : (r : Run) (ss ts : List Run) → chosen p ss ≡ chosen p ts → chosen p (r ∷ ss) ≡ chosen p (r ∷ ts)
   front_same r ss ts e =

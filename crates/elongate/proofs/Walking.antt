@@ -25,7 +25,7 @@ use Rattle.elongate.specs.Currents.{none, extended, fresh, closed, cooked_on}
 use Rattle.elongate.specs.Writes.{Fits, Appended, Closed, Ready, Wrote}
 use Rattle.room.proofs.Placing.{placed_none, placed_length}
 use Rattle.elongate.proofs.Placing.{goes_on}
-use Rattle.elongate.proofs.Lengths.{pieces_append, run_sum, first_left, last_right}
+use Rattle.elongate.proofs.Lengths.{pieces_append, run_sum, first_left_lem, last_right_lem}
 use Rattle.elongate.proofs.Cooking.{cooks_joined, cooks_apart, consumes_most}
 
 -- one room: what it holds with the rest put behind is the answer x, and it has room for the rest
@@ -137,7 +137,7 @@ module _ (spans keys joins : List ℕ) (n : ℕ) (rs : List Raw) (o₀ s₀ k₀
       module _ (left right : Bool) (el : left ≡ eqb (get_or joins r.first 0 % 2) 1) (er : right ≡ eqb (get_or joins (r.first + r.count - 1) 0 / 2 % 2) 1) where
         begins_left : first_left ps ≡ left
         unfolding ps
-        begins_left = first_left spans keys joins r.first r.count good_run.some ∙ sym el
+        begins_left = first_left_lem spans keys joins r.first r.count good_run.some ∙ sym el
 
         ends_right : last_right ps ≡ right
         unfolding ps
@@ -145,7 +145,7 @@ module _ (spans keys joins : List ℕ) (n : ℕ) (rs : List Raw) (o₀ s₀ k₀
             let a : r.count ≡ suc (r.count - 1) = omega (arith, good_run.some) in
             let b : r.first + (r.count - 1) ≡ r.first + r.count - 1 = omega (arith, good_run.some) in
             let z : last_right (pieces_from spans keys joins r.first (suc (r.count - 1))) ≡ eqb (get_or joins (r.first + r.count - 1) 0 / 2 % 2) 1 =
-            rw (← b) (last_right spans keys joins r.first (r.count - 1))
+            rw (← b) (last_right_lem spans keys joins r.first (r.count - 1))
             in
             ap (λ (m : ℕ). last_right (pieces_from spans keys joins r.first m)) a ∙ (z ∙ sym er)
 

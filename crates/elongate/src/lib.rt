@@ -1,6 +1,8 @@
 // Raw operations made into a checked list: deletes before inserts in each stretch between retains,
 // neighbours joined where their tokens let them, then cooked: order, length, and the place of the
 // tokens in their room.
+#![tactic(auto)]
+
 ghost use Rattle.std.specs.Prelude.{◌≡◌, ◌+◌, ◌*◌, ◌/◌, ◌%◌, ◌<◌, ◌≤◌, ◌&&◌, not, length, get_or, eqb, leb};
 ghost use Rattle.raw_lists.specs.Raws.{raws_of, pieces_from};
 ghost use Rattle.elongate.specs.Elongated.{arranged, consumes};
@@ -11,7 +13,7 @@ ghost use Rattle.elongate.specs.Places.{kind_of, Lies, Stepped};
 ghost use Rattle.elongate.specs.declared.Place.TheVariants.{Deletes, Inserts};
 
 // How many operations and tokens elongating gave, or why none.
-#[derive(Drop)]
+#[derive(Clone, Copy)]
 pub enum Answer {
     Counts(Written),
     Refused(refusal::Refusal),
@@ -19,14 +21,14 @@ pub enum Answer {
 
 // A place in the walk through a raw list. Each stretch is walked twice: for its deletes, up to its
 // end, and for its inserts, which the retain at its end follows.
-#[derive(Drop)]
+#[derive(Clone, Copy)]
 pub enum Place {
     Deletes { start: usize, at: usize },
     Inserts { at: usize, end: usize },
 }
 
 // A step of the walk: an operation to take, by its index; or none at this place.
-#[derive(Drop)]
+#[derive(Clone, Copy)]
 pub enum Step {
     Take(usize, Place),
     Skip(Place),
@@ -85,7 +87,7 @@ fn advance(raw: &[usize], place: Place) -> Step
 
 // The operation that is being joined: what is known of it, and whether its last token is right
 // joinable. With no tokens it is none.
-#[derive(Drop)]
+#[derive(Clone, Copy)]
 pub struct Current {
     pub kind: usize,
     pub order: usize,
@@ -205,7 +207,7 @@ fn append(
 }
 
 // How many operations and tokens were written.
-#[derive(Drop)]
+#[derive(Clone, Copy)]
 pub struct Written {
     pub operations: usize,
     pub tokens: usize,

@@ -1,4 +1,6 @@
 // A diff item in its flat slice: three numbers with a sign, its kind, its number or start, and its length.
+#![tactic(auto)]
+
 ghost use Rattle.std.specs.Prelude.{◌≡◌, [], ◌∷◌, ◌+◌, ◌<◌, ◌≤◌, length, pos, neg_ℤ};
 ghost use Rattle.room.specs.Placed.{placed};
 

@@ -1,5 +1,7 @@
 // A room is full of marks before a call, 165 in each byte of the first four; after it the room begins with the answer, and the marks
 // behind that stand. For the programs that run vectors: rooms that are longer than asked, just long enough and one number short.
+#![tactic(auto)]
+
 ghost use Rattle.std.specs.Prelude.{◌≤◌};
 
 pub const MARK_U8: u8 = 165;

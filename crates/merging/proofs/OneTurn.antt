@@ -142,6 +142,9 @@ lost_r_is R o l (deleted o' l') ls q e h = omega arith
 
 held_d : (o l : ℕ) (v : Remembered) (ls : List Op) (q : ℕ) → Held v (Delete o l ∷ ls) q → Held v ls q
 held_d o l (deleted o' l') ls q h = tt
+held_d o l nothing ls q h = elim h [ ]
+held_d o l (retained _ _) ls q h = elim h [ ]
+held_d o l (inserted _ _ _) ls q h = elim h [ ]
 
 step_delete : (R : Rules) (o l : ℕ) (u : Remembered) (ls : List Op) (v : Remembered) (rs : List Op) (p q n : ℕ)
     → Good u (Delete o l ∷ ls) v rs p q n → p ≤ q → StepOf R (Delete o l) ls u v rs q n
@@ -316,6 +319,8 @@ module _ (R : Rules) (o l : ℕ) (u : Remembered) (ls : List Op) (v : Remembered
 pub held_any : (o l : ℕ) (v : Remembered) (ls ns : List Op) (q : ℕ) → Held v (Retain o l ∷ ls) q → (q ≤ o + l → ⊥) → Held v ns q
 held_any o l (deleted o' l') ls ns q h no' = tt
 held_any o l (retained o' l') ls ns q h no' = absurd (no' h)
+held_any o l nothing ls ns q h no' = elim h [ ]
+held_any o l (inserted _ _ _) ls ns q h no' = elim h [ ]
 
 step_behind : (R : Rules) (o l : ℕ) (u : Remembered) (ls : List Op) (v : Remembered) (rs : List Op) (p q n : ℕ)
     → Good u (Retain o l ∷ ls) v rs p q n → p < q → StepOf R (Retain o l) ls u v rs q n
@@ -375,6 +380,9 @@ ends_other R o f k (inserted o' ks ms) q e =
 
 held_other : (R : Rules) (o f k : ℕ) (v : Remembered) (ls : List Op) (q : ℕ) → Held v (Insert o f k ∷ ls) q → Held (other_of R (Insert o f k) v) ls q
 held_other R o f k (deleted o' l') ls q h = tt
+held_other R o f k nothing ls q h = elim h [ ]
+held_other R o f k (retained _ _) ls q h = elim h [ ]
+held_other R o f k (inserted _ _ _) ls q h = elim h [ ]
 
 step_insert : (R : Rules) (o f k : ℕ) (u : Remembered) (ls : List Op) (v : Remembered) (rs : List Op) (p q n : ℕ)
     → Good u (Insert o f k ∷ ls) v rs p q n → p ≤ q → StepOf R (Insert o f k) ls u v rs q n

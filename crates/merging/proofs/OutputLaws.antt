@@ -26,10 +26,10 @@ text_more lent side (Insert o f n) ps ls e = ap (λ (t : List ℕ). spelling_of 
 text_more lent side (Retain o l) ps ls e = ap (λ (t : List ℕ). words_of lent (Retain o l) ++ t) e
 
 -- unchanged and added spans spell the text
-pub history_text : (lent : Lent) (xs : List Out) → spelled_by of_text (history_of lent xs) ≡ text_of lent (ops_in xs)
+pub history_text_lem : (lent : Lent) (xs : List Out) → spelled_by of_text (history_of lent xs) ≡ text_of lent (ops_in xs)
 unfolding history_of ops_in
-history_text lent [] = unfold spelled_by text_of in refl
-history_text lent (x ∷ xs) = text_more lent x.side x.op (history_of lent xs) (ops_in xs) (history_text lent xs)
+history_text_lem lent [] = unfold spelled_by text_of in refl
+history_text_lem lent (x ∷ xs) = text_more lent x.side x.op (history_of lent xs) (ops_in xs) (history_text_lem lent xs)
 
 -- a part of the original, and what is behind it
 part_drop : (o l : ℕ) (xs : List ℕ) → take l (drop o xs) ++ drop (o + l) xs ≡ drop o xs

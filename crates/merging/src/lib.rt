@@ -1,10 +1,12 @@
 // What the merge's definitions and its code both speak of: the answers of the order rule, operations as the merge takes them,
 // and what a turn does to the cursors of its side. The merge itself is a definition here, see specs/ and proofs/.
+#![tactic(auto)]
+
 ghost use Rattle.std.specs.Prelude.{◌≡◌};
 ghost use Rattle.merging.specs.OrderRule.{then_by};
 ghost use Rattle.merging.specs.Operations.{order_of, span_of, op_of};
 
-#[derive(Drop)]
+#[derive(Clone, Copy)]
 pub enum Order {
     Less,
     Equal,
@@ -25,7 +27,7 @@ impl Order {
 }
 
 // An insert is a range of the lent tokens.
-#[derive(Drop)]
+#[derive(Clone, Copy)]
 pub enum Op {
     Delete {
         order: usize,
@@ -98,7 +100,7 @@ pub fn span_of(a: Op) -> usize
 // What a turn does to the cursors of its side. The operation covers `length` of the side's own text after `seen`. It lost
 // `removed` at its front, which stands in the merged text from `start` on, `shared` long; the rest goes to the end of the merged
 // text, at `merged`.
-#[derive(Drop)]
+#[derive(Clone, Copy)]
 pub struct Shift {
     pub seen: usize,
     pub length: usize,

@@ -55,14 +55,14 @@ pub below_both : (bits c n : ℕ) → bit_or bits c < n → (bits < n) × (c < n
 below_both bits c n h = omega (arith, or_add_and bits c, and_le_l bits c, and_le_r bits c)
 
 -- where all are code points, each is
-pub first_of : (x : ℕ) (s : List ℕ) (t : Bool) → is_point x ≡ t → scalars (x ∷ s) ≡ suc (length s) → (is_point x ≡ true) × (scalars s ≡ length s)
-first_of x s true q e = (q, omega (arith, first_good x s q))
-first_of x s false q e = absurd (omega (arith, first_bad x s q))
+pub first_of_lem : (x : ℕ) (s : List ℕ) (t : Bool) → is_point x ≡ t → scalars (x ∷ s) ≡ suc (length s) → (is_point x ≡ true) × (scalars s ≡ length s)
+first_of_lem x s true q e = (q, omega (arith, first_good x s q))
+first_of_lem x s false q e = absurd (omega (arith, first_bad x s q))
 
 pub each : (s : List ℕ) (i : ℕ) → scalars s ≡ length s → i < length s → is_point (get_or s i 0) ≡ true
 each [] i e h = absurd (omega arith)
-each (x ∷ s) zero e h = (first_of x s (is_point x) refl e).0
-each (x ∷ s) (suc i) e h = each s i (first_of x s (is_point x) refl e).1 (omega arith)
+each (x ∷ s) zero e h = (first_of_lem x s (is_point x) refl e).0
+each (x ∷ s) (suc i) e h = each s i (first_of_lem x s (is_point x) refl e).1 (omega arith)
 
 -- a check that goes on at code points and stops at the first number that is none
 module _
@@ -72,7 +72,7 @@ module _
     good_from : (i : ℕ) (s : List ℕ) → length s ≤ scalars s → check i s ≡ fine
     good_from i [] h = ends i
     good_from i (x ∷ s) h =
-        let o = first_of x s (is_point x) refl (omega (arith, scalars_most (x ∷ s))) in
+        let o = first_of_lem x s (is_point x) refl (omega (arith, scalars_most (x ∷ s))) in
         on i x s o.0 ∙ good_from (i + 1) s (omega (arith, o.1))
 
     bad-next :

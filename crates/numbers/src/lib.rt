@@ -1,4 +1,6 @@
 // Numbers: which are code points and how far those of a text are, an order as a number, and a number in a wider type. A cast is a function, so that a proof speaks of the number alone.
+#![tactic(auto)]
+
 ghost use Rattle.std.specs.Prelude.{◌≡◌, true, ◌<◌, ◌≤◌, length};
 ghost use Rattle.numbers.specs.Points.{is_point, scalars, scalars_from};
 ghost use Rattle.numbers.specs.Steps.{step};

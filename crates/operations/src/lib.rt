@@ -1,5 +1,7 @@
 // A list lent as a slice of operation structs: refusal 2 and the length of its text, by a walk from
 // the first to the last. What a walk does at one operation is a function of its own, on values.
+#![tactic(auto)]
+
 ghost use Rattle.std.specs.Prelude.{◌≡◌, ◌+◌, min};
 ghost use Rattle.sizes.specs.Texts.{text_length};
 ghost use Rattle.shapes.specs.Tiling.{tiling_of};
@@ -7,7 +9,7 @@ ghost use Rattle.operations.specs.Folds.{moved_to, stopped_at, tile_step, tile_a
 
 // A walk over the tiles: the original's length, the operations seen, how much they consume, and
 // whether each one was in its place. It stays at the first that is not.
-#[derive(Drop)]
+#[derive(Clone, Copy)]
 pub struct Tile {
     pub n: usize,
     pub index: usize,

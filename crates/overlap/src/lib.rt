@@ -1,17 +1,19 @@
 // The overlap of inserts: the longest beginning of one list of keys that occurs in another.
+#![tactic(auto)]
+
 pub mod find_longest_prefix_contained_within;
 
 pub use find_longest_prefix_contained_within::{fill, scan};
 
 // A part of old, its end past its last key.
-#[derive(Drop)]
+#[derive(Clone, Copy)]
 pub struct Range {
     pub start: usize,
     pub end: usize,
 }
 
 // The overlap, or why there is no answer.
-#[derive(Drop)]
+#[derive(Clone, Copy)]
 pub enum Found {
     Range { start: usize, end: usize },
     Refused(refusal::Refusal),

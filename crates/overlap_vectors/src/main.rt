@@ -1,6 +1,8 @@
 // Runs the bench sheets of the overlap and the oracle's overlaps, which it reads from standard input: accepted ones, then refused ones. A
 // case is three lines: old keys, new keys, and the answer, `0 start end` or a refusal's number. Each is run with a work room that is
 // ample, with the one asked, and with one a number too short.
+#![tactic(auto)]
+
 use overlap::Found;
 use overlap::find_longest_prefix_contained_within::find_longest_prefix_contained_within;
 use vectors::Due;
@@ -30,7 +32,7 @@ fn replay(name: &[u8], bytes: &[u8]) {
 }
 
 // Whether the call gives the case's answer, and the offset behind the case.
-#[derive(Drop)]
+#[derive(Clone, Copy)]
 struct Case {
     agrees: bool,
     next: usize,

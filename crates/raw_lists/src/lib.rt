@@ -1,10 +1,12 @@
 // Raw lists: their records and tokens, and which lists are refused for their sizes or their shape.
+#![tactic(auto)]
+
 ghost use Rattle.std.specs.Prelude.{◌≡◌, ◌+◌, ◌*◌, ◌≤◌, min, length, leb};
 ghost use Rattle.raw_lists.specs.Raws.{raw_at, raws_of, pieces_lent};
 ghost use Rattle.raw_lists.specs.Checks.{total, claimed_by, text_by, raw_fits, is_raw, shapes_from};
 
 // A raw operation: its kind, and its tokens by the place of the first and their count.
-#[derive(Drop)]
+#[derive(Clone, Copy)]
 pub struct Raw {
     pub kind: usize,
     pub first: usize,

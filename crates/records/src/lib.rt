@@ -2,12 +2,14 @@
 // operation is six numbers, a cursor two; a token is two numbers of one slice and a key of another.
 // A slice that ends inside a record does not lend it. Kinds: 0 delete, 1 insert, 2 retain. Sides: 0
 // left, 1 right.
+#![tactic(auto)]
+
 ghost use Rattle.std.specs.Prelude.{◌≡◌, ◌+◌, ◌*◌, ◌<◌, ◌≤◌, length};
 ghost use Rattle.records.specs.Operations.{operation_at, put_operation};
 ghost use Rattle.records.specs.Tokens.{token_at, tokens_lent};
 ghost use Rattle.records.specs.Cursors.{cursor_at, put_cursor, at_index};
 
-#[derive(Drop)]
+#[derive(Clone, Copy)]
 pub struct Operation {
     pub kind: usize,
     pub order: usize,
@@ -17,14 +19,14 @@ pub struct Operation {
     pub count: usize,
 }
 
-#[derive(Drop)]
+#[derive(Clone, Copy)]
 pub struct Token {
     pub start: u32,
     pub length: u32,
     pub key: u32,
 }
 
-#[derive(Drop)]
+#[derive(Clone, Copy)]
 pub struct Cursor {
     pub identity: usize,
     pub index: usize,

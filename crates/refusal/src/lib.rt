@@ -1,10 +1,12 @@
 // The ten refusals, and the answer that most calls give. The paper's number of a refusal and the
 // values it carries are definitions of specs/, and every statement about a refusal speaks by them.
+#![tactic(auto)]
+
 ghost use Rattle.std.specs.Prelude.{◌≡◌, [], ◌∷◌};
 ghost use Rattle.refusal.specs.Numbers.{number, values, padded};
 
 // Fields are what the paper says a refusal carries.
-#[derive(Drop)]
+#[derive(Clone, Copy)]
 pub enum Refusal {
     // 1: an operation or a diff item that is no record of its kind.
     Record {
@@ -47,7 +49,7 @@ pub enum Refusal {
 }
 
 // How many code points or bytes an answer has, or why there is none.
-#[derive(Drop)]
+#[derive(Clone, Copy)]
 pub enum Counted {
     Count(usize),
     Refused(Refusal),
@@ -76,7 +78,7 @@ pub fn number_of(refusal: Refusal) -> usize
 }
 
 // The values that a refusal carries, 0 after the last: what a caller of another language is handed.
-#[derive(Drop)]
+#[derive(Clone, Copy)]
 pub struct Values {
     pub first: u64,
     pub second: u64,

@@ -1,4 +1,6 @@
 // The replay of a diff over an original: plain, as from_diff does it, and covering, which refuses a diff that leaves text unmentioned.
+#![tactic(auto)]
+
 ghost use Rattle.std.specs.Prelude.{◌≡◌, ◌≤◌, length};
 ghost use Rattle.room.specs.Placed.{Put};
 ghost use Rattle.replay.specs.Answers.{diff, text_of, always, plain, covering, judged, length_of, Replayed};
@@ -8,7 +10,7 @@ use refusal::{Counted, Refusal};
 use string_builder::{retained, stop_at};
 
 // What the checks of a plain replay find: how much is left unmentioned and how long the replayed text is, or why there is none.
-#[derive(Drop)]
+#[derive(Clone, Copy)]
 pub enum Judged {
     Fine { left: usize, length: usize },
     Stopped(Refusal),

@@ -1,4 +1,6 @@
 // Writing into lent rooms. A run of values is put at a place; what stands before and past it is as it was. One function for each width: they differ in the element only, and share their laws.
+#![tactic(auto)]
+
 ghost use Rattle.std.specs.Prelude.{◌+◌, ◌≤◌, length};
 ghost use Rattle.room.specs.Placed.{Put};
 

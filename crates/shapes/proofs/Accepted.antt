@@ -102,10 +102,10 @@ all_in n (t ∷ ts) h =
       ),
     )
 
-run_good : (n : ℕ) (ts : List Token) → AllIn n ts → run_good n ts ≡ true
+run_good_lem : (n : ℕ) (ts : List Token) → AllIn n ts → run_good n ts ≡ true
 unfolding AllIn run_good
-run_good n [] h = refl
-run_good n (t ∷ ts) h = rw (lt-ltb 0 t.length h.0, le-leb (t.start + t.length) n h.1.0) (run_good n ts h.1.1)
+run_good_lem n [] h = refl
+run_good_lem n (t ∷ ts) h = rw (lt-ltb 0 t.length h.0, le-leb (t.start + t.length) n h.1.0) (run_good_lem n ts h.1.1)
 
 module _ (n : ℕ) (spans keys : List ℕ) (o : Operation) where
   insert_of : o.kind ≡ 1 → is_run n spans keys o ≡ true → Insert n spans keys o
@@ -155,7 +155,7 @@ module _ (n : ℕ) (spans keys : List ℕ) where
         eq-eqb o.kind 1 i.kind,
         lt-ltb 0 o.count i.some,
         le-leb (o.first + o.count) (tokens_lent spans keys) i.lent,
-        run_good n (tokens_from spans keys o.first o.count) i.tokens,
+        run_good_lem n (tokens_from spans keys o.first o.count) i.tokens,
       )
   record_yes o s (inr p) =
       ⊎_elim
@@ -244,17 +244,17 @@ insert_only n spans keys o k (inl i) = i
 insert_only n spans keys o k (inr p) = absurd (⊎_elim (λ (e : o.kind ≡ 0). omega arith) (λ (e : o.kind ≡ 2). omega arith) p.kind)
 
 module _ (original text spans keys : List ℕ) where
-  text_from : (os : List Operation) (at : ℕ) → Shapes (length text) spans keys os → Tiles (length original) os at
+  text_from_lem : (os : List Operation) (at : ℕ) → Shapes (length text) spans keys os → Tiles (length original) os at
       → length (text_from original text spans keys os at) ≡ text_length (length text) spans keys os
   unfolding Shapes Tiles text_from total
-  text_from [] at s t = refl
-  text_from (o ∷ os) at s t =
+  text_from_lem [] at s t = refl
+  text_from_lem (o ∷ os) at s t =
       elim (ℕ_discrete o.kind 1) [
         | yes k ↦
             let i : Insert (length text) spans keys o = insert_only (length text) spans keys o k s.1.0 in
             let e = spelled_length text (tokens_from spans keys o.first o.count) i.tokens in
             let f = inserted_length (length text) spans keys o i in
-            let g = text_from os at s.1.1 (rw (eq-eqb o.kind 1 k, Tiles) at t) in
+            let g = text_from_lem os at s.1.1 (rw (eq-eqb o.kind 1 k, Tiles) at t) in
             rw (
               eq-eqb o.kind 1 k,
               text_from,
@@ -266,7 +266,7 @@ module _ (original text spans keys : List ℕ) where
             ) (omega arith)
         | no k ↦
             let p : (o.order ≡ at) × ((at + o.length ≤ length original) × Tiles (length original) os (at + o.length)) = rw (ne_eqb o.kind 1 k, Tiles) at t in
-            let g = text_from os (at + o.length) s.1.1 p.1.1 in
+            let g = text_from_lem os (at + o.length) s.1.1 p.1.1 in
             let e : length (take o.length (drop at original)) ≡ o.length = rw (length-take, length-drop) (omega (arith, p.1.0)) in
             let f = inserted_none (length text) spans keys o k in
             elim (ℕ_discrete o.kind 2) [
@@ -284,9 +284,9 @@ module _ (original text spans keys : List ℕ) where
             ]
       ]
 
-  pub text_length : (l : Limits) (os : List Operation) (cs : List Cursor) → AcceptedList l original text spans keys os cs
+  pub text_length_lem : (l : Limits) (os : List Operation) (cs : List Cursor) → AcceptedList l original text spans keys os cs
       → length (list_text original text spans keys os) ≡ text_length (length text) spans keys os
-  text_length l os cs a = text_from os 0 a.shapes a.tiles
+  text_length_lem l os cs a = text_from_lem os 0 a.shapes a.tiles
 
 -- below the cap of the code's sums, and of any room
 pub text_most : (l : Limits) (original text spans keys : List ℕ) (os : List Operation) (cs : List Cursor) → AcceptedList l original text spans keys os cs

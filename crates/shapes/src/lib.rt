@@ -1,4 +1,6 @@
 // Refusals 1, 2 and 5 of a list: its records, its tiling of the original, its cursors.
+#![tactic(auto)]
+
 ghost use Rattle.std.specs.Prelude.{◌≡◌, ◌+◌, ◌<◌, ◌≤◌};
 ghost use Rattle.records.specs.Operations.{operations_of};
 ghost use Rattle.records.specs.Tokens.{tokens_lent, tokens_from};

@@ -1,5 +1,7 @@
 // Refusal 3 of lists: their sizes, and the length of a list's text. Of the caller only its limits are
 // asked, that they are below the cap: every sum stops where it cannot grow to a wrong answer any more.
+#![tactic(auto)]
+
 ghost use Rattle.std.specs.Prelude.{◌≡◌, ◌+◌, ◌≤◌, min, ◌&&◌};
 ghost use Rattle.records.specs.Operations.{operations_of};
 ghost use Rattle.records.specs.Tokens.{tokens_lent, tokens_from};
@@ -10,7 +12,7 @@ ghost use Rattle.sizes.specs.Sizes.{Small, merging, otherwise, lent_fits, list_f
 use numbers::wide;
 
 // The sizes of one list.
-#[derive(Drop)]
+#[derive(Clone, Copy)]
 pub struct Limits {
     pub operations: usize,
     pub tokens: usize,

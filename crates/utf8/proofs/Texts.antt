@@ -11,13 +11,13 @@ use lib.Seq.{take-add, take-length, drop-drop, drop-append_seam, take-append_sea
 use Rattle.utf8_read.specs.Grammar.{utf8_char}
 use Rattle.numbers.specs.Points.{is_point}
 use Rattle.utf8_read.specs.Table.{encode, decode}
-use Rattle.utf8_read.specs.Reading.{good_from, good_end, points_from, points}
+use Rattle.utf8_read.specs.Reading.{good_from, good_end, points_from_lem, points}
 use Rattle.utf8_read.proofs.Sequences.{At, found, fits}
 use Rattle.utf8_read.proofs.Steps.{next_good, next_points, stop_good, stop_points, good_most}
 use Rattle.numbers.specs.Points.{scalars}
 use Rattle.utf8_write.specs.Writing.{encode_all}
 use Rattle.utf8_write.proofs.Encodes.{parts}
-use Rattle.numbers.proofs.Scalar.{first_good, first_of, no_scalars}
+use Rattle.numbers.proofs.Scalar.{first_good, first_of_lem, no_scalars}
 use Rattle.utf8.proofs.Sequence.{encoded_at, scalar_at, stands_first, decodes}
 
 no_bytes : encode_all [] ≡ []
@@ -30,8 +30,8 @@ first_bytes x xs = refl
 
 -- what reading from a place on finds
 record Found (s : List ℕ) (at : ℕ) : Type 0 where
-  bytes : encode_all (points_from 0 (drop at s)) ≡ take (good_from 0 (drop at s)) (drop at s)
-  whole : scalars (points_from 0 (drop at s)) ≡ length (points_from 0 (drop at s))
+  bytes : encode_all (points_from_lem 0 (drop at s)) ≡ take (good_from 0 (drop at s)) (drop at s)
+  whole : scalars (points_from_lem 0 (drop at s)) ≡ length (points_from_lem 0 (drop at s))
   bad : utf8_char (drop (at + good_from 0 (drop at s)) s) ≡ 0
 
 nothing : (s : List ℕ) (at : ℕ) → utf8_char (drop at s) ≡ 0 → Found s at
@@ -51,15 +51,15 @@ something {s} {at} {l} a f =
     record {
       bytes =
           ap encode_all (next_points a)
-          ∙ first_bytes (decode q) (points_from 0 (drop (at + l) s))
-          ∙ ap (λ (r : List ℕ). r ++ encode_all (points_from 0 (drop (at + l) s))) (sym (encoded_at a))
+          ∙ first_bytes (decode q) (points_from_lem 0 (drop (at + l) s))
+          ∙ ap (λ (r : List ℕ). r ++ encode_all (points_from_lem 0 (drop (at + l) s))) (sym (encoded_at a))
           ∙ ap (λ (r : List ℕ). q ++ r) f.bytes
           ∙ ap (λ (r : List ℕ). q ++ take (good_from 0 (drop (at + l) s)) r) (sym (drop-drop l at s))
           ∙ sym (take-add l (good_from 0 (drop (at + l) s)) (drop at s))
           ∙ ap (λ (n : ℕ). take n (drop at s)) (sym g);
       whole =
           ap scalars (next_points a)
-          ∙ first_good (decode q) (points_from 0 (drop (at + l) s)) (scalar_at a)
+          ∙ first_good (decode q) (points_from_lem 0 (drop (at + l) s)) (scalar_at a)
           ∙ ap suc f.whole
           ∙ sym (ap length (next_points a));
       bad = ap (λ (n : ℕ). utf8_char (drop n s)) (next_good a) ∙ f.bad;
@@ -112,10 +112,10 @@ first_read x t e =
 
 -- reading what was written gives the same code points
 pub read_back : (xs : List ℕ) → scalars xs ≡ length xs → (good_end (encode_all xs) ≡ length (encode_all xs)) × (points (encode_all xs) ≡ xs)
-unfolding good_from points_from
+unfolding good_from points_from_lem
 read_back [] e = (rw no_bytes, rw no_bytes)
 read_back (x ∷ xs) e =
-    let o = first_of x xs (is_point x) refl e in
+    let o = first_of_lem x xs (is_point x) refl e in
     let r = read_back xs o.1 in
     let f = first_read x (encode_all xs) o.0 in (
       ap good_end (first_bytes x xs)
@@ -129,7 +129,7 @@ read_back (x ∷ xs) e =
 scalars_join : (xs ys : List ℕ) → scalars xs ≡ length xs → scalars ys ≡ length ys → scalars (xs ++ ys) ≡ length (xs ++ ys)
 scalars_join [] ys e f = f
 scalars_join (x ∷ xs) ys e f =
-    let o = first_of x xs (is_point x) refl e in
+    let o = first_of_lem x xs (is_point x) refl e in
     first_good x (xs ++ ys) o.0 ∙ ap suc (scalars_join xs ys o.1 f)
 
 -- a good text followed by a good text is good, and its code points are theirs

@@ -1,5 +1,7 @@
 // UTF-8 (RFC 3629): text read from bytes and written to bytes, and how much room each takes. Nothing
 // that is not UTF-8 passes, nothing that is is refused; a refusal writes nothing.
+#![tactic(auto)]
+
 ghost use Rattle.std.specs.Prelude.{◌≡◌, length};
 ghost use Rattle.utf8_read.specs.Reading.{points};
 ghost use Rattle.utf8_write.specs.Writing.{encode_all};

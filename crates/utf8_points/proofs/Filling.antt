@@ -11,7 +11,7 @@ use Rattle.room.specs.Placed.{placed, answered, Put}
 use Rattle.room.proofs.Answers.{one_more, same_room}
 use Rattle.utf8_read.specs.Grammar.{utf8_char}
 use Rattle.utf8_read.specs.Table.{decode}
-use Rattle.utf8_read.specs.Reading.{good_from, good_end, points_from, points}
+use Rattle.utf8_read.specs.Reading.{good_from, good_end, points_from_lem, points}
 use Rattle.utf8_read.specs.Window.{Ascii}
 use Rattle.utf8_points.specs.Found.{Pointed}
 use Rattle.utf8_points.specs.declared.Point.{Point}
@@ -19,16 +19,16 @@ use Rattle.utf8_read.proofs.Sequences.{At, fits, stands, front_1, value_1}
 use Rattle.utf8_read.proofs.Steps.{next_good, next_points, end_points, on}
 
 -- ASCII bytes are their own code points
-ascii_points : (m : ℕ) (s : List ℕ) (at : ℕ) → at + m ≤ length s → Ascii s at (at + m) → points_from 0 (drop at s) ≡ take m (drop at s) ++ points_from 0 (drop (at + m) s)
+ascii_points : (m : ℕ) (s : List ℕ) (at : ℕ) → at + m ≤ length s → Ascii s at (at + m) → points_from_lem 0 (drop at s) ≡ take m (drop at s) ++ points_from_lem 0 (drop (at + m) s)
 ascii_points zero s at h f = rw (add-zero at)
 ascii_points (suc m) s at h f =
     let a : At s at 1 = At.one (f at (omega arith) (omega arith)) (omega arith) in
     let r = ascii_points m s (at + 1) (omega arith) (λ k l g. f k (omega arith) (omega arith)) in
     let e : at + 1 + m ≡ at + suc m = omega arith in
     next_points a
-    ∙ ap (λ (x : ℕ). x ∷ points_from 0 (drop (at + 1) s)) (value_1 s at (omega arith))
-    ∙ ap (λ (t : List ℕ). get_or s at 0 ∷ t) (r ∙ ap (λ (n : ℕ). take m (drop (at + 1) s) ++ points_from 0 (drop n s)) e)
-    ∙ ap (λ (t : List ℕ). take (suc m) t ++ points_from 0 (drop (at + suc m) s)) (sym (front_1 s at (omega arith)))
+    ∙ ap (λ (x : ℕ). x ∷ points_from_lem 0 (drop (at + 1) s)) (value_1 s at (omega arith))
+    ∙ ap (λ (t : List ℕ). get_or s at 0 ∷ t) (r ∙ ap (λ (n : ℕ). take m (drop (at + 1) s) ++ points_from_lem 0 (drop n s)) e)
+    ∙ ap (λ (t : List ℕ). take (suc m) t ++ points_from_lem 0 (drop (at + suc m) s)) (sym (front_1 s at (omega arith)))
 
 ascii_good : (m : ℕ) (s : List ℕ) (at : ℕ) → at + m ≤ length s → Ascii s at (at + m) → at + good_from 0 (drop at s) ≡ at + m + good_from 0 (drop (at + m) s)
 ascii_good zero s at h f = rw (add-zero at)
@@ -59,7 +59,7 @@ module _ (all d o : List ℕ) (n : ℕ) (a r : List ℕ) (h : n ≤ length all) 
 pub record Filling (s d o : List ℕ) (at n : ℕ) : Type 0 where
   pub most : at ≤ length s
   pub good : at + good_from 0 (drop at s) ≡ length s
-  pub rest : drop n (points s) ≡ points_from 0 (drop at s)
+  pub rest : drop n (points s) ≡ points_from_lem 0 (drop at s)
   pub count : n ≤ length (points s)
   pub room : o ≡ answered (take n (points s)) d
 
@@ -72,12 +72,12 @@ module _ {s d o : List ℕ} {at n : ℕ} (f : Filling s d o at n) where
       let m : ℕ = e - at in
       let q : at + m ≡ e = omega arith in
       let a : List ℕ = take m (drop at s) in
-      let z = points_from 0 (drop (at + m) s) in
+      let z = points_from_lem 0 (drop (at + m) s) in
       let t : drop n (points s) ≡ a ++ z = f.rest ∙ ascii_points m s at (omega arith) (λ k i j. p k i (omega arith)) in
       record {
         most = h;
         good = ap (λ (k : ℕ). k + good_from 0 (drop k s)) (sym q) ∙ sym (ascii_good m s at (omega arith) (λ k i j. p k i (omega arith))) ∙ f.good;
-        rest = rw w.next (left_after (points s) d o n a z f.count t f.room) ∙ ap (λ (k : ℕ). points_from 0 (drop k s)) q;
+        rest = rw w.next (left_after (points s) d o n a z f.count t f.room) ∙ ap (λ (k : ℕ). points_from_lem 0 (drop k s)) q;
         count = rw w.next (most_after (points s) d o n a z f.count t f.room);
         room = rw w.next (w.stands ∙ more_there (points s) d o n a z f.count t f.room);
       }
@@ -86,17 +86,17 @@ module _ {s d o : List ℕ} {at n : ℕ} (f : Filling s d o at n) where
   as_long h = rw f.room (same_room (take n (points s)) d (omega (arith, length-take-le n (points s) f.count, f.count)))
 
   module _ {l : ℕ} (a : At s at l) (h : length (points s) ≤ length d) where
-    left_here : drop n (points s) ≡ (decode (take l (drop at s)) ∷ []) ++ points_from 0 (drop (at + l) s)
+    left_here : drop n (points s) ≡ (decode (take l (drop at s)) ∷ []) ++ points_from_lem 0 (drop (at + l) s)
     left_here = f.rest ∙ next_points a
 
     pub below : n < length (points s)
-    below = omega (arith, most_after (points s) d o n (decode (take l (drop at s)) ∷ []) (points_from 0 (drop (at + l) s)) f.count left_here f.room)
+    below = omega (arith, most_after (points s) d o n (decode (take l (drop at s)) ∷ []) (points_from_lem 0 (drop (at + l) s)) f.count left_here f.room)
 
     pub by_point : (x : ℕ) → x ≡ decode (take l (drop at s)) → Filling s d (set o n x) (at + l) (n + 1)
     unfolding placed
     by_point x e =
         let y : List ℕ = decode (take l (drop at s)) ∷ [] in
-        let z = points_from 0 (drop (at + l) s) in
+        let z = points_from_lem 0 (drop (at + l) s) in
         record {
           most = (fits a).ends;
           good = sym (next_good a) ∙ f.good;
@@ -111,9 +111,9 @@ module _ {s d o : List ℕ} {at n : ℕ} (f : Filling s d o at n) where
   pub run_fits : (e : ℕ) → at ≤ e → e ≤ length s → Ascii s at e → length (points s) ≤ length d → n + length (take (e - at) (drop at s)) ≤ length o
   run_fits e l h p w =
       let m : ℕ = e - at in
-      let t : drop n (points s) ≡ take m (drop at s) ++ points_from 0 (drop (at + m) s)
+      let t : drop n (points s) ≡ take m (drop at s) ++ points_from_lem 0 (drop (at + m) s)
       = f.rest ∙ ascii_points m s at (omega arith) (λ k i j. p k i (omega arith)) in
-      omega (arith, as_long w, most_after (points s) d o n (take m (drop at s)) (points_from 0 (drop (at + m) s)) f.count t f.room)
+      omega (arith, as_long w, most_after (points s) d o n (take m (drop at s)) (points_from_lem 0 (drop (at + m) s)) f.count t f.room)
 
   -- the good sequence at the place, and the room with its code point
   module _ (l : at < length s) where

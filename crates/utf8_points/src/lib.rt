@@ -1,5 +1,7 @@
 // UTF-8, read (RFC 3629): how many code points a good text holds, and the code points, put into a room.
 // Counting goes by many bytes at a time, which the compiler makes vectors of, and so does ASCII.
+#![tactic(auto)]
+
 ghost use Rattle.std.specs.Prelude.{◌≡◌, [], ◌∷◌, ◌+◌, ◌%◌, ◌<◌, ◌≤◌, ◌^◌, length, drop};
 ghost use Rattle.room.specs.Placed.{Put, answered};
 ghost use Rattle.utf8_read.specs.Grammar.{utf8_char};
@@ -46,7 +48,7 @@ pub fn starts_of(bytes: &[u8]) -> usize
 }
 
 // A code point and how many bytes it takes.
-#[derive(Drop)]
+#[derive(Clone, Copy)]
 pub struct Point {
     pub code: u32,
     pub len: usize,

@@ -10,7 +10,7 @@ use lib.ListN.{length, take, drop, length-drop, drop_of_length-le}
 use lib.Seq.{drop-drop}
 use Rattle.utf8_read.specs.Grammar.{tail, utf8_char}
 use Rattle.utf8_read.specs.Table.{decode}
-use Rattle.utf8_read.specs.Reading.{good_from, good_end, points_from, points}
+use Rattle.utf8_read.specs.Reading.{good_from, good_end, points_from_lem, points}
 use Rattle.utf8_read.specs.Window.{starts}
 use Rattle.utf8_read.proofs.Rules.{tail_in, tail_below, tail_above}
 use Rattle.utf8_read.proofs.Sequences.{At, found, stands, fits, front_1, front_2, front_3, front_4}
@@ -21,8 +21,8 @@ skip_good zero s h = omega arith
 skip_good (suc k) [] h = absurd (omega arith)
 skip_good (suc k) (b ∷ s) h = omega (arith, skip_good k s (omega arith))
 
-skip_points : (k : ℕ) (s : List ℕ) → k ≤ length s → points_from k s ≡ points_from 0 (drop k s)
-unfolding points_from
+skip_points : (k : ℕ) (s : List ℕ) → k ≤ length s → points_from_lem k s ≡ points_from_lem 0 (drop k s)
+unfolding points_from_lem
 skip_points zero s h = refl
 skip_points (suc k) [] h = absurd (omega arith)
 skip_points (suc k) (b ∷ s) h = skip_points k s (omega arith)
@@ -33,10 +33,10 @@ good_step [] k h e = absurd (omega arith)
 good_step (b ∷ s) k h e = rw (e, good_from) (omega (arith, skip_good k s (omega arith)))
 
 points-step :
-    (q : List ℕ) (k : ℕ) → suc k ≤ length q → utf8_char q ≡ suc k → points_from 0 q ≡ decode (take (suc k) q) ∷ points_from 0 (drop (suc k) q)
-unfolding points_from
+    (q : List ℕ) (k : ℕ) → suc k ≤ length q → utf8_char q ≡ suc k → points_from_lem 0 q ≡ decode (take (suc k) q) ∷ points_from_lem 0 (drop (suc k) q)
+unfolding points_from_lem
 points-step [] k h e = absurd (omega arith)
-points-step (b ∷ s) k h e = rw (e, points_from) (ap (λ (t : List ℕ). decode (take (suc k) (b ∷ s)) ∷ t) (skip_points k s (omega arith)))
+points-step (b ∷ s) k h e = rw (e, points_from_lem) (ap (λ (t : List ℕ). decode (take (suc k) (b ∷ s)) ∷ t) (skip_points k s (omega arith)))
 
 -- a sequence has a first byte, so its length is a successor
 by_suc : (s : List ℕ) (at l : ℕ) (P : ℕ → Type 0) → ((k : ℕ) → At s at (suc k) → P (suc k)) → At s at l → P l
@@ -54,13 +54,13 @@ next_good {s} {at} {l} a =
     rw (good_step (drop at s) k (rw length-drop (omega arith)) (stands b), drop-drop) (omega arith))
     a
 
-pub next_points : {s : List ℕ} {at l : ℕ} → At s at l → points_from 0 (drop at s) ≡ decode (take l (drop at s)) ∷ points_from 0 (drop (at + l) s)
+pub next_points : {s : List ℕ} {at l : ℕ} → At s at l → points_from_lem 0 (drop at s) ≡ decode (take l (drop at s)) ∷ points_from_lem 0 (drop (at + l) s)
 next_points {s} {at} {l} a =
-    by_suc s at l (λ (n : ℕ). points_from 0 (drop at s) ≡ decode (take n (drop at s)) ∷ points_from 0 (drop (at + n) s))
+    by_suc s at l (λ (n : ℕ). points_from_lem 0 (drop at s) ≡ decode (take n (drop at s)) ∷ points_from_lem 0 (drop (at + n) s))
     (λ k b.
     let w = fits b in
     points-step (drop at s) k (rw length-drop (omega arith)) (stands b)
-    ∙ ap (λ (t : List ℕ). decode (take (suc k) (drop at s)) ∷ points_from 0 t) (drop-drop (suc k) at s))
+    ∙ ap (λ (t : List ℕ). decode (take (suc k) (drop at s)) ∷ points_from_lem 0 t) (drop-drop (suc k) at s))
     a
 
 pub stop_good : (q : List ℕ) → utf8_char q ≡ 0 → good_from 0 q ≡ 0
@@ -68,17 +68,17 @@ unfolding good_from
 stop_good [] e = refl
 stop_good (b ∷ s) e = rw (e, good_from)
 
-pub stop_points : (q : List ℕ) → utf8_char q ≡ 0 → points_from 0 q ≡ []
-unfolding points_from
+pub stop_points : (q : List ℕ) → utf8_char q ≡ 0 → points_from_lem 0 q ≡ []
+unfolding points_from_lem
 stop_points [] e = refl
-stop_points (b ∷ s) e = rw (e, points_from)
+stop_points (b ∷ s) e = rw (e, points_from_lem)
 
 pub end_good : (s : List ℕ) (at : ℕ) → length s ≤ at → good_from 0 (drop at s) ≡ 0
 unfolding good_from
 end_good s at h = rw (drop_of_length-le s h)
 
-pub end_points : (s : List ℕ) (at : ℕ) → length s ≤ at → points_from 0 (drop at s) ≡ []
-unfolding points_from
+pub end_points : (s : List ℕ) (at : ℕ) → length s ≤ at → points_from_lem 0 (drop at s) ≡ []
+unfolding points_from_lem
 end_points s at h = rw (drop_of_length-le s h)
 
 -- where good sequences go on to the end, one stands at each place that they reach
@@ -118,12 +118,12 @@ no_starts : starts [] ≡ 0
 unfolding starts
 no_starts = refl
 
-counted_none : (s : List ℕ) (at : ℕ) → length s ≤ at → length (points_from 0 (drop at s)) ≡ starts (drop at s)
+counted_none : (s : List ℕ) (at : ℕ) → length s ≤ at → length (points_from_lem 0 (drop at s)) ≡ starts (drop at s)
 counted_none s at h = rw (end_points s at h, drop_of_length-le s h) (sym no_starts)
 
 counted :
     (f : ℕ) (s : List ℕ) (at : ℕ) → length s ≤ at + f → at ≤ length s → at + good_from 0 (drop at s) ≡ length s
-    → length (points_from 0 (drop at s)) ≡ starts (drop at s)
+    → length (points_from_lem 0 (drop at s)) ≡ starts (drop at s)
 counted zero s at h m e = counted_none s at (omega arith)
 counted (suc f) s at h m e = elim (dec_lt at (length s)) [
   | yes l ↦

@@ -14,11 +14,11 @@ abbrev pub good_end : List ℕ → ℕ
 good_end s = good_from 0 s
 
 -- "Decoding a UTF-8 character": the numbers of these sequences, in order
-unfoldable pub points_from : ℕ → List ℕ → List ℕ
-points_from k [] = []
-points_from (suc k) (b ∷ s) = points_from k s
-points_from zero (b ∷ s) = elim (utf8_char (b ∷ s)) [ zero ↦ [] | suc k ↦ decode (take (suc k) (b ∷ s)) ∷ points_from k s ]
+unfoldable pub points_from_lem : ℕ → List ℕ → List ℕ
+points_from_lem k [] = []
+points_from_lem (suc k) (b ∷ s) = points_from_lem k s
+points_from_lem zero (b ∷ s) = elim (utf8_char (b ∷ s)) [ zero ↦ [] | suc k ↦ decode (take (suc k) (b ∷ s)) ∷ points_from_lem k s ]
 
 -- "Decoding a UTF-8 character": the code points of bytes, up to the first bad sequence
 abbrev pub points : List ℕ → List ℕ
-points s = points_from 0 s
+points s = points_from_lem 0 s

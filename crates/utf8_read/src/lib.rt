@@ -1,6 +1,8 @@
 // UTF-8, judged (RFC 3629): how far bytes are good sequences. The judge goes by windows of 32 bytes, which
 // the compiler makes vectors of; one sequence at a time is judged only at the ends and where a window does
 // not fit.
+#![tactic(auto)]
+
 ghost use Rattle.std.specs.Prelude.{◌≡◌, true, false, ◌+◌, ◌<◌, ◌≤◌, min, length, drop};
 ghost use Rattle.utf8_read.specs.Grammar.{tail, utf8_2, utf8_3, utf8_4, utf8_char};
 ghost use Rattle.utf8_read.specs.Reading.{good_end};

@@ -1,6 +1,8 @@
 // UTF-8, written (RFC 3629): how many bytes code points take, and the bytes.
 // The measure goes by many numbers at a time, which the compiler makes vectors of, and begins behind the
 // blocks of ASCII that a text begins with.
+#![tactic(auto)]
+
 ghost use Rattle.std.specs.Prelude.{◌≡◌, true, [], ◌∷◌, ◌+◌, ◌/◌, ◌<◌, ◌≤◌, ◌^◌, length};
 ghost use Rattle.room.specs.Placed.{Put, answered};
 ghost use Rattle.utf8_read.specs.Table.{six, encode};

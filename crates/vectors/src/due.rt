@@ -2,7 +2,7 @@
 use refusal::{Counted, Refusal};
 
 // An answer, as its line says it: 0 and the counts, or a refusal's number and values; 0 after the last.
-#[derive(Drop)]
+#[derive(Clone, Copy)]
 pub struct Due {
     pub number: usize,
     pub first: usize,
@@ -10,7 +10,7 @@ pub struct Due {
     pub third: usize,
 }
 
-#[derive(Drop)]
+#[derive(Clone, Copy)]
 pub struct DueLine {
     pub due: Due,
     // The offset behind the line.

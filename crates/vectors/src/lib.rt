@@ -1,6 +1,8 @@
 // Reads the oracle's vector files: lines of decimal numbers, one space between, each line an array.
 // What the programs that replay them share. The statements keep a caller's loops within the bytes
 // and the rooms; what a line says is for the programs to compare.
+#![tactic(auto)]
+
 mod due;
 mod number;
 
@@ -79,7 +81,7 @@ pub fn same_i64(a: &[i64], b: &[i64], count: usize) -> bool {
 }
 
 // How many cases agree, and how many differ.
-#[derive(Drop)]
+#[derive(Clone, Copy)]
 pub struct Tally {
     pub agree: u64,
     pub differ: u64,

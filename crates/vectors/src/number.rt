@@ -2,7 +2,7 @@
 ghost use Rattle.std.specs.Prelude.{◌<◌, length};
 ghost use Rattle.vectors.specs.Lines.{Read};
 
-#[derive(Drop)]
+#[derive(Clone, Copy)]
 pub struct Line {
     // How many numbers were put into the room.
     pub count: usize,
@@ -11,7 +11,7 @@ pub struct Line {
 }
 
 // A number at an offset, or none where the line ends; next is behind what was read.
-#[derive(Drop)]
+#[derive(Clone, Copy)]
 pub struct Number {
     pub here: bool,
     pub negative: bool,

@@ -1,8 +1,10 @@
 // The verdict of a check, and refusal 4 of a text.
+#![tactic(auto)]
+
 ghost use Rattle.std.specs.Prelude.{◌≡◌};
 ghost use Rattle.verdict.specs.Points.{points_from, points_verdict};
 
-#[derive(Drop)]
+#[derive(Clone, Copy)]
 pub enum Verdict {
     Accepted,
     Refused(refusal::Refusal),

@@ -1,5 +1,7 @@
 // Words into a lent text room: a range of the original, and what a run of tokens spells. Each is put
 // at a place; what stands before and past it is as it was.
+#![tactic(auto)]
+
 ghost use Rattle.std.specs.Prelude.{◌≡◌, ◌+◌, ◌≤◌, length, take, drop};
 ghost use Rattle.room.specs.Placed.{Put};
 ghost use Rattle.records.specs.Tokens.{tokens_lent, tokens_from, spelling};

@@ -46,8 +46,8 @@ pub rest_none : (xs : List ℤ) (text : List ℕ) (i : ℕ) → length xs / 3 �
 unfolding file_items
 rest_none xs text i h = rw (items_none xs (length text) i (length xs / 3) h)
 
-pub text_length : (xs : List ℤ) (text : List ℕ) (i : ℕ) {s n : ℕ} → item_at xs (length text) i ≡ Insert s n → length (take n (drop s text)) ≡ n
-text_length xs text i {s} {n} e = let w : s + n ≤ length text = insert_within xs (length text) i e in simp (length-take, length-drop) (omega arith)
+pub text_length_lem : (xs : List ℤ) (text : List ℕ) (i : ℕ) {s n : ℕ} → item_at xs (length text) i ≡ Insert s n → length (take n (drop s text)) ≡ n
+text_length_lem xs text i {s} {n} e = let w : s + n ≤ length text = insert_within xs (length text) i e in simp (length-take, length-drop) (omega arith)
 
 -- the sums of the items before i
 pub record Tallying (xs : List ℤ) (text : List ℕ) (i k u a : ℕ) : Type 0 where
@@ -111,7 +111,7 @@ module _ {xs : List ℤ} {text : List ℕ} {i k u a : ℕ} (t : Tallying xs text
   unfolding file_item kept dropped added
   tally_insert {s} {n} h e g =
       let r = rest_at xs text i h e in
-      let l : length (take n (drop s text)) ≡ n = text_length xs text i e in
+      let l : length (take n (drop s text)) ≡ n = text_length_lem xs text i e in
       record {
         keeps = t.keeps;
         uses = t.uses;
@@ -146,7 +146,7 @@ module _ {xs : List ℤ} {text : List ℕ} {i k u a : ℕ} (t : Tallying xs text
   unfolding file_item added
   insert_over {s} {n} h e g =
       let r = rest_at xs text i h e in
-      let l : length (take n (drop s text)) ≡ n = text_length xs text i e in
+      let l : length (take n (drop s text)) ≡ n = text_length_lem xs text i e in
       over_text (file_of xs text) (omega (arith, t.adds, t.added_sum, ap added r))
 
   pub tally_ends : length xs / 3 ≤ i → Fits (record { kept = k; used = u; added = a }) ≡ tally_of (file_of xs text)
@@ -191,11 +191,11 @@ module _ {xs : List ℤ} {text : List ℕ} {j : Bool} {i : ℕ} (t : Shaping xs 
 
   pub insert_none : {s n : ℕ} → i < length xs / 3 → item_at xs (length text) i ≡ Insert s n → n < 1 → shaped (At i) ≡ shapes false 0 (file_of xs text)
   unfolding file_item shapes
-  insert_none {s} {n} h e g = rw (text_length xs text i e, lt-leb 1 n g) at (here h e)
+  insert_none {s} {n} h e g = rw (text_length_lem xs text i e, lt-leb 1 n g) at (here h e)
 
   pub insert_on : {s n : ℕ} → i < length xs / 3 → item_at xs (length text) i ≡ Insert s n → 1 ≤ n → Shaping xs text false (i + 1)
   unfolding file_item shapes
-  insert_on {s} {n} h e g = record { same = rw (text_length xs text i e, le-leb 1 n g) at (here h e) }
+  insert_on {s} {n} h e g = record { same = rw (text_length_lem xs text i e, le-leb 1 n g) at (here h e) }
 
   pub neither_bad : i < length xs / 3 → item_at xs (length text) i ≡ Neither → shaped (At i) ≡ shapes false 0 (file_of xs text)
   unfolding file_item shapes

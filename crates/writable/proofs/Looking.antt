@@ -22,7 +22,7 @@ use Rattle.writable.specs.Writable.{file_item, file_of}
 use Rattle.writable.specs.Passes.{Sound}
 use Rattle.writable.specs.declared.Sums.{Sums}
 use Rattle.writable.specs.declared.Looked.TheVariants.{Unsure, Sure}
-use Rattle.writable.proofs.Checking.{rest, rest_all, rest_at, rest_none, text_length, Tallying, tally_begins, tally_retain, tally_delete, tally_insert, tally_ends, Shaping, shape_begins, retain_on, delete_on, insert_on, shape_ends}
+use Rattle.writable.proofs.Checking.{rest, rest_all, rest_at, rest_none, text_length_lem, Tallying, tally_begins, tally_retain, tally_delete, tally_insert, tally_ends, Shaping, shape_begins, retain_on, delete_on, insert_on, shape_ends}
 use Rattle.writable.proofs.Counting.{keep_length, drop_length}
 
 further_cut : (n : ℕ) (t : List ℕ) → length (further t) ≡ length (further (take n t)) + length (further (drop n t))
@@ -102,7 +102,7 @@ module _ {xs : List ℤ} {text : List ℕ} {i k u a m : ℕ} {j : Bool} (t : Loo
         most = omega arith;
         within = omega arith;
         small = omega (arith, t.small);
-        measured = omega (arith, t.measured, next_line xs text i h e, add_length p, further_points p (omega (arith, text_length xs text i e)), further_cut n (drop s text), q, o);
+        measured = omega (arith, t.measured, next_line xs text i h e, add_length p, further_points p (omega (arith, text_length_lem xs text i e)), further_cut n (drop s text), q, o);
       }
 
   pub look_small : length xs / 3 ≤ 8192 → m ≤ 1099511627776

@@ -1,5 +1,7 @@
 // Whether a diff can be written as an edit file, its sums and the length of its items' lines: what is lent is checked in passes over the
 // items and the text.
+#![tactic(auto)]
+
 ghost use Rattle.std.specs.Prelude.{◌≡◌, false, ℕ, ◌+◌, ◌*◌, ◌/◌, ◌≤◌, length};
 ghost use Rattle.edit_format.specs.Written.{item_line, item_lines};
 ghost use Rattle.diff.specs.Items.{item_at};
@@ -13,27 +15,27 @@ use diff::diff::{Bad, Item};
 use refusal::Refusal;
 
 // What the items keep of an original, use of it, and add.
-#[derive(Drop)]
+#[derive(Clone, Copy)]
 pub struct Sums {
     pub kept: u64,
     pub used: u64,
     pub added: usize,
 }
 
-#[derive(Drop)]
+#[derive(Clone, Copy)]
 pub enum Tally {
     TooBig,
     Fits(Sums),
 }
 
 // What one look at the items shows: nothing to refuse, with the sums and the length of all items' lines, or nothing at all.
-#[derive(Drop)]
+#[derive(Clone, Copy)]
 pub enum Looked {
     Unsure,
     Sure { sums: Sums, lines: usize },
 }
 
-#[derive(Drop)]
+#[derive(Clone, Copy)]
 pub enum Checked {
     Fine { sums: Sums, lines: usize },
     Refused(Refusal),

@@ -168,8 +168,8 @@ module _ (t d : List ℕ) (at : ℕ) (h : length t ≡ 0 → ⊥) (g : at + leng
     pub further_in : a + length (further (drop 1 t)) ≤ length d₁
     further_in = omega (arith, split, p.next, put_length p first_in)
 
-    pub all_points : {d₂ : List ℕ} {b : ℕ} → Put (further (drop 1 t)) d₁ a d₂ b → Put (points t) d at d₂ b
-    all_points {d₂} {b} q = rw (first_point t (some (length t) h)) (put_then (omega arith) p q)
+    pub all_points_lem : {d₂ : List ℕ} {b : ℕ} → Put (further (drop 1 t)) d₁ a d₂ b → Put (points t) d at d₂ b
+    all_points_lem {d₂} {b} q = rw (first_point t (some (length t) h)) (put_then (omega arith) p q)
 
     pub points_long : {d₂ : List ℕ} {b : ℕ} → Put (further (drop 1 t)) d₁ a d₂ b → length d₂ ≡ length d
-    points_long q = put_length (all_points q) g
+    points_long q = put_length (all_points_lem q) g

@@ -1,4 +1,6 @@
 // The lines of an edit file, measured and put: numbers in decimal and in hexadecimal, code points, and the lines made of them.
+#![tactic(auto)]
+
 ghost use Rattle.std.specs.Prelude.{◌≡◌, ◌+◌, ◌≤◌, ◌<◌, length, drop};
 ghost use Rattle.room.specs.Placed.{Put};
 ghost use Rattle.edit_format.specs.Digits.{digit, digits};

@@ -1,0 +1,10 @@
+-- `survey` finds too much text, the first item that is neither, or what is used. Its turns are those of Surveying (Turns).
+use Rattle.diff.proofs.Turns.{Surveying}
+use Prim.Native.Nat.{◌-◌}
+use Rattle.diff.proofs.diff.survey.Given as goal
+
+abbrev pub invariant-items : goal.invariant-items
+invariant-items l = Surveying l.items l.lent l.i l.sum
+
+abbrev pub decreases-items : goal.decreases-items
+decreases-items l = l.count - l.i

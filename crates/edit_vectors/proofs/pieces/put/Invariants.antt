@@ -1,0 +1,12 @@
+-- `put` puts no more than the room has.
+-- How: the place stays within the room, which keeps its length.
+use Prim.Native.Nat.{◌≤◌, ◌-◌}
+use mathlib.Core.Path.{◌≡◌}
+use lib.ListN.{length}
+use Rattle.edit_vectors.proofs.pieces.put.Given as goal
+
+abbrev pub invariant-numbers : goal.invariant-numbers
+invariant-numbers l = (l.n ≤ length l.room) × (length l.room ≡ length l.initial.room)
+
+abbrev pub decreases-numbers : goal.decreases-numbers
+decreases-numbers l = length l.piece - l.i

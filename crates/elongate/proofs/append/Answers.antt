@@ -1,0 +1,17 @@
+-- `append` puts the tokens of a raw operation into their rooms.
+-- The parts that are copied are the tokens' numbers, by Pieces.
+use Rattle.raw_lists.proofs.Pieces.{spans_part, keys_part, joins_part}
+use mathlib.Core.Path.{◌∙◌}
+use Rattle.elongate.proofs.append.Goals as goal
+
+pub returns : goal.returns
+returns c = let b = c in record {
+      in_spans = c.put_u32.ensures.stands ∙ rw
+          (spans_part b.args.spans.now b.args.keys.now b.args.joins.now b.args.r.first b.args.r.count
+          b.requires.lent);
+      in_keys = c.put_u32-2.ensures.stands ∙ rw (keys_part b.args.spans.now b.args.keys.now
+          b.args.joins.now b.args.r.first b.args.r.count b.requires.lent);
+      in_joins = c.put_u8.ensures.stands ∙ rw
+          (joins_part b.args.spans.now b.args.keys.now b.args.joins.now b.args.r.first b.args.r.count
+          b.requires.lent);
+    }

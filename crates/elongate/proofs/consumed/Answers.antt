@@ -1,0 +1,10 @@
+-- `consumed` gives what an operation consumes.
+-- By its kind.
+use borrow.Author.Tests.{eq-eqb, ne_eqb}
+use Rattle.elongate.proofs.consumed.Goals as goal
+
+pub returns-then-kind-eq1 : goal.returns-then-kind-eq1
+returns-then-kind-eq1 c = rw (eq-eqb _ _ c.if-kind-eq1.true)
+
+pub returns-else-kind-eq1 : goal.returns-else-kind-eq1
+returns-else-kind-eq1 c = rw (ne_eqb _ _ c.if-kind-eq1.false)
