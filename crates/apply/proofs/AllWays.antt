@@ -44,7 +44,7 @@ module _ (lent : Lent) (os : List Operation) (cs : List Cursor) (out moved histo
 
   refuses : (r : Refusal) → all_verdict lent os cs out moved history texts ≡ Refused r
       → AppliesAll lent os cs out moved history texts out moved history texts (B.Refused r)
-  refuses r e = record { answer = rw e; text = rw e; cursors = rw e; spans = rw e; history_text = rw e }
+  refuses r e = record { answer = rw e; text = rw e; cursors = rw e; spans = rw e; history_text_lem = rw e }
 
   pub all_stops : (r : Refusal) → q ≡ B.Refused r → AppliesAll lent os cs out moved history texts out moved history texts (B.Refused r)
   unfolding all_verdict
@@ -115,7 +115,7 @@ module _ (lent : Lent) (os : List Operation) (cs : List Cursor) (out moved histo
                 text = rw (accepts, same_text lent os cs v) w.0;
                 cursors = rw accepts s;
                 spans = rw (accepts, history_is lent os) w.1.spans;
-                history_text = rw (accepts, history_is lent os) w.1.text;
+                history_text_lem = rw (accepts, history_is lent os) w.1.text;
               }
 
 -- any two outcomes that the statement allows are equal
@@ -125,5 +125,5 @@ pub only-all :
     → (r₁ ≡ r₂) × ((out₁ ≡ out₂) × ((moved₁ ≡ moved₂) × ((history₁ ≡ history₂) × (texts₁ ≡ texts₂))))
 only-all h k = (
   h.answer ∙ sym k.answer,
-  (h.text ∙ sym k.text, (h.cursors ∙ sym k.cursors, (h.spans ∙ sym k.spans, h.history_text ∙ sym k.history_text))),
+  (h.text ∙ sym k.text, (h.cursors ∙ sym k.cursors, (h.spans ∙ sym k.spans, h.history_text_lem ∙ sym k.history_text_lem))),
 )

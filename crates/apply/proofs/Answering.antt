@@ -95,22 +95,22 @@ module _ (lent : Lent) (os : List Operation) where
   spans_counted : (k : ℕ) → k ≡ length os → k ≡ length (history_on lent os)
   spans_counted k e = omega (arith, e, ap length (history_is lent os), length_history lent os)
 
-  flat_spans : length (flat_spans 0 (history_on lent os)) ≡ length (history_on lent os) * 4
-  flat_spans = length_spans lent (history_on lent os) 0
+  flat_spans_lem : length (flat_spans 0 (history_on lent os)) ≡ length (history_on lent os) * 4
+  flat_spans_lem = length_spans lent (history_on lent os) 0
 
-  flat_cursors : (cs : List Cursor) → length (flat_cursors (sorted cs)) ≡ length (sorted cs) * 2
-  flat_cursors cs = cursors.length_flat (sorted cs)
+  flat_cursors_lem : (cs : List Cursor) → length (flat_cursors (sorted cs)) ≡ length (sorted cs) * 2
+  flat_cursors_lem cs = cursors.length_flat (sorted cs)
 
   -- the rooms
 
   pub text_rooms : (cs : List Cursor) (out moved : List ℕ) (t k : ℕ) (b : Bool) → t ≡ length (text_on lent os) → k ≡ length (sorted cs)
       → b ≡ leb (k * 2) (length moved) && leb t (length out) → b ≡ fits (flat_cursors (sorted cs)) moved && fits (text_on lent os) out
-  text_rooms cs out moved t k b e f g = g ∙ rw (flat_cursors cs, e, f)
+  text_rooms cs out moved t k b e f g = g ∙ rw (flat_cursors_lem cs, e, f)
 
   pub history_rooms : (history out : List ℕ) (k t : ℕ) (b : Bool) → k ≡ length (history_on lent os) → t ≡ length (history_text (history_on lent os))
       → b ≡ leb (k * 4) (length history) && leb t (length out)
       → b ≡ fits (flat_spans 0 (history_on lent os)) history && fits (history_text (history_on lent os)) out
-  history_rooms history out k t b e f g = g ∙ rw (flat_spans, e, f)
+  history_rooms history out k t b e f g = g ∙ rw (flat_spans_lem, e, f)
 
   -- what the rooms must hold for the text, the cursors and the history to be written
   pub text_fits : (cs : List Cursor) (out moved : List ℕ) → verdict_on lent os cs ≡ Accepted
@@ -119,7 +119,7 @@ module _ (lent : Lent) (os : List Operation) where
   text_fits cs out moved v h =
       let a = leb-true (length (flat_cursors (sorted cs))) (length moved) (and_left (fits (flat_cursors (sorted cs)) moved) (fits (text_on lent os) out) h) in
       let b = leb-true (length (text_on lent os)) (length out) (and_right (fits (flat_cursors (sorted cs)) moved) (fits (text_on lent os) out) h) in
-      (omega (arith, b, ap length (same_text cs v)), omega (arith, a, flat_cursors cs, length_sorted cs))
+      (omega (arith, b, ap length (same_text cs v)), omega (arith, a, flat_cursors_lem cs, length_sorted cs))
 
   pub history_fits : (history out : List ℕ) → fits (flat_spans 0 (history_on lent os)) history && fits (history_text (history_on lent os)) out ≡ true
       → (length os * 4 ≤ length history) × (length (history_text (history_by lent os)) ≤ length out)
@@ -129,7 +129,7 @@ module _ (lent : Lent) (os : List Operation) where
       let a = leb-true (length s) (length history) (and_left (fits s history) (fits t out) h) in
       let b = leb-true (length t) (length out) (and_right (fits s history) (fits t out) h) in
       let e = history_is lent os in (
-        omega (arith, a, flat_spans, ap length e, length_history lent os),
+        omega (arith, a, flat_spans_lem, ap length e, length_history lent os),
         omega (arith, b, ap (λ ss. length (history_text ss)) e),
       )
 

@@ -13,7 +13,7 @@ use Rattle.records.specs.declared.Cursor.{Cursor}
 use Rattle.sizes.specs.declared.Limits.{Limits}
 use Rattle.sizes.specs.Texts.{total, text_length}
 use Rattle.shapes.specs.Accepted.{Tiles, Insert as Adds, Part, Shapes, AcceptedList}
-use Rattle.shapes.proofs.Accepted.{text_length}
+use Rattle.shapes.proofs.Accepted.{text_length_lem}
 use Rattle.merging.specs.declared.Op.{Op}
 use Rattle.merging.specs.declared.Op.TheVariants.{Delete, Insert, Retain}
 use Rattle.merging.specs.Lent.{Lent}
@@ -143,7 +143,7 @@ module _ (lent : Lent) where
 
     pub text_count : length (text_on lent os) ≡ text_length (length lent.inserted) lent.spans lent.keys os
     unfolding text_on
-    text_count = text_length lent.original lent.inserted lent.spans lent.keys l os cs a
+    text_count = text_length_lem lent.original lent.inserted lent.spans lent.keys l os cs a
 
     pub removed_most : total removed_by os ≤ 65535
     removed_most = omega (arith, removed_from os 0 a.tiles, a.original_most)

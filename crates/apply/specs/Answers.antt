@@ -89,4 +89,4 @@ pub record AppliesAll (lent : Lent) (os : List Operation) (cs : List Cursor) (ou
   pub text : out' ≡ leaves (all_verdict lent os cs out moved history texts) (text_on lent os) out
   pub cursors : moved' ≡ leaves (all_verdict lent os cs out moved history texts) (flat_cursors (sorted cs)) moved
   pub spans : history' ≡ leaves (all_verdict lent os cs out moved history texts) (flat_spans 0 (history_on lent os)) history
-  pub history_text : texts' ≡ leaves (all_verdict lent os cs out moved history texts) (history_text (history_on lent os)) texts
+  pub history_text_lem : texts' ≡ leaves (all_verdict lent os cs out moved history texts) (history_text (history_on lent os)) texts

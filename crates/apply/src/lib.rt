@@ -1,5 +1,7 @@
 // What is made of any accepted list: its text with its cursors sorted, its history, and both in one
 // pass. The calls on lengths say what to lend. crates/written_lists says what a history span is.
+#![tactic(auto)]
+
 ghost use Rattle.std.specs.Prelude.{◌≡◌, [], length};
 ghost use Rattle.records.specs.Operations.{operations_of};
 ghost use Rattle.records.specs.Cursors.{cursors_of};
@@ -9,21 +11,21 @@ ghost use Rattle.merging.specs.Outputs.{history_text};
 ghost use Rattle.apply.specs.Answers.{verdict_on, text_on, history_on, applied, told, told_all, Applies, Tells, AppliesAll};
 
 // Code points of the text and cursors, or why nothing was written.
-#[derive(Drop)]
+#[derive(Clone, Copy)]
 pub enum Applied {
     Counts { text: usize, cursors: usize },
     Refused(refusal::Refusal),
 }
 
 // Spans of the history and code points of their text.
-#[derive(Drop)]
+#[derive(Clone, Copy)]
 pub enum WithHistory {
     Counts { spans: usize, text: usize },
     Refused(refusal::Refusal),
 }
 
 // Both.
-#[derive(Drop)]
+#[derive(Clone, Copy)]
 pub enum WithAll {
     Counts {
         text: usize,

@@ -2,6 +2,8 @@
 // every position of small lists. A case is ten lines: 2 for the two lists of a merge or 1 for one list
 // otherwise, original, inserted text, spans, keys, left operations, right operations, left cursors,
 // right cursors, and the verdict: 0, or a refusal's number and values.
+#![tactic(auto)]
+
 use vectors::Due;
 use verdict::Verdict;
 
@@ -26,7 +28,7 @@ fn replay(name: &[u8], bytes: &[u8]) {
 }
 
 // Whether the check gives the case's verdict, and the offset behind the case.
-#[derive(Drop)]
+#[derive(Clone, Copy)]
 struct Case {
     agrees: bool,
     next: usize,

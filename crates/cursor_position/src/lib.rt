@@ -1,5 +1,7 @@
 // What a turn does to the cursors of its side. A side's cursors are sorted by index; those that have
 // moved stand in the room, the others are still to come.
+#![tactic(auto)]
+
 ghost use Rattle.std.specs.Prelude.{◌≡◌, ◌+◌, ◌≤◌, [], length};
 ghost use Rattle.merging.specs.Cursors.{moved_index, moved, behind, moved_by, behind_of, ended};
 ghost use Rattle.cursor_position.specs.Moves.{Fits, left_of, waits, Spacious, Went};
@@ -22,7 +24,7 @@ pub fn moved_index(t: Shift, index: usize) -> usize
 }
 
 // How many cursors of a side have moved, and how many the room holds.
-#[derive(Drop)]
+#[derive(Clone, Copy)]
 pub struct Progress {
     pub next: usize,
     pub count: usize,

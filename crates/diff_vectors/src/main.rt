@@ -1,5 +1,7 @@
 // Runs the oracle's replays, plain and covering, which it reads from standard input; the bench sheets are the first three.
 // A case is seven lines: original, items, text, the plain answer and its text, the covering answer and its text.
+#![tactic(auto)]
+
 use replay::{from_covering_diff, from_covering_diff_length, from_diff, from_diff_length};
 use vectors::Due;
 
@@ -30,7 +32,7 @@ fn run(bytes: &[u8]) {
 }
 
 // Whether both calls give the case's answers, and the offset behind the case.
-#[derive(Drop)]
+#[derive(Clone, Copy)]
 struct Case {
     plain: bool,
     covering: bool,
@@ -38,7 +40,7 @@ struct Case {
 }
 
 // Whether one call does, and the offset behind its lines.
-#[derive(Drop)]
+#[derive(Clone, Copy)]
 struct Half {
     agrees: bool,
     next: usize,

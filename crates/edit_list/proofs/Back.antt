@@ -65,17 +65,17 @@ runs_back s k j (r ∷ rs) f q q' hs hk hj g =
     let n = runs_back s k j rs (f + length ts) q q' a b hj.1 (λ i h. g i (omega (arith, l))) in
     rw (e, n)
 
-raws_from : (xs : List ℕ) (rs : List Run) (i f : ℕ) (q : List ℕ) → drop (i * 3) xs ≡ flat_raws f rs ++ q → raws_from xs i (length rs) ≡ raw_list f rs
+raws_from_lem : (xs : List ℕ) (rs : List Run) (i f : ℕ) (q : List ℕ) → drop (i * 3) xs ≡ flat_raws f rs ++ q → raws_from xs i (length rs) ≡ raw_list f rs
 unfolding raws_from flat_raws raw_list
-raws_from xs [] i f q h = refl
-raws_from xs (r ∷ rs) i f q h =
+raws_from_lem xs [] i f q h = refl
+raws_from_lem xs (r ∷ rs) i f q h =
     let n : ℕ = length r.tokens in
     let z : i * 3 + 0 ≡ i * 3 = omega arith in
     let e0 : get_or xs (i * 3) 0 ≡ r.kind = rw z at (left_at 0 (i * 3) 0 xs (r.kind ∷ f ∷ n ∷ flat_raws (f + n) rs ++ q) h) in
     let e1 : get_or xs (i * 3 + 1) 0 ≡ f = left_at 0 (i * 3) 1 xs (r.kind ∷ f ∷ n ∷ flat_raws (f + n) rs ++ q) h in
     let e2 : get_or xs (i * 3 + 2) 0 ≡ n = left_at 0 (i * 3) 2 xs (r.kind ∷ f ∷ n ∷ flat_raws (f + n) rs ++ q) h in
     let a = drop_past (i * 3) ((i + 1) * 3) 3 xs (r.kind ∷ f ∷ n ∷ []) (flat_raws (f + n) rs ++ q) h refl (omega arith) in
-    let m = raws_from xs rs (i + 1) (f + n) q a in
+    let m = raws_from_lem xs rs (i + 1) (f + n) q a in
     rw (e0, e1, e2, m)
 
 pub length_raws : (f : ℕ) (rs : List Run) → length (flat_raws f rs) ≡ length rs * 3
@@ -88,7 +88,7 @@ unfolding raws_of
 raws_back rs e d h =
     let l : length (flat_raws 0 rs) ≡ e = length_raws 0 rs ∙ sym h in
     let m : length (flat_raws 0 rs) / 3 ≡ length rs = omega (arith, length_raws 0 rs) in
-    rw (take_at (flat_raws 0 rs) d e l, m) (raws_from (flat_raws 0 rs) rs 0 0 [] (sym (append-nil (flat_raws 0 rs))))
+    rw (take_at (flat_raws 0 rs) d e l, m) (raws_from_lem (flat_raws 0 rs) rs 0 0 [] (sym (append-nil (flat_raws 0 rs))))
 
 pub list_length : (f : ℕ) (rs : List Run) → length (raw_list f rs) ≡ length rs
 unfolding raw_list

@@ -24,7 +24,7 @@ use Rattle.raw_lists.specs.Checks.{total, claimed_by, run_lent, text_by, raw_fit
 use Rattle.raw_lists.proofs.Pieces.{length_pieces}
 use Rattle.elongate.specs.Elongated.{pieces_length, all_tokens}
 use Rattle.elongate.specs.Verdicts.{rooms_fit, raw_verdict}
-use Rattle.elongate.proofs.Lengths.{pieces_length}
+use Rattle.elongate.proofs.Lengths.{pieces_length_lem}
 use Rattle.elongate.proofs.Arranging.{lengths_total}
 use Rattle.room.proofs.Choices.{pick_elim}
 use Rattle.edit_list.proofs.Back.{raw_list}
@@ -70,7 +70,7 @@ module _ (n : ℕ) (s k j : List ℕ) where
       let m : text_by n s k j r ≤ tokens_length (tokens_from s k r.first r.count) =
       chosen_most (leb r.kind 2 && run_lent s k j r) (run_text n (tokens_from s k r.first r.count)) (tokens_length (tokens_from s k r.first r.count))
       (text_most n (tokens_from s k r.first r.count)) in
-      omega (arith, m, pieces_length s k j r.first r.count, used_most rs)
+      omega (arith, m, pieces_length_lem s k j r.first r.count, used_most rs)
 
   -- shapes
 

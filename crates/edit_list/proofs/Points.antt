@@ -46,10 +46,10 @@ all_drop zero cs h = h
 all_drop (suc n) [] h = tt
 all_drop (suc n) (c ∷ cs) h = all_drop n cs h.1
 
-all_points : (cs : List ℕ) → all_points cs ≡ true → AllPoints cs
+all_points_lem : (cs : List ℕ) → all_points cs ≡ true → AllPoints cs
 unfolding AllPoints all_points
-all_points [] h = tt
-all_points (c ∷ cs) h = (and_left (is_point c) (all_points cs) h, all_points cs (and_right (is_point c) (all_points cs) h))
+all_points_lem [] h = tt
+all_points_lem (c ∷ cs) h = (and_left (is_point c) (all_points cs) h, all_points_lem cs (and_right (is_point c) (all_points cs) h))
 
 all_texts : (k : Bool) (is : List Item) → items_good k is ≡ true → AllPoints (texts is)
 unfolding texts items_good AllPoints
@@ -58,7 +58,7 @@ all_texts k (Keep n ∷ is) g = all_texts true is (and_right (leb 1 n && not k) 
 all_texts k (Drop n ∷ is) g = all_texts false is (and_right (leb 1 n) (items_good false is) g)
 all_texts k (Add cs ∷ is) g =
     let h = and_left (leb 1 (length cs) && all_points cs) (items_good false is) g in
-    all_append cs (texts is) (all_points cs (and_right (leb 1 (length cs)) (all_points cs) h))
+    all_append cs (texts is) (all_points_lem cs (and_right (leb 1 (length cs)) (all_points cs) h))
     (all_texts false is (and_right (leb 1 (length cs) && all_points cs) (items_good false is) g))
 
 pub good_text : (d : List ℕ) (at : ℕ) (is : List Item) → points_from d 0 ≡ Accepted → items_good false is ≡ true → points_from (placed d at (texts is)) 0 ≡ Accepted

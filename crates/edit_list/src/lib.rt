@@ -1,5 +1,7 @@
 // An accepted edit file made a checked list: its items read, each a raw operation with its tokens, and
 // elongated. What the program does with each of its two edit files before it merges them.
+#![tactic(auto)]
+
 ghost use Rattle.std.specs.Prelude.{◌≡◌, [], ◌∷◌, ◌+◌, ◌*◌, ◌≤◌, ◌<◌, length, take, drop};
 ghost use Rattle.room.specs.Placed.{placed};
 ghost use Rattle.diff.specs.Items.{item_at, items_from};
@@ -11,7 +13,7 @@ ghost use Rattle.edit_list.specs.Steps.{TokensPut, PointsFit, RunPut, RunFits, I
 use diff::diff::Item;
 
 // How many operations, tokens and code points the list has.
-#[derive(Drop)]
+#[derive(Clone, Copy)]
 pub struct Listed {
     pub operations: usize,
     pub tokens: usize,
@@ -19,14 +21,14 @@ pub struct Listed {
 }
 
 // How many items and code points a file has.
-#[derive(Drop)]
+#[derive(Clone, Copy)]
 pub struct Sizes {
     pub items: usize,
     pub text: usize,
 }
 
 // The same, and how many tokens they make.
-#[derive(Drop)]
+#[derive(Clone, Copy)]
 pub struct Made {
     pub items: usize,
     pub tokens: usize,

@@ -2,6 +2,8 @@
 // limit and one past it. A case is seven lines: the file; the answer `0 items points` or `8 line`; the text; the items; originals' lengths,
 // each with 1 where the file is believed for it and 0 where not; the line charged to each proper beginning of the file, and to the file with
 // each of its bits flipped, 0 where that is accepted. File, text and items are in pieces; the last two lines are empty in most cases.
+#![tactic(auto)]
+
 use edit_read::FileRead;
 use vectors::{Due, Tally};
 
@@ -12,7 +14,7 @@ fn main() {
 }
 
 // The four kinds of cases.
-#[derive(Drop)]
+#[derive(Clone, Copy)]
 struct Tallies {
     read: Tally,
     believed: Tally,
@@ -50,7 +52,7 @@ fn tell(tallies: Tallies) {
 }
 
 // The counts with a case's, and the offset behind it.
-#[derive(Drop)]
+#[derive(Clone, Copy)]
 struct Turn {
     tallies: Tallies,
     next: usize,

@@ -37,12 +37,12 @@ not_refused : (t : Bool) (r : Refusal) → refuse_if t r ≡ Accepted → t ≡ 
 not_refused true r e = never e
 not_refused false r e = refl
 
-pub all_points : (t : List ℕ) (i : ℕ) → points_from t i ≡ Accepted → all_points t ≡ true
+pub all_points_lem : (t : List ℕ) (i : ℕ) → points_from t i ≡ Accepted → all_points t ≡ true
 unfolding points_from all_points
-all_points [] i e = refl
-all_points (c ∷ cs) i e =
+all_points_lem [] i e = refl
+all_points_lem (c ∷ cs) i e =
     let w = went (is_point c) (points_from cs (i + 1)) (CodePoint i) e in
-    rw (w.0, all_points cs (i + 1) w.1)
+    rw (w.0, all_points_lem cs (i + 1) w.1)
 
 points_drop : (n : ℕ) (t : List ℕ) → all_points t ≡ true → all_points (drop n t) ≡ true
 unfolding all_points
@@ -60,15 +60,15 @@ picked : (t : Bool) (r : Refusal) (v : Verdict) → pick t v (Refused r) ≡ Acc
 picked true r v e = (refl, e)
 picked false r v e = never e
 
-items_good : (text : List ℕ) → all_points text ≡ true → (k : Bool) (i : ℕ) (ls : List Lent) → shapes k i (file_items text ls) ≡ Accepted → items_good k (file_items text ls) ≡ true
+items_good_lem : (text : List ℕ) → all_points text ≡ true → (k : Bool) (i : ℕ) (ls : List Lent) → shapes k i (file_items text ls) ≡ Accepted → items_good k (file_items text ls) ≡ true
 unfolding file_items file_item shapes items_good all_points
-items_good text a k i [] e = refl
-items_good text a k i (Retain n ∷ ls) e = let p = picked (leb 1 n && not k) _ _ e in both_yes _ _ p.0 (items_good text a true (i + 1) ls p.1)
-items_good text a k i (Delete n ∷ ls) e = let p = picked (leb 1 n) _ _ e in both_yes _ _ p.0 (items_good text a false (i + 1) ls p.1)
-items_good text a k i (Insert s n ∷ ls) e =
+items_good_lem text a k i [] e = refl
+items_good_lem text a k i (Retain n ∷ ls) e = let p = picked (leb 1 n && not k) _ _ e in both_yes _ _ p.0 (items_good_lem text a true (i + 1) ls p.1)
+items_good_lem text a k i (Delete n ∷ ls) e = let p = picked (leb 1 n) _ _ e in both_yes _ _ p.0 (items_good_lem text a false (i + 1) ls p.1)
+items_good_lem text a k i (Insert s n ∷ ls) e =
     let p = picked (leb 1 (length (take n (drop s text)))) _ _ e in
-    both_yes _ _ (both_yes _ _ p.0 (points_take n (drop s text) (points_drop s text a))) (items_good text a false (i + 1) ls p.1)
-items_good text a k i (Neither ∷ ls) e = never e
+    both_yes _ _ (both_yes _ _ p.0 (points_take n (drop s text) (points_drop s text a))) (items_good_lem text a false (i + 1) ls p.1)
+items_good_lem text a k i (Neither ∷ ls) e = never e
 
 pub writable_good : (xs : List ℤ) (text : List ℕ) → writable (file_of xs text) text ≡ Accepted → Good (file_of xs text)
 unfolding writable sizes file_of
@@ -82,7 +82,7 @@ writable_good xs text e =
       few = ltb-false 8192 (length is) (not_refused _ Size (first_passed (refuse_if (ltb 8192 (length is)) Size) _ s));
       original = ltb-false 65535 (kept is + dropped is) (not_refused _ Size (rest_passed (refuse_if (ltb 131070 (added is)) Size) _ v));
       text = ltb-false 131070 (added is) (not_refused _ Size (first_passed (refuse_if (ltb 131070 (added is)) Size) _ v));
-      each = items_good text (all_points text 0 (first_passed (points_from text 0) (shapes false 0 is) r)) false 0 (items_of xs (length text)) (rest_passed (points_from text 0) (shapes false 0 is) r);
+      each = items_good_lem text (all_points_lem text 0 (first_passed (points_from text 0) (shapes false 0 is) r)) false 0 (items_of xs (length text)) (rest_passed (points_from text 0) (shapes false 0 is) r);
     }
 
 -- lengths

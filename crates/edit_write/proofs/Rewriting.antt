@@ -64,7 +64,9 @@ decodes k (x ∷ is) at text pre i g h d l =
     let e : pre ++ (record_of at x ++ records_from (at + size x) is) ≡ (pre ++ record_of at x) ++ records_from (at + size x) is = sym (append_assoc pre (record_of at x) (records_from (at + size x) is)) in
     let t : file_items text (items_from ((pre ++ record_of at x) ++ records_from (at + size x) is) (length text) (i + 1) (length is)) ≡ is =
     decodes (is_keep x) is (at + size x) text (pre ++ record_of at x) (i + 1) (good_rest k x is g) (length-append pre (record_of at x) ∙ omega (arith, length_record at x)) (texts_drop x is at text d) (omega (arith, added_cons x is)) in
-    rw e (ap (λ (y : Item). y ∷ file_items text (items_from ((pre ++ record_of at x) ++ records_from (at + size x) is) (length text) (i + 1) (length is))) (record_item k x is at text pre (records_from (at + size x) is) i g h d l) ∙ ap (λ (l : List Item). x ∷ l) t)
+    ap (λ (zs : List ℤ). file_items text (items_from zs (length text) i (length (x ∷ is)))) e
+    ∙ (ap (λ (y : Item). y ∷ file_items text (items_from ((pre ++ record_of at x) ++ records_from (at + size x) is) (length text) (i + 1) (length is))) (record_item k x is at text pre (records_from (at + size x) is) i g h d l)
+    ∙ ap (λ (l : List Item). x ∷ l) t)
 
 pub same_items : (is : List Item) → Good is → file_of (records_of is) (texts is) ≡ is
 unfolding file_of items_of records_of

@@ -1,5 +1,7 @@
 // The writer of edit files. A file that can be written has its length counted, so that the room is tested once, and is then written from
 // its first byte to its last.
+#![tactic(auto)]
+
 ghost use Rattle.std.specs.Prelude.{◌≡◌, List, ℕ, ◌+◌, ◌*◌, ◌≤◌, length};
 ghost use Rattle.room.specs.Placed.{Put};
 ghost use Rattle.edit_format.specs.Written.{item_line, item_lines};

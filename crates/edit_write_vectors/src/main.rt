@@ -1,6 +1,8 @@
 // Writes the oracle's diffs as edit files, from standard input: each refusal at each place, sums past every number, every size at its
 // limit and one past it. A case is four lines: the file; the answer `0 bytes` or the refusal's number and value; the text; the items. File,
 // text and items are in pieces.
+#![tactic(auto)]
+
 use refusal::Counted;
 use vectors::Due;
 
@@ -28,7 +30,7 @@ fn run(bytes: &[u8]) {
 }
 
 // Whether the calls give the case's answer, and the offset behind it.
-#[derive(Drop)]
+#[derive(Clone, Copy)]
 struct Turn {
     agrees: bool,
     next: usize,

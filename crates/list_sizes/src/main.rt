@@ -2,6 +2,8 @@
 // them. Every long slice is the beginning of an array of ones: an operation of ones inserts the token
 // at 1, a token of ones spells the code point at 1, a cursor of ones stands at 1, and a raw operation
 // of ones is an insert.
+#![tactic(auto)]
+
 ghost use Rattle.std.specs.Prelude.{◌≤◌};
 
 use vectors::Tally;
@@ -22,7 +24,7 @@ fn main() {
 }
 
 // One list otherwise than for merging; a list on both sides of a merge, or on one.
-#[derive(Drop)]
+#[derive(Clone, Copy)]
 enum Setting {
     One,
     Both,
@@ -31,7 +33,7 @@ enum Setting {
 }
 
 // The paper's sizes, and the numbers of operations and cursors at the limit and one past it.
-#[derive(Drop)]
+#[derive(Clone, Copy)]
 struct Sizes {
     operations: usize,
     operations_past: usize,
@@ -69,7 +71,7 @@ fn other_sizes() -> Sizes {
 }
 
 // The lengths that are lent of the original, of the inserted text, and of the cursors' numbers.
-#[derive(Drop)]
+#[derive(Clone, Copy)]
 struct Lent {
     original: usize,
     text: usize,

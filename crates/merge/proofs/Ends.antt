@@ -52,12 +52,12 @@ cursors_all : (cs : List ℕ) → cursors_from cs 0 (length cs / 2 - 0) ≡ curs
 unfolding cursors_of
 cursors_all cs = let e : length cs / 2 - 0 ≡ length cs / 2 = omega arith in ap (cursors_from cs 0) e
 
-first_of : (zs : List Op) (n : ℕ) → n ≤ 65535 → Tiled zs 0 n → FirstFits 0 zs
-first_of [] n small t = tt
-first_of (z ∷ zs) n small t = omega (arith, next_within z zs 0 n t)
+first_of_lem : (zs : List Op) (n : ℕ) → n ≤ 65535 → Tiled zs 0 n → FirstFits 0 zs
+first_of_lem [] n small t = tt
+first_of_lem (z ∷ zs) n small t = omega (arith, next_within z zs 0 n t)
 
 pub first_fits : (ops : List ℕ) (n : ℕ) → n ≤ 65535 → Tiled (list_of ops) 0 n → FirstFits 0 (list_from ops 0 0)
-first_fits ops n small t = subst (FirstFits 0) (sym (list_all ops)) (first_of (list_of ops) n small t)
+first_fits ops n small t = subst (FirstFits 0) (sym (list_all ops)) (first_of_lem (list_of ops) n small t)
 
 -- what is next may be read
 pub next_readable : (text spans keys : List ℕ) (x : Next) (xs : List Op) → Inserts (Run text spans keys) (heads x xs) → NextReadable text spans keys x

@@ -204,15 +204,15 @@ module _ {spans keys ops cs w : List ℕ} {half : ℕ} {a : Op} {own other : Sid
       unfolding shift_of
       length_of_lem = ap (λ (t : Shift). t.length) (M.shift lent es ek)
 
-      removed_of : r.shift.removed ≡ removed_of (rules_of lent) (taken a other) r.lost
+      removed_of_lem : r.shift.removed ≡ removed_of (rules_of lent) (taken a other) r.lost
       unfolding shift_of
-      removed_of = ap (λ (t : Shift). t.removed) (M.shift lent es ek) ∙ ap (removed_of (rules_of lent) (taken a other)) (sym (M.lost lent es ek))
+      removed_of_lem = ap (λ (t : Shift). t.removed) (M.shift lent es ek) ∙ ap (removed_of (rules_of lent) (taken a other)) (sym (M.lost lent es ek))
 
       whole : length_of lent (taken a other) ≡ removed_of (rules_of lent) (taken a other) r.lost + length_of lent (shortened (taken a other) r.lost)
       whole = rest_length lent (taken a other) r.lost M.most
 
       pub text_of_lem : r.shift.length - r.shift.removed ≡ length_of lent (shortened (taken a other) r.lost)
-      text_of_lem = omega (arith, length_of_lem, removed_of, whole)
+      text_of_lem = omega (arith, length_of_lem, removed_of_lem, whole)
 
       pub result_of : shortened (taken a other) r.lost ≡ result lent w half a other
       unfolding met_of
@@ -235,7 +235,7 @@ module _ {spans keys ops cs w : List ℕ} {half : ℕ} {a : Op} {own other : Sid
 
     pub removed_most : r.shift.removed ≤ r.shift.length
     removed_most =
-        omega (arith, length_of_lem (seen_of spans keys) refl refl, removed_of (seen_of spans keys) refl refl, whole (seen_of spans keys) refl refl)
+        omega (arith, length_of_lem (seen_of spans keys) refl refl, removed_of_lem (seen_of spans keys) refl refl, whole (seen_of spans keys) refl refl)
 
     pub length_most : r.shift.length ≤ length_of (of_spans spans) a
     length_most =

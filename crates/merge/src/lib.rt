@@ -1,4 +1,6 @@
 // The turns of a merge.
+#![tactic(auto)]
+
 ghost use Rattle.std.specs.Prelude.{◌≡◌, ◌+◌, ◌≤◌, length};
 ghost use Rattle.operation.specs.Views.{Lies, Placeable, size, of_spans};
 ghost use Rattle.merging.specs.Operations.{length_of};
@@ -60,7 +62,7 @@ pub fn shift_of(
 
 // What a taken operation meets: how much it loses, what becomes of the cursors of its side, and what
 // stays remembered of the other side.
-#[derive(Drop)]
+#[derive(Clone, Copy)]
 pub struct Meeting {
     pub lost: usize,
     pub shift: Shift,
@@ -100,7 +102,7 @@ pub fn meet(
 
 // A side between two turns: what is ahead, what is remembered, how much of its own text was taken,
 // and how many of its cursors have moved.
-#[derive(Drop)]
+#[derive(Clone, Copy)]
 pub struct Side {
     pub ahead: Ahead,
     pub memory: Memory,
@@ -110,7 +112,7 @@ pub struct Side {
 
 // What the merge has so far: its text's length, the original text it consumed, its operations and its
 // cursors.
-#[derive(Drop)]
+#[derive(Clone, Copy)]
 pub struct Totals {
     pub merged: usize,
     pub consumed: usize,
@@ -118,7 +120,7 @@ pub struct Totals {
     pub cursors: usize,
 }
 
-#[derive(Drop)]
+#[derive(Clone, Copy)]
 pub struct Turned {
     pub own: Side,
     pub other: Side,
@@ -284,7 +286,7 @@ pub fn turn(
 }
 
 // The side of a turn, with the operation that it takes.
-#[derive(Drop)]
+#[derive(Clone, Copy)]
 pub enum Choice {
     Nothing,
     Left(Op),

@@ -71,9 +71,9 @@ module _ (lent : Lent) (n : ℕ) (o : Operation) (os : List Operation) (at : ℕ
   unfolding Shapes
   rest_shapes h = h.shapes.1.1
 
-  first_of : Listed lent n (o ∷ os) at → First lent n o os at
+  first_of_lem : Listed lent n (o ∷ os) at → First lent n o os at
   unfolding Shapes
-  first_of h =
+  first_of_lem h =
       ⊎_elim
       (λ (a : Adds (length lent.inserted) lent.spans lent.keys o).
       adds a.kind (record { some = a.some; lends = a.lent; tokens = a.tokens }) (tiles_insert n o os at a.kind h.tiles))
@@ -103,7 +103,7 @@ module _ (lent : Lent) (n : ℕ) where
   pub tiled : (os : List Operation) (at : ℕ) → Listed lent n os at → Tiled (ops_from at os) at n
   unfolding ops_from
   tiled [] at h = none_left at h
-  tiled (o ∷ os) at h = tiled_first o os at (first_of lent n o os at h) (λ to t. tiled os to (rest_of o os at to h t))
+  tiled (o ∷ os) at h = tiled_first o os at (first_of_lem lent n o os at h) (λ to t. tiled os to (rest_of o os at to h t))
 
   -- their inserts are lent
   runs_first : (o : Operation) (os : List Operation) (at : ℕ) → First lent n o os at
@@ -116,7 +116,7 @@ module _ (lent : Lent) (n : ℕ) where
   pub runs : (os : List Operation) (at : ℕ) → Listed lent n os at → Inserts (Run lent) (ops_from at os)
   unfolding ops_from Inserts
   runs [] at h = tt
-  runs (o ∷ os) at h = runs_first o os at (first_of lent n o os at h) (λ to t. runs os to (rest_of o os at to h t))
+  runs (o ∷ os) at h = runs_first o os at (first_of_lem lent n o os at h) (λ to t. runs os to (rest_of o os at to h t))
 
   -- what the checks count: w of an operation is v of its record
   module _ (v : Operation → ℕ) (w : Op → ℕ)
@@ -134,7 +134,7 @@ module _ (lent : Lent) (n : ℕ) where
       totals : (os : List Operation) (at : ℕ) → Listed lent n os at → total v os ≡ total_of w (ops_from at os)
       unfolding ops_from total total_of
       totals [] at h = refl
-      totals (o ∷ os) at h = total_first o os at (first_of lent n o os at h) (λ to t. totals os to (rest_of o os at to h t))
+      totals (o ∷ os) at h = total_first o os at (first_of_lem lent n o os at h) (λ to t. totals os to (rest_of o os at to h t))
 
   -- "insert tokens": counted as claimed
   pub tokens_total : (os : List Operation) (at : ℕ) → Listed lent n os at → total claimed_by os ≡ total_of (of_insert (λ f k. k)) (ops_from at os)
@@ -199,4 +199,4 @@ module _ (lent : Lent) (n : ℕ) where
       → text_from lent.original lent.inserted lent.spans lent.keys os at ≡ text_of lent (ops_from at os)
   unfolding ops_from text_of text_from
   text_of_lem [] at h = refl
-  text_of_lem (o ∷ os) at h = text_first o os at (first_of lent n o os at h) (λ to t. text_of_lem os to (rest_of lent n o os at to h t))
+  text_of_lem (o ∷ os) at h = text_first o os at (first_of_lem lent n o os at h) (λ to t. text_of_lem os to (rest_of lent n o os at to h t))

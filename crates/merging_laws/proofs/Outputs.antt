@@ -21,7 +21,7 @@ use Rattle.merging.specs.Lent.{Lent, lengths_of, sum, spelling_of}
 use Rattle.merging.specs.Operations.{op_of, span_of, ops_in, ops_from, outs_from}
 use Rattle.merging.specs.Outputs.{text_of, history_of, of_text, of_original, spelled_by, to_diff}
 use Rattle.merging.specs.Tiling.{Tiled, total_of, of_insert, Inserts}
-use Rattle.merging.proofs.OutputLaws.{history_text, history_original, Replays, replays, diff_items, diff_added}
+use Rattle.merging.proofs.OutputLaws.{history_text_lem, history_original, Replays, replays, diff_items, diff_added}
 use Rattle.merging_laws.proofs.Decoding.{Run, Listed, tiled, runs, length_ops, lengths_total, inserted_total, text_of_lem}
 
 -- a list's operations, with their sides or without
@@ -49,7 +49,7 @@ agrees lent l os cs a =
     let text : list_text lent.original lent.inserted lent.spans lent.keys os ≡ text_of lent (ops_from 0 os) = text_of_lem lent n os 0 h in
     let r : Replays lent (ops_from 0 os) = replays lent (ops_from 0 os) t in
     record {
-      unchanged_added = history_text lent (outs_from 0 os) ∙ (ap (text_of lent) (ops_outs os 0) ∙ sym text);
+      unchanged_added = history_text_lem lent (outs_from 0 os) ∙ (ap (text_of lent) (ops_outs os 0) ∙ sym text);
       unchanged_removed = history_original lent (outs_from 0 os) 0 n refl (rw (ops_outs os 0) t);
       replay = r.text ∙ sym text;
       asks = r.asks;

@@ -99,17 +99,17 @@ module _ (lent : Lent) (w : List ℕ) (half fill : ℕ) where
   place_is (Retain o l) (Inserted o' from) merged = refl
 
 -- lengths are read from the spans alone
-pub lengths_of : (lent : Lent) (i k : ℕ) → lengths_of (of_spans lent.spans) i k ≡ lengths_of lent i k
+pub lengths_of_lem : (lent : Lent) (i k : ℕ) → lengths_of (of_spans lent.spans) i k ≡ lengths_of lent i k
 unfolding lengths_of
-lengths_of lent i zero = refl
-lengths_of lent i (suc k) = ap (λ (ls : List ℕ). get_or lent.spans (i * 2 + 1) 0 ∷ ls) (lengths_of lent (i + 1) k)
+lengths_of_lem lent i zero = refl
+lengths_of_lem lent i (suc k) = ap (λ (ls : List ℕ). get_or lent.spans (i * 2 + 1) 0 ∷ ls) (lengths_of_lem lent (i + 1) k)
 
 pub length_is : (lent : Lent) (a : Op) → length_of (of_spans lent.spans) a ≡ length_of lent a
 length_is lent (Delete o l) = refl
-length_is lent (Insert o f n) = ap sum (lengths_of lent f n)
+length_is lent (Insert o f n) = ap sum (lengths_of_lem lent f n)
 length_is lent (Retain o l) = refl
 
 pub removed_is : (lent : Lent) (a : Op) (z : ℕ) → removed_of (rules_of (of_spans lent.spans)) a z ≡ removed_of (rules_of lent) a z
 removed_is lent (Delete o l) z = refl
-removed_is lent (Insert o f n) z = ap sum (lengths_of lent f z)
+removed_is lent (Insert o f n) z = ap sum (lengths_of_lem lent f z)
 removed_is lent (Retain o l) z = refl

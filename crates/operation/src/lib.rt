@@ -1,4 +1,6 @@
 // What a taken operation meets: the cut of a retain, the meet rule, and the overlap of inserts.
+#![tactic(auto)]
+
 ghost use Rattle.std.specs.Prelude.{◌≡◌, ◌+◌, ◌-◌, ◌*◌, ◌≤◌, min, [], length};
 ghost use Rattle.std.proofs.Math.Seq.{slice};
 ghost use Rattle.overlap.specs.Overlap.{overlap_of};
@@ -16,7 +18,7 @@ use numbers::wide;
 use overlap::Range;
 
 // What is next on a side.
-#[derive(Drop)]
+#[derive(Clone, Copy)]
 pub enum Next {
     Here(Op),
     Done,
@@ -24,7 +26,7 @@ pub enum Next {
 
 // What is remembered of a side. Of an insert it is tokens, which stand in the work room from `from`
 // up to where the side has filled it.
-#[derive(Drop)]
+#[derive(Clone, Copy)]
 pub enum Last {
     Nothing,
     Deleted { order: usize, length: usize },
@@ -84,7 +86,7 @@ pub fn kept_length(order: usize, length: usize, next: Next) -> usize
     }
 }
 
-#[derive(Drop)]
+#[derive(Clone, Copy)]
 pub struct Split {
     pub front: Op,
     // What stays next of the operation.
@@ -212,7 +214,7 @@ pub fn shortened(a: Op, lost: usize) -> Op
 }
 
 // How much an operation loses, and the overlap of inserts, 0..0 for every other pair.
-#[derive(Drop)]
+#[derive(Clone, Copy)]
 pub struct Met {
     pub lost: usize,
     pub start: usize,
@@ -393,7 +395,7 @@ pub fn removed_of(spans: &[u32], a: Op, lost: usize) -> usize
 }
 
 // Where the shared text stands in the merged text.
-#[derive(Drop)]
+#[derive(Clone, Copy)]
 pub struct Place {
     pub start: usize,
     pub shared: usize,

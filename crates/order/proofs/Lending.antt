@@ -28,9 +28,9 @@ module _ (lent : Lent) where
   unfolding order_rule
   order_of a b = rw (content_of a b)
 
-  pub priority_of : (ls rs : List Op) → priority_of lent ls rs ≡ priority_of (seen lent) ls rs
+  pub priority_of_lem : (ls rs : List Op) → priority_of lent ls rs ≡ priority_of (seen lent) ls rs
   unfolding priority_of
-  priority_of [] [] = refl
-  priority_of [] (b ∷ rs) = refl
-  priority_of (a ∷ ls) [] = refl
-  priority_of (a ∷ ls) (b ∷ rs) = rw (order_of a b, priority_of ls rs)
+  priority_of_lem [] [] = refl
+  priority_of_lem [] (b ∷ rs) = refl
+  priority_of_lem (a ∷ ls) [] = refl
+  priority_of_lem (a ∷ ls) (b ∷ rs) = rw (order_of a b, priority_of_lem ls rs)

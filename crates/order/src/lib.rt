@@ -1,5 +1,7 @@
 // The order of operations: the order rule, and stream priority. Nothing is copied, and no spelling is
 // read where order or kind decides.
+#![tactic(auto)]
+
 mod spelling;
 
 ghost use Rattle.std.specs.Prelude.{◌≡◌, true};

@@ -10,7 +10,7 @@ use numbers::wide;
 
 // A place in a spelling: of the token before `next` the text from `at` up to `to` is left, and then
 // come the tokens up to `end`.
-#[derive(Drop)]
+#[derive(Clone, Copy)]
 pub struct Reader {
     pub at: usize,
     pub to: usize,

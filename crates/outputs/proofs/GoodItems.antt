@@ -23,7 +23,7 @@ use Rattle.verdict.proofs.Chains.{first_passed, rest_passed}
 use Rattle.shapes.proofs.Accepted.{spelled_length}
 use Rattle.checks.proofs.Accepted.{accepted_list}
 use Rattle.edit_format.specs.Items.{kept, dropped, all_points, items_good, Good}
-use Rattle.edit_write.proofs.Goodness.{all_points}
+use Rattle.edit_write.proofs.Goodness.{all_points_lem}
 use Rattle.merging.specs.declared.Op.{Op}
 use Rattle.merging.specs.declared.Op.TheVariants.{Delete, Insert, Retain}
 use Rattle.merging.specs.Lent.{Lent}
@@ -84,8 +84,8 @@ accepts lent os h =
     let p = first_passed _ _ (rest_passed _ _ h) in
     record {
       list = accepted_list otherwise lent.original lent.inserted lent.spans lent.keys os [] h;
-      original = all_points lent.original 0 (first_passed (points_from lent.original 0) (points_from lent.inserted 0) p);
-      inserted = all_points lent.inserted 0 (rest_passed (points_from lent.original 0) (points_from lent.inserted 0) p);
+      original = all_points_lem lent.original 0 (first_passed (points_from lent.original 0) (points_from lent.inserted 0) p);
+      inserted = all_points_lem lent.inserted 0 (rest_passed (points_from lent.original 0) (points_from lent.inserted 0) p);
     }
 
 module _ (lent : Lent) (os : List Operation) (a : Accepts lent os) where

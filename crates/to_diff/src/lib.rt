@@ -1,5 +1,7 @@
 // A list's diff: its retains with neighbours joined, its deletes and its inserts, as items of three numbers
 // and their text. A retain is held back until what follows it is known.
+#![tactic(auto)]
+
 ghost use Rattle.std.specs.Prelude.{◌≡◌, ◌+◌, ◌*◌, ◌/◌, ◌<◌, ◌≤◌, ◌&&◌, leb, length};
 ghost use Rattle.room.specs.Placed.{placed};
 ghost use Rattle.records.specs.Operations.{operations_of};
@@ -15,7 +17,7 @@ use item_records::{dropped_number, plain_number, put_record};
 use refusal::Refusal;
 
 // How many items and code points a diff has, or why there is none.
-#[derive(Drop)]
+#[derive(Clone, Copy)]
 pub enum Diffed {
     Counts { items: usize, text: usize },
     Refused(Refusal),
@@ -65,7 +67,7 @@ fn put_insert(
 }
 
 // How many items and code points a diff has.
-#[derive(Drop)]
+#[derive(Clone, Copy)]
 pub struct Sizes {
     pub items: usize,
     pub text: usize,

@@ -15,7 +15,7 @@ use Rattle.merging.specs.Meeting.{inserted, appended, remember_of}
 use Rattle.operation.specs.declared.Last.{Last}
 use Rattle.operation.specs.declared.Last.TheVariants.{Nothing, Deleted, Retained, Inserted}
 use Rattle.operation.specs.Views.{last_of, of_spans}
-use Rattle.operation.proofs.Meeting.{lengths_of}
+use Rattle.operation.proofs.Meeting.{lengths_of_lem}
 use Rattle.turns.specs.declared.Memory.{Memory}
 use Rattle.turns.specs.Remembering.{Writable, Kept, Written, kept_from, Began, Rememberable, Remembers, Since}
 use Rattle.room.proofs.Placing.{placed_length}
@@ -38,7 +38,7 @@ get_d_lengths lent first (suc n) (suc k) h =
 -- keys and lengths depend on nothing else that was lent
 lent_lengths : (lent : Lent) (spans : List ℕ) (first count : ℕ) → lent.spans ≡ spans
     → lengths_of (of_spans spans) first count ≡ lengths_of lent first count
-lent_lengths lent spans first count e = rw (← e) (lengths_of lent first count)
+lent_lengths lent spans first count e = rw (← e) (lengths_of_lem lent first count)
 
 lent_keys : (lent : Lent) (keys : List ℕ) (first count : ℕ) → lent.keys ≡ keys → slice first (first + count) keys ≡ keys_of lent first count
 unfolding keys_of

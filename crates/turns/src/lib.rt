@@ -1,4 +1,6 @@
 // The steps of a merge's turn over one side: what is next, what is remembered, what is emitted.
+#![tactic(auto)]
+
 ghost use Rattle.std.specs.Prelude.{◌≡◌, ◌+◌, ◌*◌, ◌≤◌, length};
 ghost use Rattle.room.specs.Placed.{placed};
 ghost use Rattle.merging.specs.Lent.{lengths_of};
@@ -15,7 +17,7 @@ use records::Operation;
 
 // What is next on a side, the place of the record behind it, and the original text that the list
 // consumed before that one.
-#[derive(Drop)]
+#[derive(Clone, Copy)]
 pub struct Ahead {
     pub next: Next,
     pub behind: usize,
@@ -59,7 +61,7 @@ pub fn advance(operations: &[usize], tail: Next, behind: usize, at: usize) -> Ah
 }
 
 // What is remembered of a side, and how far it has filled its part of the work room.
-#[derive(Drop)]
+#[derive(Clone, Copy)]
 pub struct Memory {
     pub last: Last,
     pub fill: usize,

@@ -1,6 +1,8 @@
 // Reads every string of one byte and then every string of two, each in the order of its numbers, and compares with
 // the oracle's answers, from standard input. These stand there as runs of three lines: how many strings, the answer
 // `0 count` or `10 offset`, and the code points of the first; from each string to the next the last one goes up by one.
+#![tactic(auto)]
+
 use vectors::{Due, Tally};
 
 fn main() {
@@ -26,7 +28,7 @@ fn replay(name: &[u8], bytes: &[u8]) {
 }
 
 // The count with the strings of a run, the index of the string behind it, and the offset behind its lines.
-#[derive(Drop)]
+#[derive(Clone, Copy)]
 struct Run {
     tally: Tally,
     index: usize,

@@ -1,6 +1,8 @@
 // Reads the oracle's UTF-8, from standard input: RFC 3629's examples, each boundary, the kinds of Markus
 // Kuhn's stress test, bad sequences in each place of a block. A case is three lines: bytes, the answer
 // `0 count` or `10 offset`, and the code points.
+#![tactic(auto)]
+
 fn main() {
     let mut space = io::large_buffer();
     let n = io::read_full(0, &mut space);
@@ -25,7 +27,7 @@ fn replay(name: &[u8], bytes: &[u8]) {
 }
 
 // Whether the calls give the case's answer, and the offset behind the case.
-#[derive(Drop)]
+#[derive(Clone, Copy)]
 struct Case {
     agrees: bool,
     next: usize,

@@ -1,6 +1,8 @@
 // Writes the oracle's UTF-8, from standard input: each boundary, the examples of RFC 3629 and a longer text with
 // each number that is no code point in each place, and random texts. A case is three lines: code points, the
 // answer `0 count` or `4 index`, and the bytes.
+#![tactic(auto)]
+
 fn main() {
     let mut space = io::large_buffer();
     let n = io::read_full(0, &mut space);
@@ -25,7 +27,7 @@ fn replay(name: &[u8], bytes: &[u8]) {
 }
 
 // Whether the calls give the case's answer, and the offset behind the case.
-#[derive(Drop)]
+#[derive(Clone, Copy)]
 struct Case {
     agrees: bool,
     next: usize,

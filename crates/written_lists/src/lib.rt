@@ -1,5 +1,7 @@
 // Text, history and sorted cursors of an accepted list, measured and put into rooms, one operation at a time. A history span is
 // four numbers: kind (0 unchanged, 1 added, 2 removed), side, and where its text stands in the text of all spans, start and length.
+#![tactic(auto)]
+
 ghost use Rattle.std.specs.Prelude.{◌≡◌, ◌&&◌, [], ◌∷◌, ◌+◌, ◌*◌, ◌≤◌, min, leb, length};
 ghost use Rattle.room.specs.Placed.{placed, answered, Put};
 ghost use Rattle.records.specs.Operations.{operations_of};
@@ -7,7 +9,7 @@ ghost use Rattle.records.specs.Cursors.{cursors_of, flat_cursors};
 ghost use Rattle.merging.specs.Lent.{lent_of};
 ghost use Rattle.cursors.specs.Sorted.{sorted};
 ghost use Rattle.sizes.specs.Texts.{total};
-ghost use Rattle.merging.specs.Outputs.{history_text};
+ghost use Rattle.merging.specs.Outputs.{history_text, history_text as text_of_history};
 ghost use Rattle.written_lists.specs.Parts.{words_by, given_by, text_by, span_by, history_by, removed_by, side_of, Lies, AllLie, Told, Wrote};
 
 // The words of an operation: a range of the original, or what its tokens spell.
@@ -148,7 +150,7 @@ pub fn write_all(
     history: &mut [usize],
     history_text: &mut [u32],
 )
-    requires { AllLie (lent_of original.now text.now spans.now keys.now) (operations_of operations.now) × ((length (text_by (lent_of original.now text.now spans.now keys.now) (operations_of operations.now)) ≤ length out.old) × ((length (operations_of operations.now) * 4 ≤ length history.old) × (length (history_text (history_by (lent_of original.now text.now spans.now keys.now) (operations_of operations.now))) ≤ length history_text.old))) }
+    requires { AllLie (lent_of original.now text.now spans.now keys.now) (operations_of operations.now) × ((length (text_by (lent_of original.now text.now spans.now keys.now) (operations_of operations.now)) ≤ length out.old) × ((length (operations_of operations.now) * 4 ≤ length history.old) × (length (text_of_history (history_by (lent_of original.now text.now spans.now keys.now) (operations_of operations.now))) ≤ length history_text.old))) }
     ensures { (out.new ≡ answered (text_by (lent_of original.now text.now spans.now keys.now) (operations_of operations.now)) out.old) × Wrote (history_by (lent_of original.now text.now spans.now keys.now) (operations_of operations.now)) history.old history_text.old history.new history_text.new }
 {
     let count = operations.len() / 6;

@@ -8,9 +8,9 @@ plain-init c = (omega arith, λ _. ascii_none c.args.text.now c.args.at _ (omega
 
 pub plain-preserved : goal.plain-preserved
 plain-preserved c = (
-      omega arith,
-      λ t. ascii_more c.args.text.now c.args.at (c.args.at + c.plain.k) _ c.plain.ok c.plain.invariant.1 (omega arith) t,
-    )
+  omega arith,
+  λ t. ascii_more c.args.text.now c.args.at (c.args.at + c.plain.k) _ c.plain.ok c.plain.invariant.1 (omega arith) t,
+)
 
 pub returns : goal.returns
 returns c = λ t k l m. c.plain.invariant.1 t k l (omega arith)

@@ -22,11 +22,11 @@ many-smaller c = omega arith
 
 pub many-preserved : goal.many-preserved
 many-preserved c = (
-      omega arith,
-      omega arith,
-      ascii_join c.args.text.now c.args.at c.many.end c.many.end _ (omega arith) c.many.invariant.2
-          (c.plain.ensures c.if-not-plain.false),
-    )
+  omega arith,
+  omega arith,
+  ascii_join c.args.text.now c.args.at c.many.end c.many.end _ (omega arith) c.many.invariant.2
+      (c.plain.ensures c.if-not-plain.false),
+)
 
 pub returns : goal.returns
 returns c = c.many.invariant

@@ -19,7 +19,7 @@ bounds-out-at-4 c = simp length-set (omega arith)
 
 pub returns : goal.returns
 returns c = record {
-      next = refl;
-      stands = simp (add-one, add-two, add-three)
-          (stores (c.args.a ∷ c.args.b ∷ c.args.c ∷ c.args.d ∷ []) c.args.out.now c.args.at c.requires);
-    }
+  next = refl;
+  stands = simp (add-one, add-two, add-three)
+      (stores (c.args.a ∷ c.args.b ∷ c.args.c ∷ c.args.d ∷ []) c.args.out.now c.args.at c.requires);
+}

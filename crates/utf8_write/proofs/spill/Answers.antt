@@ -25,9 +25,9 @@ plain_end-end-requires c = c.spill.invariant.most
 
 pub narrow-at-requires : goal.narrow-at-requires
 narrow-at-requires c = (
-      part_ascii _ _ _ c.plain_end-end.ensures.0 c.plain_end-end.ensures.1 c.plain_end-end.ensures.2,
-      run_fits c.spill.invariant _ c.plain_end-end.ensures.0 c.plain_end-end.ensures.1 c.plain_end-end.ensures.2 c.requires.1,
-    )
+  part_ascii _ _ _ c.plain_end-end.ensures.0 c.plain_end-end.ensures.1 c.plain_end-end.ensures.2,
+  run_fits c.spill.invariant _ c.plain_end-end.ensures.0 c.plain_end-end.ensures.1 c.plain_end-end.ensures.2 c.requires.1,
+)
 
 pub near-stop-requires : goal.near-stop-requires
 near-stop-requires c = c.plain_end-end.ensures.1
@@ -37,15 +37,15 @@ some-init c = not_yet _ _ _ _ _
 
 pub spill-smaller : goal.spill-smaller
 spill-smaller c = omega (
-      arith,
-      c.some-test.false,
-      c.some.invariant.least,
-      c.near-stop.ensures,
-      c.plain_end-end.ensures.0,
-      c.plain_end-end.ensures.1,
-      c.spill-test.true,
-      c.pace-step.ensures,
-    )
+  arith,
+  c.some-test.false,
+  c.some.invariant.least,
+  c.near-stop.ensures,
+  c.plain_end-end.ensures.0,
+  c.plain_end-end.ensures.1,
+  c.spill-test.true,
+  c.pace-step.ensures,
+)
 
 pub spill-preserved : goal.spill-preserved
 spill-preserved c = c.some.invariant.grown _ c.requires.1
@@ -72,9 +72,9 @@ some-smaller c = omega (arith, c.near-stop.ensures)
 
 pub some-preserved : goal.some-preserved
 some-preserved c = record {
-      least = omega (arith, c.some.invariant.least);
-      grown = λ d h g. by_code (c.some.invariant.grown d h g) (omega (arith, c.near-stop.ensures)) _ _ c.put_code-at.ensures;
-    }
+  least = omega (arith, c.some.invariant.least);
+  grown = λ d h g. by_code (c.some.invariant.grown d h g) (omega (arith, c.near-stop.ensures)) _ _ c.put_code-at.ensures;
+}
 
 pub shape_of-out : goal.shape_of-out
 shape_of-out c = as_long c.spill.invariant c.requires.1

@@ -15,14 +15,14 @@ bounds-src-k c = omega arith
 
 pub overflow_add-n : goal.overflow_add-n
 overflow_add-n c = omega (
-      arith,
-      c.block.invariant.1,
-      wide_most (take c.block.k c.args.src.now),
-      length-take c.block.k c.args.src.now,
-      c.width-n.ensures,
-      at_most_4 (get_or c.args.src.now c.block.k 0),
-      c.requires,
-    )
+  arith,
+  c.block.invariant.1,
+  wide_most (take c.block.k c.args.src.now),
+  length-take c.block.k c.args.src.now,
+  c.width-n.ensures,
+  at_most_4 (get_or c.args.src.now c.block.k 0),
+  c.requires,
+)
 
 pub overflow_add-k : goal.overflow_add-k
 overflow_add-k c = omega arith

@@ -1,0 +1,11 @@
+-- `begins` stays within the file and the lines, and ends.
+-- How: each beginning was seen to be within the file.
+use Prim.Native.Nat.{◌-◌}
+use lib.ListN.{length}
+use Rattle.edit_read_vectors.proofs.begins.Given as goal
+
+abbrev pub invariant-lines : goal.invariant-lines
+invariant-lines l = Unit {0}
+
+abbrev pub decreases-lines : goal.decreases-lines
+decreases-lines l = length l.lines - l.i
