@@ -74,7 +74,11 @@ def spoken(path, place):
 
 def called(path, place, by_name):
     """The functions that a function calls."""
-    used = {item[-1]: item[:-1] for item in (u.split('::') for u in re.findall(r'^use ([\w:]+);', read(path), re.M))}
+    used = {}
+    for whole, group in re.findall(r'^use ([\w:]+)(?:\{([^}]*)\})?;', read(path), re.M):
+        for name in group.split(',') if group else ['']:
+            item = (whole + name.strip()).split('::')
+            used[item[-1]] = item[:-1]
     body = parts(path, place)[1]
     found = set()
     for call in re.findall(r'([\w:]+)\s*\(', body):

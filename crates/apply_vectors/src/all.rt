@@ -3,7 +3,7 @@ use apply::WithAll;
 use vectors::Due;
 
 // The lengths of the rooms that are lent.
-#[derive(Drop)]
+#[derive(Clone, Copy)]
 struct Rooms {
     words: usize,
     moved: usize,

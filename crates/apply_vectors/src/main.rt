@@ -3,6 +3,8 @@
 // answer of `apply`, its text and its cursors; the answer of `apply_with_history`, its spans and their text; and the three of the
 // diff, which are passed over. `apply_with_all` must give what both give. Each is run in rooms that are ample, in those asked, and in
 // those asked with one of them a number too short.
+#![tactic(auto)]
+
 mod all;
 mod history;
 mod text;
@@ -36,7 +38,7 @@ fn replay(bytes: &[u8]) {
 }
 
 // Whether each call gives the case's answer, and the offset behind the case.
-#[derive(Drop)]
+#[derive(Clone, Copy)]
 struct Case {
     text: bool,
     history: bool,

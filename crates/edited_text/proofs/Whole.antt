@@ -30,7 +30,7 @@ use Rattle.merging_laws.proofs.Decoding.{Run as Lends, Listed as Read, tiled, ru
 use Rattle.merging_laws.proofs.Encoding.{length_records}
 use Rattle.merging_laws.proofs.Accepted.{merged_operations_most, merged_cursors_all}
 use Rattle.order.specs.Readable.{Run, of_text}
-use Rattle.order.proofs.Lending.{priority_of}
+use Rattle.order.proofs.Lending.{priority_of_lem}
 use Rattle.order_laws.proofs.Accepted.{readable}
 use Rattle.numbers.specs.Sizes.{most}
 use Rattle.merge.specs.declared.Totals.{Totals}
@@ -100,7 +100,7 @@ module _ {original text spans keys left right lcs rcs : List ℕ} {mid half : �
   ends : outcome L priority left right lefts rights ≡ outcome_of (rules_of L) (list_of left) (list_of right) (cursors_of lcs) (cursors_of rcs)
   unfolding outcome_of
   ends =
-      let e : priority ≡ priority_of L (list_of left) (list_of right) = ep ∙ sym (priority_of L (list_of left) (list_of right)) in
+      let e : priority ≡ priority_of L (list_of left) (list_of right) = ep ∙ sym (priority_of_lem L (list_of left) (list_of right)) in
       λ i. run (rules_of L) (e i) (work (list_of left) + work (list_of right)) (record {
         left = record { next = list_of left; last = nothing; seen = 0; cursors = el i };
         right = record { next = list_of right; last = nothing; seen = 0; cursors = er i };

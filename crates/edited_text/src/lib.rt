@@ -1,18 +1,20 @@
 // The merge of two lists as a call: checks, rooms, cursors sorted going in and coming out, and all
 // turns between.
+#![tactic(auto)]
+
 ghost use Rattle.std.specs.Prelude.{◌≡◌, ◌+◌, ◌*◌, ◌&&◌, leb};
 ghost use Rattle.edited_text.specs.Merging.{Mergeable, Merges, MergedBy};
 
 use refusal::Refusal;
 
 // How many operations and cursors a merge gave.
-#[derive(Drop)]
+#[derive(Clone, Copy)]
 pub struct Counts {
     pub operations: usize,
     pub cursors: usize,
 }
 
-#[derive(Drop)]
+#[derive(Clone, Copy)]
 pub enum Answer {
     Counts(Counts),
     Refused(Refusal),

@@ -2,6 +2,8 @@
 // ones. A case is ten lines: raw operations, spans, keys, joins, text, the answer, and what the rooms
 // for operations, spans, keys and joins then begin with. The answer is `0 operations tokens`, or a
 // refusal's number and values. Past what is due a room keeps its marks.
+#![tactic(auto)]
+
 use vectors::Due;
 
 fn main() {
@@ -25,14 +27,14 @@ fn replay(name: &[u8], bytes: &[u8]) {
 }
 
 // Whether the call gives the case's answer, and the offset behind the case.
-#[derive(Drop)]
+#[derive(Clone, Copy)]
 struct Case {
     agrees: bool,
     next: usize,
 }
 
 // The lengths of the rooms that are lent.
-#[derive(Drop)]
+#[derive(Clone, Copy)]
 struct Rooms {
     operations: usize,
     spans: usize,

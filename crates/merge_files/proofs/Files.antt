@@ -19,9 +19,9 @@ use Rattle.verdict.specs.Points.{points_from}
 use Rattle.room.proofs.Bools.{and_left, and_right}
 use Rattle.utf8_read.specs.Grammar.{utf8_char}
 use Rattle.utf8_read.specs.Table.{decode}
-use Rattle.utf8_read.specs.Reading.{good_end, points, points_from}
+use Rattle.utf8_read.specs.Reading.{good_end, points, points_from_lem}
 use Rattle.numbers.specs.Points.{scalars}
-use Rattle.numbers.proofs.Scalar.{first_of}
+use Rattle.numbers.proofs.Scalar.{first_of_lem}
 use Rattle.utf8.specs.Answers.{read_of, Answered, leaves}
 use Rattle.utf8.proofs.Texts.{read_scalars}
 use Rattle.edit_format.specs.Items.{Item, kept, dropped, texts}
@@ -39,14 +39,14 @@ use Rattle.merge_files.specs.Steps.{uses_of, first_of, Files, Fitting, Texted, g
 use Rattle.merge_files.proofs.Padding.{padded}
 
 -- no more code points than bytes
-few_points : (s : List ℕ) (k : ℕ) → length (points_from k s) ≤ length s
-unfolding points_from
+few_points : (s : List ℕ) (k : ℕ) → length (points_from_lem k s) ≤ length s
+unfolding points_from_lem
 few_points [] k = omega arith
 few_points (b ∷ s) (suc k) = omega (arith, few_points s k)
 few_points (b ∷ s) zero = go (utf8_char (b ∷ s)) (λ j. few_points s j)
   where
-    go : (n : ℕ) → ((j : ℕ) → length (points_from j s) ≤ length s)
-        → length {A = ℕ} (elim n as (λ (x : ℕ). List ℕ) [ zero ↦ [] | suc j ↦ decode (take (suc j) (b ∷ s)) ∷ points_from j s ]) ≤ suc (length s)
+    go : (n : ℕ) → ((j : ℕ) → length (points_from_lem j s) ≤ length s)
+        → length {A = ℕ} (elim n as (λ (x : ℕ). List ℕ) [ zero ↦ [] | suc j ↦ decode (take (suc j) (b ∷ s)) ∷ points_from_lem j s ]) ≤ suc (length s)
     go zero h = omega arith
     go (suc j) h = omega (arith, h j)
 
@@ -54,7 +54,7 @@ few_points (b ∷ s) zero = go (utf8_char (b ∷ s)) (λ j. few_points s j)
 points_fine : (s : List ℕ) (i : ℕ) → scalars s ≡ length s → points_from s i ≡ W.Accepted
 unfolding points_from
 points_fine [] i e = refl
-points_fine (x ∷ s) i e = let f = first_of x s (is_point x) refl e in rw (f.0, points_from) (points_fine s (i + 1) f.1)
+points_fine (x ∷ s) i e = let f = first_of_lem x s (is_point x) refl e in rw (f.0, points_from) (points_fine s (i + 1) f.1)
 
 -- a refusal and what the files use
 mixed : {A : Type 0} {n x y : ℕ} → F.Refused n ≡ F.Uses x y → A

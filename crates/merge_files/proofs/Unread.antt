@@ -201,9 +201,9 @@ module _ (original spans keys text more : List ℕ) where
         merged = merged;
       }
 
-  turn_with : (side : ℕ) (s : State) (b : Op) (next : List Op) → turn_with (rules_of long) side s b next ≡ turn_with (rules_of lent) side s b next
+  turn_with_lem : (side : ℕ) (s : State) (b : Op) (next : List Op) → turn_with (rules_of long) side s b next ≡ turn_with (rules_of lent) side s b next
   unfolding turn_with
-  turn_with side s b next =
+  turn_with_lem side s b next =
       let u : Remembered = s.left.last in
       let v : Remembered = s.right.last in
       let m = met_same b v in
@@ -227,13 +227,13 @@ module _ (original spans keys text more : List ℕ) where
         cursors = moved_by b (t i) s.left.cursors;
       }
 
-  turn_left : (side : ℕ) (a : Op) (ls : List Op) (s : State) → turn_left (rules_of long) side a ls s ≡ turn_left (rules_of lent) side a ls s
+  turn_left_lem : (side : ℕ) (a : Op) (ls : List Op) (s : State) → turn_left (rules_of long) side a ls s ≡ turn_left (rules_of lent) side a ls s
   unfolding turn_left
-  turn_left side a ls s = turn_with side s (front_of a s.right.next) (tail_of a s.right.next ls)
+  turn_left_lem side a ls s = turn_with_lem side s (front_of a s.right.next) (tail_of a s.right.next ls)
 
-  turn_right : (side : ℕ) (a : Op) (rs : List Op) (s : State) → turn_right (rules_of long) side a rs s ≡ turn_right (rules_of lent) side a rs s
+  turn_right_lem : (side : ℕ) (a : Op) (rs : List Op) (s : State) → turn_right (rules_of long) side a rs s ≡ turn_right (rules_of lent) side a rs s
   unfolding turn_right
-  turn_right side a rs s = ap (λ (t : Turned). record { state = turned t.state; out = t.out; cursors = t.cursors }) (turn_left side a rs (turned s))
+  turn_right_lem side a rs s = ap (λ (t : Turned). record { state = turned t.state; out = t.out; cursors = t.cursors }) (turn_left_lem side a rs (turned s))
 
   -- what is spelled
 
@@ -307,13 +307,13 @@ module _ (original spans keys text more : List ℕ) where
           let n : s.left.next ≡ a ∷ ls = taken_is lent p s.left.next s.right.next (from_left a ls) k in
           let t = turn_left (rules_of lent) 0 a ls s in
           run_left (rules_of long) p f s a ls (e ∙ k)
-          ∙ (ap (λ (x : Turned). before x (run (rules_of long) p f x.state)) (turn_left 0 a ls s)
+          ∙ (ap (λ (x : Turned). before x (run (rules_of long) p f x.state)) (turn_left_lem 0 a ls s)
           ∙ (ap (before t) (ih t.state (asked_tail Reach a ls s.right.next (rw n at h)) g) ∙ sym (run_left (rules_of lent) p f s a ls k)))
       go (from_right b rs) k =
           let n : s.right.next ≡ b ∷ rs = taken_is lent p s.left.next s.right.next (from_right b rs) k in
           let t = turn_right (rules_of lent) 1 b rs s in
           run_right (rules_of long) p f s b rs (e ∙ k)
-          ∙ (ap (λ (x : Turned). before x (run (rules_of long) p f x.state)) (turn_right 1 b rs s)
+          ∙ (ap (λ (x : Turned). before x (run (rules_of long) p f x.state)) (turn_right_lem 1 b rs s)
           ∙ (ap (before t) (ih t.state h (asked_tail Reach b rs s.left.next (rw n at g))) ∙ sym (run_right (rules_of lent) p f s b rs k)))
 
   run_same : (p : Order) (f : ℕ) → Runs p f

@@ -1,5 +1,7 @@
 // The program's work, from the bytes of three files to the bytes that it writes: the merged edit file,
 // or a line `refused=` with the number.
+#![tactic(auto)]
+
 ghost use Rattle.std.specs.Prelude.{◌≡◌, ◌≤◌};
 ghost use Rattle.edit_format.specs.Reading.{read_file};
 ghost use Rattle.merge_files.specs.Program.{refused, utf8, result_of, Written};
@@ -8,7 +10,7 @@ ghost use Rattle.merge_files.specs.Steps.{first_of, Mergeable, Diffable, Files, 
 use refusal::Counted;
 
 // How many bytes stand in the room: a merged edit file, or a refusal's line; or that it is too short.
-#[derive(Drop)]
+#[derive(Clone, Copy)]
 pub enum Outcome {
     Merged(usize),
     Refused(usize),
@@ -16,7 +18,7 @@ pub enum Outcome {
 }
 
 // The number of a refusal before the merge's own; or how much of the original each of the edit files uses.
-#[derive(Drop)]
+#[derive(Clone, Copy)]
 pub enum Checked {
     Refused(usize),
     Uses { left: usize, right: usize },

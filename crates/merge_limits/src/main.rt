@@ -1,6 +1,8 @@
 // Merges a pair of lists at their limits, built by loops: an original of 65,535 code points; 4,096 operations, 8,192 tokens, 65,535 code
 // points of inserted text and 256 cursors each. Half of the operations are inserts of four tokens, the others are deletes and retains. The
 // oracle builds the same pair; its answer, from standard input, is one line: `0 operations cursors`, and a sum over each room.
+#![tactic(auto)]
+
 ghost use Rattle.std.specs.Prelude.{◌<◌};
 
 fn main() {
@@ -17,7 +19,7 @@ fn run(bytes: &[u8]) {
 }
 
 // The answer for the pair: the counts, and the sums over both rooms.
-#[derive(Drop)]
+#[derive(Clone, Copy)]
 struct Due {
     number: usize,
     operations: usize,

@@ -2,6 +2,8 @@
 // is eleven lines: original, inserted text, spans, keys, left operations, right operations, left cursors,
 // right cursors, the answer, and what the rooms for operations and cursors then begin with. The answer is
 // `0 operations cursors`, or a refusal's number and values. Past what is due a room keeps its marks.
+#![tactic(auto)]
+
 mod rooms;
 
 fn main() {
@@ -25,7 +27,7 @@ fn replay(bytes: &[u8]) {
 }
 
 // Whether the call gives the case's answer, and the offset behind the case.
-#[derive(Drop)]
+#[derive(Clone, Copy)]
 struct Case {
     agrees: bool,
     next: usize,

@@ -3,7 +3,7 @@
 use vectors::Due;
 
 // The lengths of the rooms that are lent.
-#[derive(Drop)]
+#[derive(Clone, Copy)]
 pub struct Rooms {
     pub operations: usize,
     pub cursors: usize,

@@ -41,6 +41,7 @@ pub fn fill(new: &[u32], table: &mut [u32])
 
 // Goes through old once. At each place `matched` is the length of the longest beginning of new that
 // ends there, so that a length is first reached at the first occurrence.
+#[tactic(auto, using(crate::proofs::Turns::scanned_longer, crate::proofs::Turns::scanned_whole))]
 pub fn scan(old: &[u32], new: &[u32], table: &[u32]) -> Range
     requires table { Table new.now table.now (length new.now) }
     requires in_bounds { length new.now ≤ length table.now }

@@ -47,6 +47,7 @@ fn is_run(spans: &[u32], keys: &[u32], n: usize, o: records::Operation) -> bool
 }
 
 // Whether an operation is a record of its kind.
+#[tactic(auto, using(crate::proofs::Shapely::record_side, crate::proofs::Shapely::record_insert, crate::proofs::Shapely::record_unknown, crate::proofs::Shapely::record_part))]
 pub fn is_record(spans: &[u32], keys: &[u32], n: usize, o: records::Operation) -> bool
     ensures { result ≡ is_record n spans.now keys.now o }
 {
@@ -96,6 +97,7 @@ pub fn check_both_records(
 }
 
 // Refusal 2 of a list over an original of n code points.
+#[tactic(auto, using(crate::proofs::Tiled::tiled_order, crate::proofs::Tiled::tiled_long, crate::proofs::Tiled::tiled_on))]
 pub fn check_tiling(n: usize, operations: &[usize]) -> Verdict
     ensures { result ≡ tiling_of n (operations_of operations.now) }
 {

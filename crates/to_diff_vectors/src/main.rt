@@ -2,6 +2,8 @@
 // position of small lists. A case is fifteen lines: original, inserted text, spans, keys, operations; seven on cursors, text and
 // history, which are passed over; the answer of `to_diff`, its items and their text. Each is run in rooms that are ample, in those
 // asked, and in those asked with one of them a number too short.
+#![tactic(auto)]
+
 use to_diff::{Diffed, to_diff, to_diff_lengths};
 use vectors::Due;
 
@@ -26,7 +28,7 @@ fn run(bytes: &[u8]) {
 }
 
 // Whether both calls give the case's answer, and the offset behind the case.
-#[derive(Drop)]
+#[derive(Clone, Copy)]
 struct Case {
     agrees: bool,
     next: usize,

@@ -13,9 +13,8 @@ unfolding list_verdict
 returns-then-not-list_fits c = sizes_refuse _ c.requires.1 c.list_fits.ensures c.if-not-list_fits.true
 
 pub check_within-requires : goal.check_within-requires
-check_within-requires c = let s = c in
-    let a = s.args in
-    text_small a.limits a.original.now a.text.now a.spans.now a.keys.now (operations_of a.operations.now) (cursors_of a.cursors.now) s.requires.0 s.requires.1
+check_within-requires c = let a = c.args in
+    text_small a.limits a.original.now a.text.now a.spans.now a.keys.now (operations_of a.operations.now) (cursors_of a.cursors.now) c.requires.0 c.requires.1
     (sym c.list_fits.ensures ∙ c.if-not-list_fits.false) (sym c.check_tiling.ensures ∙ c.in-Accepted-check_tiling.is)
 
 pub returns-in-Refused : goal.returns-in-Refused

@@ -12,15 +12,13 @@ unfolding lists_verdict
 returns-then-not-lists_fit c = sizes_refuse _ c.requires.1 c.lists_fit.ensures c.if-not-lists_fit.true
 
 pub check_within-requires : goal.check_within-requires
-check_within-requires c = let s = c in
-    let a = s.args in
-    left_small a.original.now a.text.now a.spans.now a.keys.now (operations_of a.left.now) (operations_of a.right.now) (cursors_of a.left_cursors.now) (cursors_of a.right_cursors.now) s.requires.0 s.requires.1
+check_within-requires c = let a = c.args in
+    left_small a.original.now a.text.now a.spans.now a.keys.now (operations_of a.left.now) (operations_of a.right.now) (cursors_of a.left_cursors.now) (cursors_of a.right_cursors.now) c.requires.0 c.requires.1
     (sym c.lists_fit.ensures ∙ c.if-not-lists_fit.false) (sym c.check_both_tilings.ensures ∙ c.in-Accepted-check_both_tilings.is)
 
 pub check_within-requires-in-Accepted-check_within : goal.check_within-requires-in-Accepted-check_within
-check_within-requires-in-Accepted-check_within c = let s = c in
-    let a = s.args in
-    right_small a.original.now a.text.now a.spans.now a.keys.now (operations_of a.left.now) (operations_of a.right.now) (cursors_of a.left_cursors.now) (cursors_of a.right_cursors.now) s.requires.0 s.requires.1
+check_within-requires-in-Accepted-check_within c = let a = c.args in
+    right_small a.original.now a.text.now a.spans.now a.keys.now (operations_of a.left.now) (operations_of a.right.now) (cursors_of a.left_cursors.now) (cursors_of a.right_cursors.now) c.requires.0 c.requires.1
     (sym c.lists_fit.ensures ∙ c.if-not-lists_fit.false) (sym c.check_both_tilings.ensures ∙ c.in-Accepted-check_both_tilings.is)
 
 pub returns-in-Refused : goal.returns-in-Refused

@@ -5,13 +5,13 @@ use mathlib.Core.Path.{◌∙◌}
 use Rattle.elongate.proofs.append.Goals as goal
 
 pub returns : goal.returns
-returns c = let b = c in record {
-      in_spans = c.put_u32.ensures.stands ∙ rw
-          (spans_part b.args.spans.now b.args.keys.now b.args.joins.now b.args.r.first b.args.r.count
-          b.requires.lent);
-      in_keys = c.put_u32-2.ensures.stands ∙ rw (keys_part b.args.spans.now b.args.keys.now
-          b.args.joins.now b.args.r.first b.args.r.count b.requires.lent);
-      in_joins = c.put_u8.ensures.stands ∙ rw
-          (joins_part b.args.spans.now b.args.keys.now b.args.joins.now b.args.r.first b.args.r.count
-          b.requires.lent);
-    }
+returns c = record {
+  in_spans = c.put_u32.ensures.stands ∙ rw
+      (spans_part c.args.spans.now c.args.keys.now c.args.joins.now c.args.r.first c.args.r.count
+      c.requires.lent);
+  in_keys = c.put_u32-2.ensures.stands ∙ rw (keys_part c.args.spans.now c.args.keys.now
+      c.args.joins.now c.args.r.first c.args.r.count c.requires.lent);
+  in_joins = c.put_u8.ensures.stands ∙ rw
+      (joins_part c.args.spans.now c.args.keys.now c.args.joins.now c.args.r.first c.args.r.count
+      c.requires.lent);
+}

@@ -68,22 +68,22 @@ right_joinable-right-requires c = let h = rw (took_run c.advance.ensures c.in-Ta
 
 pub extend-current-requires : goal.extend-current-requires
 extend-current-requires c = let h = rw (took_run c.advance.ensures c.in-Take.is c.raw_at-r.ensures) at c.walk.invariant.1 in (
-      omega (arith, sums_most _ _ _ _ _ _ _ _ _ _ _ _ _ _ _ _ _ h c.run_text-length.result c.run_text-length.ensures),
-      omega
-          (arith, tokens_most _ _ _ _ _ _ _ _ _ _ _ _ _ _ _ _ _ h),
-    )
+  omega (arith, sums_most _ _ _ _ _ _ _ _ _ _ _ _ _ _ _ _ _ h c.run_text-length.result c.run_text-length.ensures),
+  omega
+      (arith, tokens_most _ _ _ _ _ _ _ _ _ _ _ _ _ _ _ _ _ h),
+)
 
 pub walk-smaller-then-joins_run : goal.walk-smaller-then-joins_run
 walk-smaller-then-joins_run c = (took c.advance.ensures c.in-Take.is).1.1.0
 
 pub walk-preserved-then-joins_run : goal.walk-preserved-then-joins_run
 walk-preserved-then-joins_run c = let h = rw (took_run c.advance.ensures c.in-Take.is c.raw_at-r.ensures) at c.walk.invariant.1 in (
-      (took c.advance.ensures c.in-Take.is).1.1.1,
-      walk_joins _ _ _ _ _ _ _ _ _ _ _ _ _ _ _ _ _ h c.run_text-length.result
-          c.run_text-length.ensures c.left_joinable-left.result c.right_joinable-right.result c.left_joinable-left.ensures
-          c.right_joinable-right.ensures _ _ _ c.append.ensures _ (sym c.joins_run.ensures ∙ c.if-joins_run.true)
-          c.extend-current.ensures,
-    )
+  (took c.advance.ensures c.in-Take.is).1.1.1,
+  walk_joins _ _ _ _ _ _ _ _ _ _ _ _ _ _ _ _ _ h c.run_text-length.result
+      c.run_text-length.ensures c.left_joinable-left.result c.right_joinable-right.result c.left_joinable-left.ensures
+      c.right_joinable-right.ensures _ _ _ c.append.ensures _ (sym c.joins_run.ensures ∙ c.if-joins_run.true)
+      c.extend-current.ensures,
+)
 
 pub close-written-requires : goal.close-written-requires
 close-written-requires c = let h = rw (took_run c.advance.ensures c.in-Take.is c.raw_at-r.ensures) at
@@ -93,19 +93,19 @@ close-written-requires c = let h = rw (took_run c.advance.ensures c.in-Take.is c
 
 pub renew-current-requires : goal.renew-current-requires
 renew-current-requires c = let h = rw (took_run c.advance.ensures c.in-Take.is c.raw_at-r.ensures) at c.walk.invariant.1 in (
-      omega (arith, sums_most _ _ _ _ _ _ _ _ _ _ _ _ _ _ _ _ _ h c.run_text-length.result c.run_text-length.ensures),
-      omega
-          (arith, tokens_most _ _ _ _ _ _ _ _ _ _ _ _ _ _ _ _ _ h),
-    )
+  omega (arith, sums_most _ _ _ _ _ _ _ _ _ _ _ _ _ _ _ _ _ h c.run_text-length.result c.run_text-length.ensures),
+  omega
+      (arith, tokens_most _ _ _ _ _ _ _ _ _ _ _ _ _ _ _ _ _ h),
+)
 
 pub walk-smaller : goal.walk-smaller
 walk-smaller c = (took c.advance.ensures c.in-Take.is).1.1.0
 
 pub walk-preserved : goal.walk-preserved
 walk-preserved c = let h = rw (took_run c.advance.ensures c.in-Take.is c.raw_at-r.ensures) at c.walk.invariant.1 in (
-      (took c.advance.ensures c.in-Take.is).1.1.1,
-      walk_parts _ _ _ _ _ _ _ _ _ _ _ _ _ _ _ _ _ h c.run_text-length.result
-          c.run_text-length.ensures c.left_joinable-left.result c.right_joinable-right.result c.left_joinable-left.ensures
-          c.right_joinable-right.ensures _ _ _ c.append.ensures _ _ _ (sym c.joins_run.ensures ∙ c.if-joins_run.false) c.close-written.ensures
-          c.renew-current.ensures,
-    )
+  (took c.advance.ensures c.in-Take.is).1.1.1,
+  walk_parts _ _ _ _ _ _ _ _ _ _ _ _ _ _ _ _ _ h c.run_text-length.result
+      c.run_text-length.ensures c.left_joinable-left.result c.right_joinable-right.result c.left_joinable-left.ensures
+      c.right_joinable-right.ensures _ _ _ c.append.ensures _ _ _ (sym c.joins_run.ensures ∙ c.if-joins_run.false) c.close-written.ensures
+      c.renew-current.ensures,
+)

@@ -16,28 +16,28 @@ returns-then-rights-i-2 c = right_ends c.pairs.invariant c.if-lefts-i.false c.if
 
 pub overflow_add-left_at : goal.overflow_add-left_at
 overflow_add-left_at c = omega (
-      arith,
-      left_fits c.pairs.invariant c.if-lefts-i.false c.if-rights-i-2.false c.operation_at-x.ensures c.operation_at-y.ensures
-          (c.same_part.ensures c.if-same_part.true),
-    )
+  arith,
+  left_fits c.pairs.invariant c.if-lefts-i.false c.if-rights-i-2.false c.operation_at-x.ensures c.operation_at-y.ensures
+      (c.same_part.ensures c.if-same_part.true),
+)
 
 pub overflow_add-right_at : goal.overflow_add-right_at
 overflow_add-right_at c = omega (
-      arith,
-      right_fits c.pairs.invariant c.if-lefts-i.false c.if-rights-i-2.false c.operation_at-x.ensures c.operation_at-y.ensures
-          (c.same_part.ensures c.if-same_part.true),
-    )
+  arith,
+  right_fits c.pairs.invariant c.if-lefts-i.false c.if-rights-i-2.false c.operation_at-x.ensures c.operation_at-y.ensures
+      (c.same_part.ensures c.if-same_part.true),
+)
 
 pub pairs-preserved-then-same_part : goal.pairs-preserved-then-same_part
 pairs-preserved-then-same_part c = pair_same c.pairs.invariant c.if-lefts-i.false c.if-rights-i-2.false c.operation_at-x.ensures c.operation_at-y.ensures (c.same_part.ensures c.if-same_part.true)
 
 pub cmp_priority-order-requires : goal.cmp_priority-order-requires
 cmp_priority-order-requires c = record {
-      readable = (left_reads c.pairs.invariant c.if-lefts-i.false c.if-rights-i-2.false c.operation_at-x.ensures c.op_of-a.ensures c.operation_at-y.ensures
-          c.op_of-b.ensures).0;
-      readable_2 = (right_reads c.pairs.invariant c.if-lefts-i.false c.if-rights-i-2.false c.operation_at-x.ensures c.op_of-a.ensures
-          c.operation_at-y.ensures c.op_of-b.ensures).0;
-    }
+  readable = (left_reads c.pairs.invariant c.if-lefts-i.false c.if-rights-i-2.false c.operation_at-x.ensures c.op_of-a.ensures c.operation_at-y.ensures
+      c.op_of-b.ensures).0;
+  readable_2 = (right_reads c.pairs.invariant c.if-lefts-i.false c.if-rights-i-2.false c.operation_at-x.ensures c.op_of-a.ensures
+      c.operation_at-y.ensures c.op_of-b.ensures).0;
+}
 
 pub returns-in-Less : goal.returns-in-Less
 returns-in-Less c = pair_less c.pairs.invariant c.if-lefts-i.false c.if-rights-i-2.false c.operation_at-x.ensures c.op_of-a.ensures c.operation_at-y.ensures
@@ -45,17 +45,17 @@ returns-in-Less c = pair_less c.pairs.invariant c.if-lefts-i.false c.if-rights-i
 
 pub overflow_add-left_at-in-Equal : goal.overflow_add-left_at-in-Equal
 overflow_add-left_at-in-Equal c = omega (
-      arith,
-      (left_reads c.pairs.invariant c.if-lefts-i.false c.if-rights-i-2.false c.operation_at-x.ensures c.op_of-a.ensures
-          c.operation_at-y.ensures c.op_of-b.ensures).1,
-    )
+  arith,
+  (left_reads c.pairs.invariant c.if-lefts-i.false c.if-rights-i-2.false c.operation_at-x.ensures c.op_of-a.ensures
+      c.operation_at-y.ensures c.op_of-b.ensures).1,
+)
 
 pub overflow_add-right_at-in-Equal : goal.overflow_add-right_at-in-Equal
 overflow_add-right_at-in-Equal c = omega (
-      arith,
-      (right_reads c.pairs.invariant c.if-lefts-i.false c.if-rights-i-2.false c.operation_at-x.ensures c.op_of-a.ensures
-          c.operation_at-y.ensures c.op_of-b.ensures).1,
-    )
+  arith,
+  (right_reads c.pairs.invariant c.if-lefts-i.false c.if-rights-i-2.false c.operation_at-x.ensures c.op_of-a.ensures
+      c.operation_at-y.ensures c.op_of-b.ensures).1,
+)
 
 pub pairs-preserved : goal.pairs-preserved
 pairs-preserved c = pair_equal c.pairs.invariant c.if-lefts-i.false c.if-rights-i-2.false c.operation_at-x.ensures c.op_of-a.ensures c.operation_at-y.ensures

@@ -5,6 +5,5 @@ use native.Mathlib.Omega.{arith}
 use Rattle.words.proofs.put_original.Goals as goal
 
 pub returns : goal.returns
-returns c = let b = c in
-    let e : b.args.from + b.args.count - b.args.from ≡ b.args.count = omega arith in
+returns c = let e : c.args.from + c.args.count - c.args.from ≡ c.args.count = omega arith in
     rw e at c.put_u32.ensures

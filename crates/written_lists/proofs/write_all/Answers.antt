@@ -14,11 +14,11 @@ tell-told-requires c = tell_asks _ _ _ _ c.all.invariant.history c.all-test.true
 
 pub all-preserved : goal.all-preserved
 all-preserved c = record {
-      text = text_on _ _ _ c.all.invariant.text c.all-test.true c.requires.1.0 _ c.operation_at-o.ensures
-          c.put_text-at.ensures;
-      history = tell_on _ _ _ _ c.all.invariant.history c.all-test.true c.requires.1.1.0 c.requires.1.1.1 _
-          c.operation_at-o.ensures c.tell-told.ensures;
-    }
+  text = text_on _ _ _ c.all.invariant.text c.all-test.true c.requires.1.0 _ c.operation_at-o.ensures
+      c.put_text-at.ensures;
+  history = tell_on _ _ _ _ c.all.invariant.history c.all-test.true c.requires.1.1.0 c.requires.1.1.1 _
+      c.operation_at-o.ensures c.tell-told.ensures;
+}
 
 pub shape_of-out : goal.shape_of-out
 shape_of-out c = c.all.invariant.text.text.same

@@ -1,6 +1,6 @@
 use Rattle.std.proofs.Common.{arith, sym}
 use Rattle.overlap.proofs.Overlaps.{of_none}
-use Rattle.overlap.proofs.Turns.{falling, fallen, scanned_longer, scanned_kept, scanned_miss, scanned_whole, scanned_out}
+use Rattle.overlap.proofs.Turns.{falling, fallen, scanned_kept, scanned_miss, scanned_out}
 use Rattle.overlap.proofs.find_longest_prefix_contained_within.scan.Goals as goal
 
 pub returns-then-new-eq0 : goal.returns-then-new-eq0
@@ -8,9 +8,6 @@ returns-then-new-eq0 c = sym (of_none _ _ c.if-new-eq0.true)
 
 pub fall-init : goal.fall-init
 fall-init c = falling c.scan.invariant
-
-pub scan-preserved-else-matched-new : goal.scan-preserved-else-matched-new
-scan-preserved-else-matched-new c = scanned_longer c.fall.invariant (omega arith) c.if-key-new.true c.if-end-start.true c.if-matched-new.false
 
 pub scan-preserved-else-end-start : goal.scan-preserved-else-end-start
 scan-preserved-else-end-start c = scanned_kept c.fall.invariant (omega arith) c.if-key-new.true c.if-end-start.false
@@ -23,6 +20,3 @@ fall-preserved c = rw c.wide-matched.ensures (fallen c.fall.invariant c.requires
 
 pub returns-then-i-old : goal.returns-then-i-old
 returns-then-i-old c = scanned_out c.scan.invariant (omega arith)
-
-pub returns-then-matched-new : goal.returns-then-matched-new
-returns-then-matched-new c = scanned_whole c.fall.invariant (omega arith) c.if-key-new.true c.if-matched-new.true

@@ -1,0 +1,15 @@
+-- `case_at` is safe and ends: the lines that were read fit the arrays they were read into.
+use Rattle.std.proofs.Common.{sym, length-take-le}
+use Rattle.merge_vectors.proofs.case_at.Goals as goal
+
+pub slice_bounds-lists_at-end : goal.slice_bounds-lists_at-end
+slice_bounds-lists_at-end c = sym (length-take-le _ _ c.numbers_u32-original_line.ensures.fits)
+
+pub slice_bounds-lists_at-end-2 : goal.slice_bounds-lists_at-end-2
+slice_bounds-lists_at-end-2 c = sym (length-take-le _ _ c.numbers_u32-text_line.ensures.fits)
+
+pub slice_bounds-lists_at-end-3 : goal.slice_bounds-lists_at-end-3
+slice_bounds-lists_at-end-3 c = sym (length-take-le _ _ c.numbers_u32-spans_line.ensures.fits)
+
+pub slice_bounds-lists_at-end-4 : goal.slice_bounds-lists_at-end-4
+slice_bounds-lists_at-end-4 c = sym (length-take-le _ _ c.numbers_u32-keys_line.ensures.fits)

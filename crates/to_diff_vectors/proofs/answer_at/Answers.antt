@@ -1,0 +1,10 @@
+-- `answer_at` is safe and ends: the lines that were read fit the arrays they were read into.
+use mathlib.Core.Path.{sym}
+use lib.Seq.{length-take-le}
+use Rattle.to_diff_vectors.proofs.answer_at.Goals as goal
+
+pub slice_bounds-agrees-end : goal.slice_bounds-agrees-end
+slice_bounds-agrees-end c = sym (length-take-le _ _ c.numbers_i64-items_line.ensures.fits)
+
+pub slice_bounds-agrees-end-2 : goal.slice_bounds-agrees-end-2
+slice_bounds-agrees-end-2 c = sym (length-take-le _ _ c.numbers_u32-words_line.ensures.fits)
