@@ -12,7 +12,7 @@ fn main() {
     println!("cargo::rerun-if-changed={}", archive.display());
     if !archive.exists() {
         println!(
-            "cargo::error={} is absent: run `rt lib exports` at the root of the repository, or name the archive's folder in FLEECELATCH_LIB",
+            "cargo::error={} is absent: run `rt lib` in the repository's folder crates/exports, or name the archive's folder in FLEECELATCH_LIB",
             archive.display()
         );
         return;

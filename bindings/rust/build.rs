@@ -1,4 +1,4 @@
-//! Links the proved archive, which `rt lib exports` writes at the repository's root.
+//! Links the proved archive, which `rt lib` writes in the repository's folder crates/exports.
 use std::{env, fs, path::PathBuf};
 
 fn main() {
@@ -16,7 +16,7 @@ fn main() {
             println!("cargo::rustc-link-lib=static=fleecelatch");
         }
         Err(why) => println!(
-            "cargo::error=cannot read {} ({why}): run `rt lib exports` at the repository's root, which proves and builds it",
+            "cargo::error=cannot read {} ({why}): run `rt lib` in the repository's folder crates/exports, which proves and builds it",
             archive.display()
         ),
     }

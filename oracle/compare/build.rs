@@ -1,5 +1,5 @@
 //! Links the proved library: libexports.a of the folder `FLEECELATCH_LIB`, else of
-//! ../../crates/exports/out, where `rt lib exports` writes it.
+//! ../../crates/exports/out, where `rt lib` writes it.
 
 use std::{env, path::PathBuf};
 
@@ -14,7 +14,7 @@ fn main() {
 
     if !archive.exists() {
         println!(
-            "cargo::error=there is no {}: run `rt lib exports` at the root of the \
+            "cargo::error=there is no {}: run `rt lib` in the folder crates/exports of the \
              repository, or name the archive's folder in FLEECELATCH_LIB",
             archive.display()
         );

@@ -1,5 +1,7 @@
 // Every answer as four numbers, as C is handed it. How each is told is a definition of specs/, and
 // every statement of an export speaks by it.
+#![tactic(auto)]
+
 ghost use Rattle.std.specs.Prelude.{◌≡◌};
 ghost use Rattle.answer.specs.Tellings.{tell_all, tell_applied, tell_believed, tell_count, tell_counts, tell_diff, tell_elongated, tell_file, tell_history, tell_merged, tell_outcome, tell_range, tell_refusal};
 
@@ -8,7 +10,7 @@ use refusal::{Counted, Refusal};
 // refusal 0: accepted, and the others are the answer's counts, 0 after the last. Else the number of
 // the refusal, and the others are what it carries, 0 after the last.
 #[repr(C)]
-#[derive(Drop)]
+#[derive(Clone, Copy)]
 pub struct Answer {
     pub refusal: u64,
     pub first: u64,

@@ -1,6 +1,8 @@
 // Runs the program's work on the oracle's triples of files, from standard input: good, damaged, cut at
 // every place, oversize, with counts that do not fit, with bad UTF-8. A case is four lines of bytes: the
 // original, the left and the right edit file, and what the program writes.
+#![tactic(auto)]
+
 use merge_files::Outcome;
 
 fn main() {
@@ -37,7 +39,7 @@ fn replay(name: &[u8], bytes: &[u8]) {
 }
 
 // Whether the call gives the case's bytes, and the offset behind the case.
-#[derive(Drop)]
+#[derive(Clone, Copy)]
 struct Case {
     agrees: bool,
     next: usize,

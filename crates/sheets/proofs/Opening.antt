@@ -5,7 +5,7 @@ use mathlib.Core.Path.{◌≡◌, refl, ◌∙◌}
 use mathlib.Core.List.{List, [], ◌∷◌}
 use Rattle.utf8_read.specs.Grammar.{utf8_1, utf8_char}
 use Rattle.utf8_read.specs.Table.{decode}
-use Rattle.utf8_read.specs.Reading.{good_from, points_from}
+use Rattle.utf8_read.specs.Reading.{good_from, points_from_lem}
 use Rattle.edit_format.specs.Digits.{digit, digit_of, is_digit}
 use Rattle.numbers.specs.Points.{is_point}
 use Rattle.edit_format.specs.Items.{Item, Keep, Drop, Add, kept, dropped, added, is_keep, ends_keep}
@@ -29,7 +29,7 @@ reads = (refl, (refl, refl))
 
 passes : (result_of abcdef.original abcdef.left abcdef.right ≡ of_files padding letters (read_file abcdef.left) (read_file abcdef.right))
     × (result_of nothing.original nothing.left nothing.right ≡ of_files padding [] (read_file none) (read_file none))
-unfolding result_of good_from points_from utf8_char utf8_1 decode ascii lines
+unfolding result_of good_from points_from_lem utf8_char utf8_1 decode ascii lines
 passes = (refl, refl)
 
 pub opens_abcdef : result_of abcdef.original abcdef.left abcdef.right ≡ merged_of (lent_of padding letters lefts rights) (left_of lefts) (right_of lefts rights)

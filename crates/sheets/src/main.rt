@@ -1,4 +1,6 @@
 // Runs every sheet of document 01 against the public calls, and tells of each whether it holds.
+#![tactic(auto)]
+
 mod files;
 mod merges;
 mod overlaps;

@@ -4,7 +4,7 @@ use reconcile::diffs::{from_covering_diff, from_diff};
 use refusal::Counted;
 
 // A refusal's number and its values; 0 after the last.
-#[derive(Drop)]
+#[derive(Clone, Copy)]
 struct Due {
     number: usize,
     first: u64,

@@ -25,13 +25,13 @@ put_points-requires c = insert_fits _ _ _ _ _ _ _ _ _ _ _ c.requires.0 c.require
 
 pub overflow_add-result : goal.overflow_add-result
 overflow_add-result c = record {
-      fits = omega (
-        arith,
-        (insert_fits _ _ _ _ _ _ _ _ _ _ _ c.requires.0 c.requires.1
-            (sym c.item_at.ensures ∙ c.in-Insert.is)).in_keys,
-        c.well_formed.1.1.1.1.1.1.1.0,
-      );
-    }
+  fits = omega (
+    arith,
+    (insert_fits _ _ _ _ _ _ _ _ _ _ _ c.requires.0 c.requires.1
+        (sym c.item_at.ensures ∙ c.in-Insert.is)).in_keys,
+    c.well_formed.1.1.1.1.1.1.1.0,
+  );
+}
 
 pub returns-in-Retain : goal.returns-in-Retain
 returns-in-Retain c = rw (retain_run _ _ _ _ (sym c.item_at.ensures ∙ c.in-Retain.is)) c.put_part.ensures

@@ -17,10 +17,10 @@ run_text-size-requires c = (count_spells c.operations.invariant c.operation_at-r
 
 pub overflow_add-size : goal.overflow_add-size
 overflow_add-size c = omega (
-      arith,
-      count_adds c.operations.invariant c.operation_at-r.result c.operations-test.true c.operation_at-r.ensures
-          c.if-r-eq1.true c.requires c.run_text-size.result c.run_text-size.ensures,
-    )
+  arith,
+  count_adds c.operations.invariant c.operation_at-r.result c.operations-test.true c.operation_at-r.ensures
+      c.if-r-eq1.true c.requires c.run_text-size.result c.run_text-size.ensures,
+)
 
 pub overflow_add-found : goal.overflow_add-found
 overflow_add-found c = omega (arith, count_few c.operations.invariant c.requires)

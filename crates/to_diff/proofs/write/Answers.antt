@@ -23,12 +23,12 @@ put_insert-at-requires c = let v = c.operations.invariant in insert_puts v.few v
 
 pub overflow_add-place : goal.overflow_add-place
 overflow_add-place c = let v = c.operations.invariant in omega (
-      arith,
-      v.many,
-      place_most v.fits
-          (insert_closes v.few v.fits (take_first v c.operation_at-o.result c.operations-test.true c.operation_at-o.ensures)
-          c.if-o-eq1.true c.put_kept-here.ensures),
-    )
+  arith,
+  v.many,
+  place_most v.fits
+      (insert_closes v.few v.fits (take_first v c.operation_at-o.result c.operations-test.true c.operation_at-o.ensures)
+      c.if-o-eq1.true c.put_kept-here.ensures),
+)
 
 pub operations-smaller-then-o-eq1 : goal.operations-smaller-then-o-eq1
 operations-smaller-then-o-eq1 c = omega (arith, c.operations-test.true)
@@ -50,12 +50,12 @@ put_dropped-requires c = let v = c.operations.invariant in delete_puts v.few v.f
 
 pub overflow_add-place-then-o-eq0 : goal.overflow_add-place-then-o-eq0
 overflow_add-place-then-o-eq0 c = let v = c.operations.invariant in omega (
-      arith,
-      v.many,
-      place_most v.fits
-          (delete_closes v.few v.fits (take_first v c.operation_at-o.result c.operations-test.true c.operation_at-o.ensures)
-          c.if-o-eq0.true c.put_kept-here-then-o-eq0.ensures),
-    )
+  arith,
+  v.many,
+  place_most v.fits
+      (delete_closes v.few v.fits (take_first v c.operation_at-o.result c.operations-test.true c.operation_at-o.ensures)
+      c.if-o-eq0.true c.put_kept-here-then-o-eq0.ensures),
+)
 
 pub operations-smaller-then-o-eq0 : goal.operations-smaller-then-o-eq0
 operations-smaller-then-o-eq0 c = omega (arith, c.operations-test.true)
@@ -68,10 +68,10 @@ operations-preserved-then-o-eq0 c = let v = c.operations.invariant in take_again
 
 pub overflow_add-kept : goal.overflow_add-kept
 overflow_add-kept c = let v = c.operations.invariant in omega (
-      arith,
-      retain_small v.few v.fits (take_first v c.operation_at-o.result c.operations-test.true c.operation_at-o.ensures)
-          c.if-o-eq1.false c.if-o-eq0.false,
-    )
+  arith,
+  retain_small v.few v.fits (take_first v c.operation_at-o.result c.operations-test.true c.operation_at-o.ensures)
+      c.if-o-eq1.false c.if-o-eq0.false,
+)
 
 pub operations-smaller : goal.operations-smaller
 operations-smaller c = omega (arith, c.operations-test.true)

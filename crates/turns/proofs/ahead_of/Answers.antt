@@ -10,11 +10,11 @@ use Rattle.turns.proofs.ahead_of.Goals as goal
 
 pub overflow_add-result-then-behind-operations : goal.overflow_add-result-then-behind-operations
 overflow_add-result-then-behind-operations c = omega (
-      arith,
-      first_fits c.args.operations.now c.args.behind c.args.at c.if-behind-operations.true c.requires,
-      ap span_of
-          (c.op_of-op.ensures ∙ ap (λ (o : Operation). op_of c.args.at o) c.operation_at.ensures),
-    )
+  arith,
+  first_fits c.args.operations.now c.args.behind c.args.at c.if-behind-operations.true c.requires,
+  ap span_of
+      (c.op_of-op.ensures ∙ ap (λ (o : Operation). op_of c.args.at o) c.operation_at.ensures),
+)
 
 pub returns-then-behind-operations : goal.returns-then-behind-operations
 returns-then-behind-operations c = looks_here _ _ _ c.op_of-op.result _ c.if-behind-operations.true
