@@ -7,6 +7,7 @@ use Prim.Native.Nat.{ℕ, zero, suc, ◌+◌, ◌-◌, ◌*◌, ◌/◌, ◌%◌
 use native.Mathlib.Nat.{div-lt_self, zero-div, div-eq_of_lt, mul-add-div_right, mul-add-mod_self_right, mod-eq_of_lt, mul-le-mul_right, add-zero}
 use native.Mathlib.Omega.{arith}
 use native.Mathlib.Decide.{dec_lt}
+use lib.Bits.{bit_and, and_mask}
 use lib.Dec.{ltb, eqb}
 use borrow.Author.Tests.{ltb-true, ltb-false, eqb-true, lt-ltb, le-ltb, eq-eqb, ne_eqb}
 use Rattle.room.specs.Choice.{pick}
@@ -132,6 +133,13 @@ value_writes b g h e = elim (dec_lt b 58) [
   | yes a ↦ omega (arith, value_ten b g a)
   | no a ↦ let c : 97 ≤ b = omega arith in omega (arith, value_six b c (omega arith))
 ]
+
+-- the same of a byte's number and its six lowest bits, as the code has them
+pub hex_between : (b x : ℕ) → x ≡ b → 48 ≤ x → x ≤ 102 → 24 < bit_and (x + 31) 63 → 16 ≡ value_of b
+hex_between b x e g h t = sym (value_between b (omega arith) (omega arith) (rw (e, and_mask (b + 31) 6) at t))
+
+pub hex_writes : (b x : ℕ) → x ≡ b → 48 ≤ x → x ≤ 102 → bit_and (x + 31) 63 ≤ 24 → value_of b < 16
+hex_writes b x e g h t = value_writes b (omega arith) (omega arith) (rw (e, and_mask (b + 31) 6) at t)
 
 -- a digit of base m is one of base 16 that is below m
 pub value_test : (m b : ℕ) → m ≤ 16 → ltb (value_of b) m ≡ is_digit m b

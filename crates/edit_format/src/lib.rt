@@ -37,6 +37,7 @@ pub fn digit(b: u8) -> u32
 
 // The same for numbers in hex. No branch tells 0 to 9 from a to f, since no processor could foresee it: the bytes between them are those
 // with more than 24 here. (Of a decimal number, a compiler leaves one test of `value`.)
+#[tactic(auto, using(crate::proofs::DigitLaws::hex_between, crate::proofs::DigitLaws::hex_writes))]
 pub fn hex_value(b: u8) -> u32
     ensures { result ≡ value_of b }
 {

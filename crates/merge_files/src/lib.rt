@@ -47,6 +47,7 @@ fn is_utf8(bytes: &[u8]) -> bool
 }
 
 // The first refusal before the merge's own, 3, 10 or 8; or how much of the original each of the edit files uses.
+#[tactic(auto, unfolding(crate::specs::Steps::first_of))]
 fn check_files(original: &[u8], left: &[u8], right: &[u8]) -> Checked
     ensures { result ≡ first_of original.now left.now right.now }
 {

@@ -2,9 +2,7 @@
 -- How: each way through it is a law of proofs/DigitLaws.antt.
 use mathlib.Core.Path.{sym}
 use native.Mathlib.Omega.{arith}
-use Prim.Native.Nat.{◌+◌}
-use lib.Bits.{and_mask}
-use Rattle.edit_format.proofs.DigitLaws.{value_low, value_high, value_between, value_writes}
+use Rattle.edit_format.proofs.DigitLaws.{value_low, value_high}
 use Rattle.edit_format.proofs.hex_value.Goals as goal
 
 pub returns-then-x-lt48 : goal.returns-then-x-lt48
@@ -15,12 +13,6 @@ returns-then-x-gt102 c = sym (value_high c.args.b (omega arith))
 
 pub overflow_add-x : goal.overflow_add-x
 overflow_add-x c = omega arith
-
-pub returns-then-x-gt24 : goal.returns-then-x-gt24
-returns-then-x-gt24 c = sym (value_between c.args.b (omega arith) (omega arith) (rw (c.wide-x.ensures, and_mask (c.args.b + 31) 6) at c.if-x-gt24.true))
-
-pub digit-requires : goal.digit-requires
-digit-requires c = value_writes c.args.b (omega arith) (omega arith) (rw (c.wide-x.ensures, and_mask (c.args.b + 31) 6) at c.if-x-gt24.false)
 
 pub returns : goal.returns
 returns c = c.digit.ensures

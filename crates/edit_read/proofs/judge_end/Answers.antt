@@ -1,6 +1,7 @@
 -- Shown: `judge_end` meets its contract.
 -- How: each way through it is a law of proofs/Judging.antt.
 use mathlib.Core.Path.{sym, ◌∙◌}
+use native.Mathlib.Omega.{arith}
 use Rattle.edit_read.proofs.Judging.{no_end, other_end, more_bytes, false_original, false_result, accepts}
 use Rattle.edit_read.proofs.judge_end.Goals as goal
 
@@ -17,10 +18,10 @@ pub returns-then-next-bytes : goal.returns-then-next-bytes
 returns-then-next-bytes c = more_bytes c.requires (sym c.number_line.ensures ∙ c.in-Value.is) c.if-value-h.false c.if-next-bytes.true
 
 pub returns-then-s-h : goal.returns-then-s-h
-returns-then-s-h c = false_original c.requires (sym c.number_line.ensures ∙ c.in-Value.is) c.if-value-h.false c.if-next-bytes.false c.if-s-h.true
+returns-then-s-h c = false_original c.requires (sym c.number_line.ensures ∙ c.in-Value.is) c.if-value-h.false (omega arith) c.if-s-h.true
 
 pub returns-then-s-h-2 : goal.returns-then-s-h-2
-returns-then-s-h-2 c = false_result c.requires (sym c.number_line.ensures ∙ c.in-Value.is) c.if-value-h.false c.if-next-bytes.false c.if-s-h.false c.if-s-h-2.true
+returns-then-s-h-2 c = false_result c.requires (sym c.number_line.ensures ∙ c.in-Value.is) c.if-value-h.false (omega arith) c.if-s-h.false c.if-s-h-2.true
 
 pub returns : goal.returns
-returns c = accepts c.requires (sym c.number_line.ensures ∙ c.in-Value.is) c.if-value-h.false c.if-next-bytes.false c.if-s-h.false c.if-s-h-2.false
+returns c = accepts c.requires (sym c.number_line.ensures ∙ c.in-Value.is) c.if-value-h.false (omega arith) c.if-s-h.false c.if-s-h-2.false

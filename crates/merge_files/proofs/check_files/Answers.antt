@@ -20,10 +20,6 @@ pub returns-then-right-gt2048 : goal.returns-then-right-gt2048
 unfolding first_of
 returns-then-right-gt2048 c = rw (le-leb (length c.args.original.now) 2048 (omega (arith, c.if-original-gt2048.false)), le-leb (length c.args.left.now) 2048 (omega (arith, c.if-left-gt2048.false)), lt-leb (length c.args.right.now) 2048 (omega (arith, c.if-right-gt2048.true)))
 
-pub returns-then-not-is_utf8 : goal.returns-then-not-is_utf8
-unfolding first_of
-returns-then-not-is_utf8 c = rw (le-leb (length c.args.original.now) 2048 (omega (arith, c.if-original-gt2048.false)), le-leb (length c.args.left.now) 2048 (omega (arith, c.if-left-gt2048.false)), le-leb (length c.args.right.now) 2048 (omega (arith, c.if-right-gt2048.false)), sym c.is_utf8.ensures ∙ c.if-not-is_utf8.true)
-
 pub returns-then-not-is_utf8-2 : goal.returns-then-not-is_utf8-2
 unfolding first_of
 returns-then-not-is_utf8-2 c = rw (le-leb (length c.args.original.now) 2048 (omega (arith, c.if-original-gt2048.false)), le-leb (length c.args.left.now) 2048 (omega (arith, c.if-left-gt2048.false)), le-leb (length c.args.right.now) 2048 (omega (arith, c.if-right-gt2048.false)), sym c.is_utf8.ensures ∙ c.if-not-is_utf8.false, sym c.is_utf8-2.ensures ∙ c.if-not-is_utf8-2.true)

@@ -70,7 +70,7 @@ pub overflow_add-kept : goal.overflow_add-kept
 overflow_add-kept c = let v = c.operations.invariant in omega (
   arith,
   retain_small v.few v.fits (take_first v c.operation_at-o.result c.operations-test.true c.operation_at-o.ensures)
-      c.if-o-eq1.false c.if-o-eq0.false,
+      (omega arith) (omega arith),
 )
 
 pub operations-smaller : goal.operations-smaller
@@ -79,7 +79,7 @@ operations-smaller c = omega (arith, c.operations-test.true)
 pub operations-preserved : goal.operations-preserved
 operations-preserved c = let v = c.operations.invariant in take_again v c.operations-test.true
     (retain_held v.few v.fits (take_first v c.operation_at-o.result c.operations-test.true c.operation_at-o.ensures)
-    c.if-o-eq1.false c.if-o-eq0.false)
+    (omega arith) (omega arith))
 
 pub put_kept-items-requires : goal.put_kept-items-requires
 put_kept-items-requires c = let v = c.operations.invariant in end_fits v.few v.fits (take_none v c.operations-test.false)
