@@ -1,6 +1,6 @@
 -- `check_files` gives the first refusal before the merge's own.
 -- Each way fixes the tests before it.
-use borrow.Author.Tests.{le-leb, lt-leb, not-false}
+use borrow.Author.Tests.{le-leb, lt-leb}
 use mathlib.Core.Path.{sym, ◌∙◌}
 use native.Mathlib.Omega.{arith}
 use lib.ListN.{length}
