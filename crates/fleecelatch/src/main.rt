@@ -19,7 +19,8 @@ struct Found {
     count: usize,
 }
 
-// A read that fails leaves what it is asked for cut short, where the file's end shows that it is whole.
+// Reads until the buffer is full or the file ends. A read that fails is no end: what stands in the buffer then may be
+// cut short, and does not count as whole.
 fn read_all(file: &mut File, bytes: &mut [u8]) -> Found
     ensures { IsPrefixLen result.count bytes.new }
 {

@@ -1,3 +1,5 @@
+-- `check_tiling` gives refusal 2 of a list.
+-- The law `tiles` of Folds makes of the fold's end the definition's verdict.
 use Rattle.std.proofs.Common.{arith, ap, ◌∙◌}
 use Rattle.operations.specs.Folds.{tile_end}
 use Rattle.operations.proofs.Folds.{tiles}
