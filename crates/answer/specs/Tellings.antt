@@ -1,26 +1,15 @@
 -- Every answer as the four numbers that C is handed. Assumes nothing.
-use Rattle.std.specs.Prelude.{ℕ, ◌≡◌, Bool, true, false}
+use Rattle.std.specs.Prelude.{ℕ, ◌≡◌, Bool, true, false, Result, Ok, Err}
 use Rattle.refusal.specs.Numbers.{number, values, padded}
 use Rattle.refusal.specs.declared.Refusal.{Refusal}
 use Rattle.refusal.specs.declared.Refusal.TheVariants as R
-use Rattle.refusal.specs.declared.Counted.{Counted}
-use Rattle.refusal.specs.declared.Counted.TheVariants as C
-use Rattle.overlap.specs.declared.Found.{Found}
-use Rattle.overlap.specs.declared.Found.TheVariants as F
-use Rattle.elongate.specs.declared.Answer.{Answer as Elongated}
-use Rattle.elongate.specs.declared.Answer.TheVariants as E
-use Rattle.edited_text.specs.declared.Answer.{Answer as Merged}
-use Rattle.edited_text.specs.declared.Answer.TheVariants as M
+use Rattle.overlap.specs.declared.Range.{Range}
+use Rattle.elongate.specs.declared.Written.{Written}
+use Rattle.edited_text.specs.declared.Counts.{Counts as Merged}
 use Rattle.apply.specs.declared.Applied.{Applied}
-use Rattle.apply.specs.declared.Applied.TheVariants as A
 use Rattle.apply.specs.declared.WithHistory.{WithHistory}
-use Rattle.apply.specs.declared.WithHistory.TheVariants as H
 use Rattle.apply.specs.declared.WithAll.{WithAll}
-use Rattle.apply.specs.declared.WithAll.TheVariants as B
-use Rattle.to_diff.specs.declared.Diffed.{Diffed}
-use Rattle.to_diff.specs.declared.Diffed.TheVariants as D
-use Rattle.edit_read.specs.declared.FileRead.{FileRead}
-use Rattle.edit_read.specs.declared.FileRead.TheVariants as L
+use Rattle.item_records.specs.declared.Counts.{Counts}
 use Rattle.merge_files.specs.declared.Outcome.{Outcome}
 use Rattle.merge_files.specs.declared.Outcome.TheVariants as O
 use Rattle.answer.specs.declared.Answer.{Answer}
@@ -35,50 +24,70 @@ abbrev pub tell_refusal : Refusal → Answer
 tell_refusal why =
     record { refusal = number why; first = (padded (values why)).first; second = (padded (values why)).second; third = (padded (values why)).third }
 
+-- what was accepted is told in its own way, a refusal by its number and what it carries
+abbrev pub told : {T : Type 0} → (T → Answer) → Result T Refusal → Answer
+told tell (Ok x) = tell x
+told tell (Err why) = tell_refusal why
+
 -- "the exact length of the answer": in code points or bytes
-abbrev pub tell_count : Counted → Answer
-tell_count (C.Count n) = tell_counts n 0 0
-tell_count (C.Refused why) = tell_refusal why
+abbrev pub tell_count : Result ℕ Refusal → Answer
+tell_count = told (λ n. tell_counts n 0 0)
 
 -- "the longest beginning of new that occurs in old, at its first occurrence; 0..0 if none"
-abbrev pub tell_range : Found → Answer
-tell_range (F.Range s e) = tell_counts s e 0
-tell_range (F.Refused why) = tell_refusal why
+abbrev pub of_range : Range → Answer
+of_range r = tell_counts r.start r.end 0
+
+-- "the longest beginning of new that occurs in old, at its first occurrence; 0..0 if none": or the refusal
+abbrev pub tell_range : Result Range Refusal → Answer
+tell_range = told of_range
 
 -- "Elongating: as many operations, and as many tokens": how many there are of each
-abbrev pub tell_elongated : Elongated → Answer
-tell_elongated (E.Counts n) = tell_counts n.operations n.tokens 0
-tell_elongated (E.Refused why) = tell_refusal why
+abbrev pub of_elongated : Written → Answer
+of_elongated n = tell_counts n.operations n.tokens 0
+
+-- "Elongating: as many operations, and as many tokens": or the refusal
+abbrev pub tell_elongated : Result Written Refusal → Answer
+tell_elongated = told of_elongated
 
 -- "Rooms for a merge: operations, [..]; cursors": how many there are of each
-abbrev pub tell_merged : Merged → Answer
-tell_merged (M.Counts n) = tell_counts n.operations n.cursors 0
-tell_merged (M.Refused why) = tell_refusal why
+abbrev pub of_merged : Merged → Answer
+of_merged n = tell_counts n.operations n.cursors 0
+
+-- "Rooms for a merge: operations, [..]; cursors": or the refusal
+abbrev pub tell_merged : Result Merged Refusal → Answer
+tell_merged = told of_merged
 
 -- "A list's text", and its cursors: how many code points, how many cursors
-abbrev pub tell_applied : Applied → Answer
-tell_applied (A.Counts text cursors) = tell_counts text cursors 0
-tell_applied (A.Refused why) = tell_refusal why
+abbrev pub of_applied : Applied → Answer
+of_applied n = tell_counts n.text n.cursors 0
+
+-- "A list's text": or the refusal
+abbrev pub tell_applied : Result Applied Refusal → Answer
+tell_applied = told of_applied
 
 -- "History has one span for each operation": spans, and their text
-abbrev pub tell_history : WithHistory → Answer
-tell_history (H.Counts spans text) = tell_counts spans text 0
-tell_history (H.Refused why) = tell_refusal why
+abbrev pub of_history : WithHistory → Answer
+of_history n = tell_counts n.spans n.text 0
+
+-- "History has one span for each operation": or the refusal
+abbrev pub tell_history : Result WithHistory Refusal → Answer
+tell_history = told of_history
 
 -- "apply, apply_with_history, apply_with_all": of the last. The cursors are as many as were lent, so their count is left out
-abbrev pub tell_all : WithAll → Answer
-tell_all (B.Counts text cursors spans history) = tell_counts text spans history
-tell_all (B.Refused why) = tell_refusal why
+abbrev pub of_all : WithAll → Answer
+of_all n = tell_counts n.text n.spans n.history_text
 
--- "to_diff": items, and their text
-abbrev pub tell_diff : Diffed → Answer
-tell_diff (D.Counts items text) = tell_counts items text 0
-tell_diff (D.Refused why) = tell_refusal why
+-- "apply, apply_with_history, apply_with_all": or the refusal
+abbrev pub tell_all : Result WithAll Refusal → Answer
+tell_all = told of_all
 
--- "Edit files": items, and their text
-abbrev pub tell_file : FileRead → Answer
-tell_file (L.Counts items text) = tell_counts items text 0
-tell_file (L.Refused why) = tell_refusal why
+-- "to_diff", and "Edit files": items, and their text
+abbrev pub of_diff : Counts → Answer
+of_diff n = tell_counts n.items n.text 0
+
+-- "to_diff": or the refusal
+abbrev pub tell_diff : Result Counts Refusal → Answer
+tell_diff = told of_diff
 
 -- "A file is believed for an original": 1, else 0
 abbrev pub tell_believed : Bool → Answer

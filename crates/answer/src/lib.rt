@@ -3,9 +3,13 @@
 #![tactic(auto)]
 
 ghost use Rattle.std.specs.Prelude.{◌≡◌};
-ghost use Rattle.answer.specs.Tellings.{tell_all, tell_applied, tell_believed, tell_count, tell_counts, tell_diff, tell_elongated, tell_file, tell_history, tell_merged, tell_outcome, tell_range, tell_refusal};
+ghost use Rattle.answer.specs.declared.Answer.{Answer};
+ghost use Rattle.answer.specs.Tellings.{told, tell_counts, of_range, of_elongated, of_merged, of_applied, of_history, of_all, of_diff, tell_believed, tell_outcome, tell_refusal};
 
-use refusal::{Counted, Refusal};
+use apply::{Applied, WithAll, WithHistory};
+use merge_files::Outcome;
+use overlap::Range;
+use refusal::Refusal;
 
 // refusal 0: accepted, and the others are the answer's counts, 0 after the last. Else the number of
 // the refusal, and the others are what it carries, 0 after the last.
@@ -29,120 +33,119 @@ fn tell_counts(first: usize, second: usize, third: usize) -> Answer
     }
 }
 
-fn tell_refusal(why: Refusal) -> Answer
-    ensures { result ≡ tell_refusal why }
-{
-    let number = refusal::number_of(why);
-    let values = refusal::values_of(why);
-    Answer {
-        refusal: number as u64,
-        first: values.first,
-        second: values.second,
-        third: values.third,
+// What is told as four numbers.
+pub trait Tell {
+    ghost telling: { Self → Answer };
+
+    fn tell(self) -> Answer
+        ensures { result ≡ telling self };
+}
+
+impl Tell for Refusal {
+    ghost telling = { tell_refusal };
+
+    fn tell(self) -> Answer {
+        let values = self.values();
+        Answer {
+            refusal: self.number() as u64,
+            first: values.first,
+            second: values.second,
+            third: values.third,
+        }
     }
 }
 
-pub fn tell_count(answer: Counted) -> Answer
-    ensures { result ≡ tell_count answer }
-{
-    match answer {
-        Counted::Count(n) => tell_counts(n, 0, 0),
-        Counted::Refused(why) => tell_refusal(why),
+impl<T: Tell> Tell for Result<T, Refusal> {
+    ghost telling = { told T.telling };
+
+    fn tell(self) -> Answer {
+        match self {
+            Ok(value) => value.tell(),
+            Err(why) => why.tell(),
+        }
     }
 }
 
-pub fn tell_range(answer: overlap::Found) -> Answer
-    ensures { result ≡ tell_range answer }
-{
-    match answer {
-        overlap::Found::Range { start, end } => tell_counts(start, end, 0),
-        overlap::Found::Refused(why) => tell_refusal(why),
+impl Tell for usize {
+    ghost telling = { λ n. tell_counts n 0 0 };
+
+    fn tell(self) -> Answer {
+        tell_counts(self, 0, 0)
     }
 }
 
-pub fn tell_elongated(answer: elongate::Answer) -> Answer
-    ensures { result ≡ tell_elongated answer }
-{
-    match answer {
-        elongate::Answer::Counts(written) => tell_counts(written.operations, written.tokens, 0),
-        elongate::Answer::Refused(why) => tell_refusal(why),
+impl Tell for Range {
+    ghost telling = { of_range };
+
+    fn tell(self) -> Answer {
+        tell_counts(self.start, self.end, 0)
     }
 }
 
-pub fn tell_merged(answer: edited_text::Answer) -> Answer
-    ensures { result ≡ tell_merged answer }
-{
-    match answer {
-        edited_text::Answer::Counts(counts) => tell_counts(counts.operations, counts.cursors, 0),
-        edited_text::Answer::Refused(why) => tell_refusal(why),
+impl Tell for elongate::Written {
+    ghost telling = { of_elongated };
+
+    fn tell(self) -> Answer {
+        tell_counts(self.operations, self.tokens, 0)
     }
 }
 
-pub fn tell_applied(answer: apply::Applied) -> Answer
-    ensures { result ≡ tell_applied answer }
-{
-    match answer {
-        apply::Applied::Counts { text, cursors } => tell_counts(text, cursors, 0),
-        apply::Applied::Refused(why) => tell_refusal(why),
+impl Tell for edited_text::Counts {
+    ghost telling = { of_merged };
+
+    fn tell(self) -> Answer {
+        tell_counts(self.operations, self.cursors, 0)
     }
 }
 
-pub fn tell_history(answer: apply::WithHistory) -> Answer
-    ensures { result ≡ tell_history answer }
-{
-    match answer {
-        apply::WithHistory::Counts { spans, text } => tell_counts(spans, text, 0),
-        apply::WithHistory::Refused(why) => tell_refusal(why),
+impl Tell for Applied {
+    ghost telling = { of_applied };
+
+    fn tell(self) -> Answer {
+        tell_counts(self.text, self.cursors, 0)
     }
 }
 
-pub fn tell_all(answer: apply::WithAll) -> Answer
-    ensures { result ≡ tell_all answer }
-{
-    match answer {
-        apply::WithAll::Counts {
-            text,
-            cursors: _,
-            spans,
-            history_text,
-        } => tell_counts(text, spans, history_text),
-        apply::WithAll::Refused(why) => tell_refusal(why),
+impl Tell for WithHistory {
+    ghost telling = { of_history };
+
+    fn tell(self) -> Answer {
+        tell_counts(self.spans, self.text, 0)
     }
 }
 
-pub fn tell_diff(answer: to_diff::Diffed) -> Answer
-    ensures { result ≡ tell_diff answer }
-{
-    match answer {
-        to_diff::Diffed::Counts { items, text } => tell_counts(items, text, 0),
-        to_diff::Diffed::Refused(why) => tell_refusal(why),
+impl Tell for WithAll {
+    ghost telling = { of_all };
+
+    fn tell(self) -> Answer {
+        tell_counts(self.text, self.spans, self.history_text)
     }
 }
 
-pub fn tell_file(answer: edit_read::FileRead) -> Answer
-    ensures { result ≡ tell_file answer }
-{
-    match answer {
-        edit_read::FileRead::Counts { items, text } => tell_counts(items, text, 0),
-        edit_read::FileRead::Refused(why) => tell_refusal(why),
+impl Tell for item_records::Counts {
+    ghost telling = { of_diff };
+
+    fn tell(self) -> Answer {
+        tell_counts(self.items, self.text, 0)
     }
 }
 
-pub fn tell_believed(answer: bool) -> Answer
-    ensures { result ≡ tell_believed answer }
-{
-    if answer {
-        return tell_counts(1, 0, 0);
+impl Tell for bool {
+    ghost telling = { tell_believed };
+
+    fn tell(self) -> Answer {
+        tell_counts(self as usize, 0, 0)
     }
-    tell_counts(0, 0, 0)
 }
 
-pub fn tell_outcome(answer: merge_files::Outcome) -> Answer
-    ensures { result ≡ tell_outcome answer }
-{
-    match answer {
-        merge_files::Outcome::Merged(bytes) => tell_counts(bytes, 0, 0),
-        merge_files::Outcome::Refused(bytes) => tell_counts(bytes, 1, 0),
-        merge_files::Outcome::Room => tell_refusal(Refusal::Room),
+impl Tell for Outcome {
+    ghost telling = { tell_outcome };
+
+    fn tell(self) -> Answer {
+        match self {
+            Outcome::Merged(bytes) => tell_counts(bytes, 0, 0),
+            Outcome::Refused(bytes) => tell_counts(bytes, 1, 0),
+            Outcome::Room => Refusal::Room.tell(),
+        }
     }
 }

@@ -1,7 +1,7 @@
 -- Shown: the ways of `apply_with_all`: what was written is the answer, a refusal leaves the rooms; and the answer is the only one.
 -- How: by what the call on lengths answered, and by the tests of the rooms.
 use Prim.Native.Nat.{ℕ, ◌*◌, ◌≤◌}
-use mathlib.Core.Path.{◌≡◌, refl, sym, ◌∙◌, ap}
+use mathlib.Core.Path.{◌≡◌, sym, ◌∙◌, ap}
 use mathlib.Core.Bool.{Bool, true, false, ◌&&◌}
 use mathlib.Core.List.{List}
 use lib.ListN.{length}
@@ -13,61 +13,40 @@ use Rattle.records.specs.declared.Operation.{Operation}
 use Rattle.records.specs.declared.Cursor.{Cursor}
 use Rattle.records.specs.Cursors.{flat_cursors}
 use Rattle.cursors.specs.Sorted.{sorted}
-use Rattle.verdict.specs.declared.Verdict.{Verdict}
-use Rattle.verdict.specs.declared.Verdict.TheVariants.{Accepted, Refused}
 use Rattle.room.proofs.Bools.{first_no, second_no, both_yes}
 use Rattle.verdict.proofs.Chains.{stops, has_room, lacks_room}
+use Rattle.checks.proofs.Telling.{says_no, says_yes, says_what}
 use Rattle.merging.specs.Lent.{Lent}
 use Rattle.merging.specs.Outputs.{history_text, flat_spans}
 use Rattle.apply.specs.declared.WithAll.{WithAll}
-use Rattle.apply.specs.declared.WithAll.TheVariants as B
 use Rattle.written_lists.specs.Parts.{text_by, history_by, AllLie, Wrote}
-use Rattle.apply.specs.Answers.{verdict_on, text_on, history_on, fits, all_verdict, told_all, AppliesAll}
+use Rattle.apply.specs.Answers.{verdict_on, text_on, history_on, fits, all_verdict, told_all_on, AppliesAll}
 use Rattle.apply.proofs.Lists.{history_is}
 use Rattle.apply.proofs.Answering.{all_lies, same_text, text_rooms, history_rooms, text_fits, history_fits}
+use Rattle.std.specs.Prelude.{Result, Ok, Err}
+use Rattle.verdict.specs.Verdicts.{accepted}
 
-abbrev heard : WithAll → Verdict
-heard (B.Counts t c k l) = Accepted
-heard (B.Refused r) = Refused r
-
-heard_all : (v : Verdict) (t c k l : ℕ) → heard (told_all v t c k l) ≡ v
-heard_all Accepted t c k l = refl
-heard_all (Refused r) t c k l = refl
-
-module _ (lent : Lent) (os : List Operation) (cs : List Cursor) (out moved history texts : List ℕ) (q : WithAll)
-    (eq : q
-    ≡ told_all (verdict_on lent os cs) (length (text_on lent os)) (length (sorted cs)) (length (history_on lent os)) (length (history_text (history_on lent os)))) where
-  heard_verdict : heard q ≡ verdict_on lent os cs
-  heard_verdict =
-      ap heard eq
-      ∙ heard_all (verdict_on lent os cs) (length (text_on lent os)) (length (sorted cs)) (length (history_on lent os)) (length (history_text (history_on lent os)))
-
-  refuses : (r : Refusal) → all_verdict lent os cs out moved history texts ≡ Refused r
-      → AppliesAll lent os cs out moved history texts out moved history texts (B.Refused r)
+module _ (lent : Lent) (os : List Operation) (cs : List Cursor) (out moved history texts : List ℕ) where
+  refuses : (r : Refusal) → all_verdict lent os cs out moved history texts ≡ Err r
+      → AppliesAll lent os cs out moved history texts out moved history texts (Err r)
   refuses r e = record { answer = rw e; text = rw e; cursors = rw e; spans = rw e; history_text_lem = rw e }
 
-  pub all_stops : (r : Refusal) → q ≡ B.Refused r → AppliesAll lent os cs out moved history texts out moved history texts (B.Refused r)
+  pub all_stops : (r : Refusal) → Err r ≡ told_all_on lent os cs → AppliesAll lent os cs out moved history texts out moved history texts (Err r)
   unfolding all_verdict
-  all_stops r e = refuses r (sym (stops (verdict_on lent os cs) _ r (sym heard_verdict ∙ ap heard e)))
+  all_stops r e = refuses r (sym (stops (verdict_on lent os cs) _ r (says_no (verdict_on lent os cs) _ r (sym e))))
 
-  module _ (t c k l : ℕ) (e : q ≡ B.Counts t c k l) where
-    v : verdict_on lent os cs ≡ Accepted
-    v = sym heard_verdict ∙ ap heard e
+  module _ (a : WithAll) (e : Ok a ≡ told_all_on lent os cs) where
+    v : verdict_on lent os cs ≡ accepted
+    v = says_yes (verdict_on lent os cs) _ a (sym e)
 
-    same : B.Counts t c k l ≡ B.Counts (length (text_on lent os)) (length (sorted cs)) (length (history_on lent os)) (length (history_text (history_on lent os)))
-    same = rw v at (sym e ∙ eq)
-
-    et : t ≡ length (text_on lent os)
-    et = ap (λ (a : WithAll). elim a [ B.Counts x y z w ↦ x | B.Refused r ↦ 0 ]) same
-
-    ec : c ≡ length (sorted cs)
-    ec = ap (λ (a : WithAll). elim a [ B.Counts x y z w ↦ y | B.Refused r ↦ 0 ]) same
-
-    ek : k ≡ length (history_on lent os)
-    ek = ap (λ (a : WithAll). elim a [ B.Counts x y z w ↦ z | B.Refused r ↦ 0 ]) same
-
-    el : l ≡ length (history_text (history_on lent os))
-    el = ap (λ (a : WithAll). elim a [ B.Counts x y z w ↦ w | B.Refused r ↦ 0 ]) same
+    same : a
+        ≡ record {
+          text = length (text_on lent os);
+          cursors = length (sorted cs);
+          spans = length (history_on lent os);
+          history_text = length (history_text (history_on lent os));
+        }
+    same = sym (says_what (verdict_on lent os cs) _ a (sym e))
 
     abbrev textual : Bool
     textual = fits (flat_cursors (sorted cs)) moved && fits (text_on lent os) out
@@ -75,19 +54,19 @@ module _ (lent : Lent) (os : List Operation) (cs : List Cursor) (out moved histo
     abbrev historical : Bool
     historical = fits (flat_spans 0 (history_on lent os)) history && fits (history_text (history_on lent os)) texts
 
-    module _ (b : Bool) (f : b ≡ leb (c * 2) (length moved) && leb t (length out)) where
+    module _ (b : Bool) (f : b ≡ leb (a.cursors * 2) (length moved) && leb a.text (length out)) where
       text_fit : b ≡ textual
-      text_fit = text_rooms lent os cs out moved t c b et ec f
+      text_fit = text_rooms lent os cs out moved a.text a.cursors b (ap (λ (x : WithAll). x.text) same) (ap (λ (x : WithAll). x.cursors) same) f
 
-      pub all_no_room : b ≡ false → AppliesAll lent os cs out moved history texts out moved history texts (B.Refused Room)
+      pub all_no_room : b ≡ false → AppliesAll lent os cs out moved history texts out moved history texts (Err Room)
       unfolding all_verdict
       all_no_room h = refuses Room (lacks_room (verdict_on lent os cs) _ v (first_no textual historical (sym text_fit ∙ h)))
 
-      module _ (h : b ≡ true) (d : Bool) (g : d ≡ leb (k * 4) (length history) && leb l (length texts)) where
+      module _ (h : b ≡ true) (d : Bool) (g : d ≡ leb (a.spans * 4) (length history) && leb a.history_text (length texts)) where
         history_fit : d ≡ historical
-        history_fit = history_rooms lent os history texts k l d ek el g
+        history_fit = history_rooms lent os history texts a.spans a.history_text d (ap (λ (x : WithAll). x.spans) same) (ap (λ (x : WithAll). x.history_text) same) g
 
-        pub all_no_history : d ≡ false → AppliesAll lent os cs out moved history texts out moved history texts (B.Refused Room)
+        pub all_no_history : d ≡ false → AppliesAll lent os cs out moved history texts out moved history texts (Err Room)
         unfolding all_verdict
         all_no_history i = refuses Room (lacks_room (verdict_on lent os cs) _ v (second_no textual historical (sym text_fit ∙ h) (sym history_fit ∙ i)))
 
@@ -102,16 +81,16 @@ module _ (lent : Lent) (os : List Operation) (cs : List Cursor) (out moved histo
           pub all_sorts : length cs * 2 ≤ length moved
           all_sorts = (text_fits lent os cs out moved v (sym text_fit ∙ h)).1
 
-          accepts : all_verdict lent os cs out moved history texts ≡ Accepted
+          accepts : all_verdict lent os cs out moved history texts ≡ accepted
           unfolding all_verdict
           accepts = has_room (verdict_on lent os cs) _ v (both_yes textual historical (sym text_fit ∙ h) (sym history_fit ∙ i))
 
           pub all_writes : {out' moved' history' texts' : List ℕ} → (out' ≡ answered (text_by lent os) out) × Wrote (history_by lent os) history texts history' texts'
               → moved' ≡ answered (flat_cursors (sorted cs)) moved
-              → AppliesAll lent os cs out moved history texts out' moved' history' texts' (B.Counts t c k l)
+              → AppliesAll lent os cs out moved history texts out' moved' history' texts' (Ok a)
           all_writes w s =
               record {
-                answer = rw accepts same;
+                answer = rw accepts (ap Ok same);
                 text = rw (accepts, same_text lent os cs v) w.0;
                 cursors = rw accepts s;
                 spans = rw (accepts, history_is lent os) w.1.spans;
@@ -120,7 +99,7 @@ module _ (lent : Lent) (os : List Operation) (cs : List Cursor) (out moved histo
 
 -- any two outcomes that the statement allows are equal
 pub only-all :
-    {lent : Lent} {os : List Operation} {cs : List Cursor} {out moved history texts out₁ moved₁ history₁ texts₁ out₂ moved₂ history₂ texts₂ : List ℕ} {r₁ r₂ : WithAll}
+    {lent : Lent} {os : List Operation} {cs : List Cursor} {out moved history texts out₁ moved₁ history₁ texts₁ out₂ moved₂ history₂ texts₂ : List ℕ} {r₁ r₂ : Result WithAll Refusal}
     → AppliesAll lent os cs out moved history texts out₁ moved₁ history₁ texts₁ r₁ → AppliesAll lent os cs out moved history texts out₂ moved₂ history₂ texts₂ r₂
     → (r₁ ≡ r₂) × ((out₁ ≡ out₂) × ((moved₁ ≡ moved₂) × ((history₁ ≡ history₂) × (texts₁ ≡ texts₂))))
 only-all h k = (

@@ -1,11 +1,11 @@
 -- Shown: what an accepted list allows to be counted and written, shared by the calls; and the calls on lengths.
 -- How: by the verdict, and by the lengths of what the records give.
 use Prim.Native.Nat.{ℕ, ◌+◌, ◌*◌, ◌≤◌, min}
-use mathlib.Core.Path.{◌≡◌, refl, sym, ◌∙◌, ap}
+use mathlib.Core.Path.{◌≡◌, sym, ◌∙◌, ap}
 use mathlib.Core.Bool.{Bool, true, ◌&&◌}
 use mathlib.Core.List.{List, []}
 use native.Mathlib.Omega.{arith}
-use lib.ListN.{length, take}
+use lib.ListN.{length}
 use lib.Dec.{leb}
 use borrow.Author.Tests.{leb-true}
 use Rattle.refusal.specs.declared.Refusal.{Refusal}
@@ -16,81 +16,71 @@ use Rattle.records.proofs.Cursors as cursors
 use Rattle.cursors.specs.Sorted.{sorted}
 use Rattle.cursors.proofs.Sinks.{length_sorted}
 use Rattle.sizes.specs.declared.Limits.{Limits}
-use Rattle.verdict.specs.declared.Verdict.TheVariants.{Accepted, Refused}
-use Rattle.sizes.specs.Texts.{total, inserted_by, text_length}
+use Rattle.sizes.specs.Texts.{total, text_length}
 use Rattle.sizes.specs.Sizes.{otherwise}
-use Rattle.checks.specs.declared.Checked.{Checked}
-use Rattle.checks.specs.declared.Checked.TheVariants.{Sums, Refused as No}
-use Rattle.checks.specs.Lists.{list_verdict, checked_of}
+use Rattle.checks.specs.declared.Lengths.{Lengths}
+use Rattle.checks.specs.Lists.{lengths_on}
 use Rattle.shapes.specs.Accepted.{AcceptedList}
 use Rattle.shapes.proofs.Accepted.{text_most}
 use Rattle.checks.proofs.Accepted.{accepted_list}
-use Rattle.checks.proofs.Telling.{says_no, says_yes, says_second}
+use Rattle.checks.proofs.Telling.{says_no, says_yes, says_what}
 use Rattle.room.proofs.Bools.{and_left, and_right}
 use Rattle.merging.specs.Lent.{Lent}
 use Rattle.merging.specs.Outputs.{history_text, flat_spans}
-use Rattle.apply.specs.declared.Applied.TheVariants as A
-use Rattle.apply.specs.declared.WithHistory.TheVariants as H
-use Rattle.apply.specs.declared.WithAll.TheVariants as B
 use Rattle.written_lists.specs.Parts.{text_by, history_by, removed_by, AllLie}
-use Rattle.apply.specs.Answers.{verdict_on, text_on, history_on, fits, applied, told, told_all}
+use Rattle.apply.specs.Answers.{verdict_on, text_on, history_on, fits, applied_on, told_on, told_all_on}
 use Rattle.apply.proofs.Lists.{history_is, length_history, length_spans, lists_lie, text_is, text_count, removed_most, told_count as told_length}
+use Rattle.std.specs.Prelude.{Result, Ok, Err}
+use Rattle.verdict.specs.Verdicts.{accepted}
 
--- verdicts
+-- what the check of a list gave
 
--- what the check gave
-abbrev Checks : Lent → List Operation → List Cursor → Limits → Checked → Type 0
-Checks lent os cs l x =
-    x
-    ≡ checked_of (list_verdict l lent.original lent.inserted lent.spans lent.keys os cs) (total (inserted_by (length lent.inserted) lent.spans lent.keys) os)
-    (text_length (length lent.inserted) lent.spans lent.keys os)
-
-module _ (lent : Lent) (os : List Operation) (cs : List Cursor) {l : Limits} {x : Checked} (e : l ≡ otherwise) (f : Checks lent os cs l x) where
-  pub judged_no : (r : Refusal) → x ≡ No r → verdict_on lent os cs ≡ Refused r
-  unfolding verdict_on
-  judged_no r g = says_no _ _ _ _ (sym (rw e at f) ∙ g)
-
-  pub judged_yes : (n t : ℕ) → x ≡ Sums n t → verdict_on lent os cs ≡ Accepted
-  unfolding verdict_on
-  judged_yes n t g = says_yes _ _ _ _ _ (sym (rw e at f) ∙ g)
-
-  pub text_told : (n t : ℕ) → x ≡ Sums n t → t ≡ text_length (length lent.inserted) lent.spans lent.keys os
-  text_told n t g = says_second _ _ _ _ _ (sym f ∙ g)
+abbrev sums : Limits → Lent → List Operation → List Cursor → Result Lengths Refusal
+sums l lent os cs = lengths_on l lent.original lent.inserted lent.spans lent.keys os cs
 
 -- where no cursors are lent
-none_lent : (xs : List ℕ) → cursors_of (take 0 xs) ≡ []
+pub checks_none : (lent : Lent) (os : List Operation) (l : Limits) {x : Result Lengths Refusal} → x ≡ sums l lent os (cursors_of []) → x ≡ sums l lent os []
 unfolding cursors_of cursors_from
-none_lent xs = refl
+checks_none lent os l f = f
 
-pub checks_none : (lent : Lent) (os : List Operation) (xs : List ℕ) (l : Limits) {x : Checked} → Checks lent os (cursors_of (take 0 xs)) l x → Checks lent os [] l x
-checks_none lent os xs l f = rw (none_lent xs) at f
+module _ (lent : Lent) (os : List Operation) (cs : List Cursor) {l : Limits} (e : l ≡ otherwise) where
+  pub judged_no : (r : Refusal) → Err r ≡ sums l lent os cs → verdict_on lent os cs ≡ Err r
+  unfolding verdict_on
+  judged_no r f = says_no (verdict_on lent os cs) _ r (sym (rw e at f))
+
+  pub judged_yes : (n : Lengths) → Ok n ≡ sums l lent os cs
+      → (verdict_on lent os cs ≡ accepted) × (n.text ≡ text_length (length lent.inserted) lent.spans lent.keys os)
+  unfolding verdict_on
+  judged_yes n f =
+      let g = sym (rw e at f) in
+      (says_yes (verdict_on lent os cs) _ n g, ap (λ (m : Lengths). m.text) (sym (says_what (verdict_on lent os cs) _ n g)))
 
 module _ (lent : Lent) (os : List Operation) where
   abbrev n : ℕ
   n = length lent.inserted
 
-  module _ (cs : List Cursor) (v : verdict_on lent os cs ≡ Accepted) where
-    accepted : AcceptedList otherwise lent.original lent.inserted lent.spans lent.keys os cs
+  module _ (cs : List Cursor) (v : verdict_on lent os cs ≡ accepted) where
+    facts : AcceptedList otherwise lent.original lent.inserted lent.spans lent.keys os cs
     unfolding verdict_on
-    accepted = accepted_list otherwise lent.original lent.inserted lent.spans lent.keys os cs v
+    facts = accepted_list otherwise lent.original lent.inserted lent.spans lent.keys os cs v
 
     pub all_lies : AllLie lent os
-    all_lies = lists_lie lent otherwise os cs accepted
+    all_lies = lists_lie lent otherwise os cs facts
 
     -- the counts that the code sums
     text_counted : (t : ℕ) → t ≡ text_length n lent.spans lent.keys os → t ≡ length (text_on lent os)
-    text_counted t e = omega (arith, e, text_count lent otherwise os cs accepted)
+    text_counted t e = omega (arith, e, text_count lent otherwise os cs facts)
 
     pub text_low : (t : ℕ) → t ≡ text_length n lent.spans lent.keys os → t ≤ 1000000
-    text_low t e = omega (arith, e, text_most otherwise lent.original lent.inserted lent.spans lent.keys os cs accepted)
+    text_low t e = omega (arith, e, text_most otherwise lent.original lent.inserted lent.spans lent.keys os cs facts)
 
     told_counted : (t g : ℕ) → t ≡ text_length n lent.spans lent.keys os → g ≡ min 1000000 (total removed_by os)
         → t + g ≡ length (history_text (history_on lent os))
     told_counted t g e f =
-        omega (arith, text_counted t e, f, removed_most lent otherwise os cs accepted, told_length lent otherwise os cs accepted)
+        omega (arith, text_counted t e, f, removed_most lent otherwise os cs facts, told_length lent otherwise os cs facts)
 
     pub same_text : text_on lent os ≡ text_by lent os
-    same_text = text_is lent otherwise os cs accepted
+    same_text = text_is lent otherwise os cs facts
 
   spans_counted : (k : ℕ) → k ≡ length os → k ≡ length (history_on lent os)
   spans_counted k e = omega (arith, e, ap length (history_is lent os), length_history lent os)
@@ -113,7 +103,7 @@ module _ (lent : Lent) (os : List Operation) where
   history_rooms history out k t b e f g = g ∙ rw (flat_spans_lem, e, f)
 
   -- what the rooms must hold for the text, the cursors and the history to be written
-  pub text_fits : (cs : List Cursor) (out moved : List ℕ) → verdict_on lent os cs ≡ Accepted
+  pub text_fits : (cs : List Cursor) (out moved : List ℕ) → verdict_on lent os cs ≡ accepted
       → fits (flat_cursors (sorted cs)) moved && fits (text_on lent os) out ≡ true
       → (length (text_by lent os) ≤ length out) × (length cs * 2 ≤ length moved)
   text_fits cs out moved v h =
@@ -133,35 +123,39 @@ module _ (lent : Lent) (os : List Operation) where
         omega (arith, b, ap (λ ss. length (history_text ss)) e),
       )
 
--- the lengths
+-- the lengths, as the code sums them
 
-module _ (lent : Lent) (os : List Operation) (cs : List Cursor) where
-  pub lengths_refuse : (r : Refusal) → verdict_on lent os cs ≡ Refused r → A.Refused r ≡ applied (verdict_on lent os cs) (length (text_on lent os)) (length (sorted cs))
-  lengths_refuse r e = rw e
+module _ (lent : Lent) (os : List Operation) (cs : List Cursor) {l : Limits} (e : l ≡ otherwise) where
+  pub lengths_refuse : (r : Refusal) → Err r ≡ sums l lent os cs → Err r ≡ applied_on lent os cs
+  lengths_refuse r f = rw (judged_no lent os cs e r f)
 
-  pub lengths_count : (t k : ℕ) → verdict_on lent os cs ≡ Accepted → t ≡ text_length (length lent.inserted) lent.spans lent.keys os
-      → k ≡ length cs → A.Counts t k ≡ applied (verdict_on lent os cs) (length (text_on lent os)) (length (sorted cs))
-  lengths_count t k v e f = rw (v, text_counted lent os cs v t e, f, length_sorted cs)
+  pub all_refuse : (r : Refusal) → Err r ≡ sums l lent os cs → Err r ≡ told_all_on lent os cs
+  all_refuse r f = rw (judged_no lent os cs e r f)
 
-module _ (lent : Lent) (os : List Operation) where
-  pub told_refuse : (r : Refusal) → verdict_on lent os [] ≡ Refused r
-      → H.Refused r ≡ told (verdict_on lent os []) (length (history_on lent os)) (length (history_text (history_on lent os)))
-  told_refuse r e = rw e
+  module _ (n : Lengths) (f : Ok n ≡ sums l lent os cs) where
+    v : verdict_on lent os cs ≡ accepted
+    v = (judged_yes lent os cs e n f).0
 
-  pub told_count : (k t g : ℕ) → verdict_on lent os [] ≡ Accepted → k ≡ length os
-      → t ≡ text_length (length lent.inserted) lent.spans lent.keys os → g ≡ min 1000000 (total removed_by os)
-      → H.Counts k (t + g) ≡ told (verdict_on lent os []) (length (history_on lent os)) (length (history_text (history_on lent os)))
-  told_count k t g v e f h = rw (v, spans_counted lent os k e, told_counted lent os [] v t g f h)
+    t : n.text ≡ text_length (length lent.inserted) lent.spans lent.keys os
+    t = (judged_yes lent os cs e n f).1
 
-module _ (lent : Lent) (os : List Operation) (cs : List Cursor) where
-  pub all_refuse : (r : Refusal) → verdict_on lent os cs ≡ Refused r
-      → B.Refused r
-      ≡ told_all (verdict_on lent os cs) (length (text_on lent os)) (length (sorted cs)) (length (history_on lent os)) (length (history_text (history_on lent os)))
-  all_refuse r e = rw e
+    pub text_small : n.text ≤ 1000000
+    text_small = text_low lent os cs v n.text t
 
-  pub all_count : (t c k g : ℕ) → verdict_on lent os cs ≡ Accepted → t ≡ text_length (length lent.inserted) lent.spans lent.keys os
-      → c ≡ length cs → k ≡ length os → g ≡ min 1000000 (total removed_by os)
-      → B.Counts t c k (t + g)
-      ≡ told_all (verdict_on lent os cs) (length (text_on lent os)) (length (sorted cs)) (length (history_on lent os)) (length (history_text (history_on lent os)))
-  all_count t c k g v e f h i =
-      rw (v, told_counted lent os cs v t g e i, text_counted lent os cs v t e, f, length_sorted cs, spans_counted lent os k h)
+    pub lengths_count : (k : ℕ) → k ≡ length cs → Ok (record { text = n.text; cursors = k }) ≡ applied_on lent os cs
+    lengths_count k g = rw (v, text_counted lent os cs v n.text t, g, length_sorted cs)
+
+    pub all_count : (c k g : ℕ) → c ≡ length cs → k ≡ length os → g ≡ min 1000000 (total removed_by os)
+        → Ok (record { text = n.text; cursors = c; spans = k; history_text = n.text + g }) ≡ told_all_on lent os cs
+    all_count c k g h i j =
+        rw (v, told_counted lent os cs v n.text g t j, text_counted lent os cs v n.text t, h, length_sorted cs, spans_counted lent os k i)
+
+module _ (lent : Lent) (os : List Operation) {l : Limits} (e : l ≡ otherwise) where
+  pub told_refuse : (r : Refusal) → Err r ≡ sums l lent os [] → Err r ≡ told_on lent os
+  told_refuse r f = rw (judged_no lent os [] e r f)
+
+  pub told_count : (n : Lengths) → Ok n ≡ sums l lent os [] → (k g : ℕ) → k ≡ length os → g ≡ min 1000000 (total removed_by os)
+      → Ok (record { spans = k; text = n.text + g }) ≡ told_on lent os
+  told_count n f k g h i =
+      let p = judged_yes lent os [] e n f in
+      rw (p.0, spans_counted lent os k h, told_counted lent os [] p.0 n.text g p.1 i)

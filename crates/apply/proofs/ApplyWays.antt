@@ -1,7 +1,7 @@
 -- Shown: the ways of `apply`: what was written is the answer, a refusal leaves the rooms; and the answer is the only one.
 -- How: by what the call on lengths answered, and by the test of the rooms.
 use Prim.Native.Nat.{ℕ, ◌*◌, ◌≤◌}
-use mathlib.Core.Path.{◌≡◌, refl, sym, ◌∙◌, ap}
+use mathlib.Core.Path.{◌≡◌, sym, ◌∙◌, ap}
 use mathlib.Core.Bool.{Bool, true, false, ◌&&◌}
 use mathlib.Core.List.{List}
 use lib.ListN.{length}
@@ -13,54 +13,36 @@ use Rattle.records.specs.declared.Operation.{Operation}
 use Rattle.records.specs.declared.Cursor.{Cursor}
 use Rattle.records.specs.Cursors.{flat_cursors}
 use Rattle.cursors.specs.Sorted.{sorted}
-use Rattle.verdict.specs.declared.Verdict.{Verdict}
-use Rattle.verdict.specs.declared.Verdict.TheVariants.{Accepted, Refused}
 use Rattle.verdict.proofs.Chains.{stops, has_room, lacks_room}
+use Rattle.checks.proofs.Telling.{says_no, says_yes, says_what}
 use Rattle.merging.specs.Lent.{Lent}
 use Rattle.apply.specs.declared.Applied.{Applied}
-use Rattle.apply.specs.declared.Applied.TheVariants as A
 use Rattle.written_lists.specs.Parts.{text_by, AllLie}
-use Rattle.apply.specs.Answers.{verdict_on, text_on, fits, apply_verdict, applied, Applies}
+use Rattle.apply.specs.Answers.{verdict_on, text_on, fits, apply_verdict, applied_on, Applies}
 use Rattle.apply.proofs.Answering.{all_lies, same_text, text_rooms, text_fits}
+use Rattle.std.specs.Prelude.{Result, Ok, Err}
+use Rattle.verdict.specs.Verdicts.{accepted}
 
-abbrev heard : Applied → Verdict
-heard (A.Counts t c) = Accepted
-heard (A.Refused r) = Refused r
-
-heard_applied : (v : Verdict) (t c : ℕ) → heard (applied v t c) ≡ v
-heard_applied Accepted t c = refl
-heard_applied (Refused r) t c = refl
-
-module _ (lent : Lent) (os : List Operation) (cs : List Cursor) (out moved : List ℕ) (q : Applied)
-    (eq : q ≡ applied (verdict_on lent os cs) (length (text_on lent os)) (length (sorted cs))) where
-  heard_verdict : heard q ≡ verdict_on lent os cs
-  heard_verdict = ap heard eq ∙ heard_applied (verdict_on lent os cs) (length (text_on lent os)) (length (sorted cs))
-
-  refuses : (r : Refusal) → apply_verdict lent os cs out moved ≡ Refused r → Applies lent os cs out moved out moved (A.Refused r)
+module _ (lent : Lent) (os : List Operation) (cs : List Cursor) (out moved : List ℕ) where
+  refuses : (r : Refusal) → apply_verdict lent os cs out moved ≡ Err r → Applies lent os cs out moved out moved (Err r)
   refuses r e = record { answer = rw e; text = rw e; cursors = rw e }
 
-  pub apply_stops : (r : Refusal) → q ≡ A.Refused r → Applies lent os cs out moved out moved (A.Refused r)
+  pub apply_stops : (r : Refusal) → Err r ≡ applied_on lent os cs → Applies lent os cs out moved out moved (Err r)
   unfolding apply_verdict
-  apply_stops r e = refuses r (sym (stops (verdict_on lent os cs) _ r (sym heard_verdict ∙ ap heard e)))
+  apply_stops r e = refuses r (sym (stops (verdict_on lent os cs) _ r (says_no (verdict_on lent os cs) _ r (sym e))))
 
-  module _ (t k : ℕ) (e : q ≡ A.Counts t k) where
-    v : verdict_on lent os cs ≡ Accepted
-    v = sym heard_verdict ∙ ap heard e
+  module _ (a : Applied) (e : Ok a ≡ applied_on lent os cs) where
+    v : verdict_on lent os cs ≡ accepted
+    v = says_yes (verdict_on lent os cs) _ a (sym e)
 
-    same : A.Counts t k ≡ A.Counts (length (text_on lent os)) (length (sorted cs))
-    same = rw v at (sym e ∙ eq)
+    same : a ≡ record { text = length (text_on lent os); cursors = length (sorted cs) }
+    same = sym (says_what (verdict_on lent os cs) _ a (sym e))
 
-    et : t ≡ length (text_on lent os)
-    et = ap (λ (a : Applied). elim a [ A.Counts x y ↦ x | A.Refused r ↦ 0 ]) same
-
-    ek : k ≡ length (sorted cs)
-    ek = ap (λ (a : Applied). elim a [ A.Counts x y ↦ y | A.Refused r ↦ 0 ]) same
-
-    module _ (b : Bool) (f : b ≡ leb (k * 2) (length moved) && leb t (length out)) where
+    module _ (b : Bool) (f : b ≡ leb (a.cursors * 2) (length moved) && leb a.text (length out)) where
       fit : b ≡ fits (flat_cursors (sorted cs)) moved && fits (text_on lent os) out
-      fit = text_rooms lent os cs out moved t k b et ek f
+      fit = text_rooms lent os cs out moved a.text a.cursors b (ap (λ (x : Applied). x.text) same) (ap (λ (x : Applied). x.cursors) same) f
 
-      pub apply_no_room : b ≡ false → Applies lent os cs out moved out moved (A.Refused Room)
+      pub apply_no_room : b ≡ false → Applies lent os cs out moved out moved (Err Room)
       unfolding apply_verdict
       apply_no_room h = refuses Room (lacks_room (verdict_on lent os cs) _ v (sym fit ∙ h))
 
@@ -71,17 +53,17 @@ module _ (lent : Lent) (os : List Operation) (cs : List Cursor) (out moved : Lis
         pub apply_sorts : length cs * 2 ≤ length moved
         apply_sorts = (text_fits lent os cs out moved v (sym fit ∙ h)).1
 
-        accepts : apply_verdict lent os cs out moved ≡ Accepted
+        accepts : apply_verdict lent os cs out moved ≡ accepted
         unfolding apply_verdict
         accepts = has_room (verdict_on lent os cs) _ v (sym fit ∙ h)
 
         pub apply_writes : {out' moved' : List ℕ} → out' ≡ answered (text_by lent os) out → moved' ≡ answered (flat_cursors (sorted cs)) moved
-            → Applies lent os cs out moved out' moved' (A.Counts t k)
-        apply_writes g i = record { answer = rw accepts same; text = rw (accepts, same_text lent os cs v) g; cursors = rw accepts i }
+            → Applies lent os cs out moved out' moved' (Ok a)
+        apply_writes g i = record { answer = rw accepts (ap Ok same); text = rw (accepts, same_text lent os cs v) g; cursors = rw accepts i }
 
 -- any two outcomes that the statement allows are equal
 pub only_answer :
-    {lent : Lent} {os : List Operation} {cs : List Cursor} {out moved out₁ moved₁ out₂ moved₂ : List ℕ} {r₁ r₂ : Applied}
+    {lent : Lent} {os : List Operation} {cs : List Cursor} {out moved out₁ moved₁ out₂ moved₂ : List ℕ} {r₁ r₂ : Result Applied Refusal}
     → Applies lent os cs out moved out₁ moved₁ r₁ → Applies lent os cs out moved out₂ moved₂ r₂
     → (r₁ ≡ r₂) × ((out₁ ≡ out₂) × (moved₁ ≡ moved₂))
 only_answer h k = (h.answer ∙ sym k.answer, (h.text ∙ sym k.text, h.cursors ∙ sym k.cursors))

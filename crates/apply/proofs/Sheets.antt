@@ -4,7 +4,6 @@ use mathlib.Core.Path.{refl}
 use Rattle.numbers.specs.Points.{is_point}
 use Rattle.records.specs.Tokens.{tokens_from, spelled}
 use Rattle.cursors.specs.Sorted.{place, sorted}
-use Rattle.verdict.specs.Verdicts.{and_then, sized}
 use Rattle.sizes.specs.Texts.{total, run_text, text_from}
 use Rattle.verdict.specs.Points.{points_from}
 use Rattle.shapes.specs.Shapes.{run_good, records_from}
@@ -17,7 +16,7 @@ use Rattle.apply.specs.Answers.{verdict_on, text_on, history_on}
 use Rattle.apply.specs.Sheets.{AllMade}
 
 pub sheets_made : AllMade sheets
-unfolding verdict_on text_on history_on list_verdict and_then sized points_from is_point records_from run_good tiling_from within_from total run_text text_from tokens_from spelled sorted place outs_from history_of
+unfolding verdict_on text_on history_on list_verdict points_from is_point records_from run_good tiling_from within_from total run_text text_from tokens_from spelled sorted place outs_from history_of
 sheets_made = (
   record { accepted = refl; text = refl; cursors = refl; history = refl },
   (

@@ -2,228 +2,138 @@
 // pass. The calls on lengths say what to lend. crates/written_lists says what a history span is.
 #![tactic(auto)]
 
-ghost use Rattle.std.specs.Prelude.{◌≡◌, [], length};
+ghost use Rattle.std.specs.Prelude.{◌≡◌};
 ghost use Rattle.records.specs.Operations.{operations_of};
 ghost use Rattle.records.specs.Cursors.{cursors_of};
-ghost use Rattle.merging.specs.Lent.{lent_of};
-ghost use Rattle.cursors.specs.Sorted.{sorted};
-ghost use Rattle.merging.specs.Outputs.{history_text};
-ghost use Rattle.apply.specs.Answers.{verdict_on, text_on, history_on, applied, told, told_all, Applies, Tells, AppliesAll};
+ghost use Rattle.merging.specs.Lent.{lent_in};
+ghost use Rattle.apply.specs.Answers.{applied_on, told_on, told_all_on, Applies, Tells, AppliesAll};
 
-// Code points of the text and cursors, or why nothing was written.
+use records::{Lent, List};
+use refusal::Refusal;
+
+// Code points of the text and cursors.
 #[derive(Clone, Copy)]
-pub enum Applied {
-    Counts { text: usize, cursors: usize },
-    Refused(refusal::Refusal),
+pub struct Applied {
+    pub text: usize,
+    pub cursors: usize,
 }
 
 // Spans of the history and code points of their text.
 #[derive(Clone, Copy)]
-pub enum WithHistory {
-    Counts { spans: usize, text: usize },
-    Refused(refusal::Refusal),
+pub struct WithHistory {
+    pub spans: usize,
+    pub text: usize,
 }
 
 // Both.
 #[derive(Clone, Copy)]
-pub enum WithAll {
-    Counts {
-        text: usize,
-        cursors: usize,
-        spans: usize,
-        history_text: usize,
-    },
-    Refused(refusal::Refusal),
+pub struct WithAll {
+    pub text: usize,
+    pub cursors: usize,
+    pub spans: usize,
+    pub history_text: usize,
 }
 
 // The code points and cursors that `apply` writes.
-pub fn apply_lengths(
-    original: &[u32],
-    text: &[u32],
-    spans: &[u32],
-    keys: &[u32],
-    operations: &[usize],
-    cursors: &[usize],
-) -> Applied
-    ensures { result ≡ applied (verdict_on (lent_of original.now text.now spans.now keys.now) (operations_of operations.now) (cursors_of cursors.now)) (length (text_on (lent_of original.now text.now spans.now keys.now) (operations_of operations.now))) (length (sorted (cursors_of cursors.now))) }
+pub fn apply_lengths(lent: Lent, list: List) -> Result<Applied, Refusal>
+    ensures { result ≡ applied_on (lent_in lent.entry) (operations_of list.entry.operations.now) (cursors_of list.entry.cursors.now) }
 {
-    let limits = sizes::other_limits();
-    match checks::sum_list(limits, original, text, spans, keys, operations, cursors) {
-        checks::Checked::Refused(refusal) => Applied::Refused(refusal),
-        checks::Checked::Sums {
-            first: _,
-            second: written,
-        } => Applied::Counts {
-            text: written,
-            cursors: cursors.len() / 2,
-        },
-    }
+    let lengths = checks::sum_list(sizes::other_limits(), lent, list)?;
+    Ok(Applied {
+        text: lengths.text,
+        cursors: list.cursors.len() / 2,
+    })
 }
 
 // The spans and the code points that `apply_with_history` writes.
-pub fn apply_with_history_lengths(
-    original: &[u32],
-    text: &[u32],
-    spans: &[u32],
-    keys: &[u32],
-    operations: &[usize],
-) -> WithHistory
-    ensures { result ≡ told (verdict_on (lent_of original.now text.now spans.now keys.now) (operations_of operations.now) []) (length (history_on (lent_of original.now text.now spans.now keys.now) (operations_of operations.now))) (length (history_text (history_on (lent_of original.now text.now spans.now keys.now) (operations_of operations.now)))) }
+pub fn apply_with_history_lengths(lent: Lent, operations: &[usize]) -> Result<WithHistory, Refusal>
+    ensures { result ≡ told_on (lent_in lent.entry) (operations_of operations.now) }
 {
-    let limits = sizes::other_limits();
-    let none = &operations[..0];
-    match checks::sum_list(limits, original, text, spans, keys, operations, none) {
-        checks::Checked::Refused(refusal) => WithHistory::Refused(refusal),
-        checks::Checked::Sums {
-            first: _,
-            second: written,
-        } => {
-            let gone = written_lists::removed(operations);
-            WithHistory::Counts {
-                spans: operations.len() / 6,
-                text: written + gone,
-            }
-        }
-    }
+    let list = List {
+        operations,
+        cursors: &[],
+    };
+    let lengths = checks::sum_list(sizes::other_limits(), lent, list)?;
+    let gone = written_lists::removed(operations);
+    Ok(WithHistory {
+        spans: operations.len() / 6,
+        text: lengths.text + gone,
+    })
 }
 
 // What `apply_with_all` writes: what both write.
-pub fn apply_with_all_lengths(
-    original: &[u32],
-    text: &[u32],
-    spans: &[u32],
-    keys: &[u32],
-    operations: &[usize],
-    cursors: &[usize],
-) -> WithAll
-    ensures { result ≡ told_all (verdict_on (lent_of original.now text.now spans.now keys.now) (operations_of operations.now) (cursors_of cursors.now)) (length (text_on (lent_of original.now text.now spans.now keys.now) (operations_of operations.now))) (length (sorted (cursors_of cursors.now))) (length (history_on (lent_of original.now text.now spans.now keys.now) (operations_of operations.now))) (length (history_text (history_on (lent_of original.now text.now spans.now keys.now) (operations_of operations.now)))) }
+pub fn apply_with_all_lengths(lent: Lent, list: List) -> Result<WithAll, Refusal>
+    ensures { result ≡ told_all_on (lent_in lent.entry) (operations_of list.entry.operations.now) (cursors_of list.entry.cursors.now) }
 {
-    let limits = sizes::other_limits();
-    match checks::sum_list(limits, original, text, spans, keys, operations, cursors) {
-        checks::Checked::Refused(refusal) => WithAll::Refused(refusal),
-        checks::Checked::Sums {
-            first: _,
-            second: written,
-        } => {
-            let gone = written_lists::removed(operations);
-            WithAll::Counts {
-                text: written,
-                cursors: cursors.len() / 2,
-                spans: operations.len() / 6,
-                history_text: written + gone,
-            }
-        }
-    }
+    let lengths = checks::sum_list(sizes::other_limits(), lent, list)?;
+    let gone = written_lists::removed(list.operations);
+    Ok(WithAll {
+        text: lengths.text,
+        cursors: list.cursors.len() / 2,
+        spans: list.operations.len() / 6,
+        history_text: lengths.text + gone,
+    })
 }
 
 // A list's text into a room, and its cursors, sorted, into another.
 pub fn apply(
-    original: &[u32],
-    text: &[u32],
-    spans: &[u32],
-    keys: &[u32],
-    operations: &[usize],
-    cursors: &[usize],
+    lent: Lent,
+    list: List,
     out: &mut [u32],
     moved: &mut [usize],
-) -> Applied
-    ensures { Applies (lent_of original.now text.now spans.now keys.now) (operations_of operations.now) (cursors_of cursors.now) out.old moved.old out.new moved.new result }
+) -> Result<Applied, Refusal>
+    ensures { Applies (lent_in lent.entry) (operations_of list.entry.operations.now) (cursors_of list.entry.cursors.now) out.old moved.old out.new moved.new result }
 {
-    match apply_lengths(original, text, spans, keys, operations, cursors) {
-        Applied::Refused(refusal) => Applied::Refused(refusal),
-        Applied::Counts {
-            text: written,
-            cursors: count,
-        } => {
-            if !written_lists::text_fits(count, written, moved.len(), out.len()) {
-                return Applied::Refused(refusal::Refusal::Room);
-            }
-            written_lists::write_text(original, text, spans, keys, operations, out);
-            written_lists::sort_cursors(cursors, moved);
-            Applied::Counts {
-                text: written,
-                cursors: count,
-            }
-        }
+    let lengths = apply_lengths(lent, list)?;
+    if !written_lists::rooms_fit::<2>(lengths.cursors, moved.len(), lengths.text, out.len()) {
+        return Err(Refusal::Room);
     }
+    written_lists::write_text(lent, list.operations, out);
+    written_lists::sort_cursors(list.cursors, moved);
+    Ok(lengths)
 }
 
 // A list's history: its spans into a room, their text into another.
 pub fn apply_with_history(
-    original: &[u32],
-    text: &[u32],
-    spans: &[u32],
-    keys: &[u32],
+    lent: Lent,
     operations: &[usize],
     history: &mut [usize],
     out: &mut [u32],
-) -> WithHistory
-    ensures { Tells (lent_of original.now text.now spans.now keys.now) (operations_of operations.now) history.old out.old history.new out.new result }
+) -> Result<WithHistory, Refusal>
+    ensures { Tells (lent_in lent.entry) (operations_of operations.now) history.old out.old history.new out.new result }
 {
-    match apply_with_history_lengths(original, text, spans, keys, operations) {
-        WithHistory::Refused(refusal) => WithHistory::Refused(refusal),
-        WithHistory::Counts {
-            spans: count,
-            text: written,
-        } => {
-            if !written_lists::history_fits(count, written, history.len(), out.len()) {
-                return WithHistory::Refused(refusal::Refusal::Room);
-            }
-            written_lists::write_history(original, text, spans, keys, operations, history, out);
-            WithHistory::Counts {
-                spans: count,
-                text: written,
-            }
-        }
+    let lengths = apply_with_history_lengths(lent, operations)?;
+    if !written_lists::rooms_fit::<4>(lengths.spans, history.len(), lengths.text, out.len()) {
+        return Err(Refusal::Room);
     }
+    written_lists::write_history(lent, operations, history, out);
+    Ok(lengths)
 }
 
 // Text, cursors and history of a list, in one pass over its operations.
 pub fn apply_with_all(
-    original: &[u32],
-    text: &[u32],
-    spans: &[u32],
-    keys: &[u32],
-    operations: &[usize],
-    cursors: &[usize],
+    lent: Lent,
+    list: List,
     out: &mut [u32],
     moved: &mut [usize],
     history: &mut [usize],
     history_text: &mut [u32],
-) -> WithAll
-    ensures { AppliesAll (lent_of original.now text.now spans.now keys.now) (operations_of operations.now) (cursors_of cursors.now) out.old moved.old history.old history_text.old out.new moved.new history.new history_text.new result }
+) -> Result<WithAll, Refusal>
+    ensures { AppliesAll (lent_in lent.entry) (operations_of list.entry.operations.now) (cursors_of list.entry.cursors.now) out.old moved.old history.old history_text.old out.new moved.new history.new history_text.new result }
 {
-    match apply_with_all_lengths(original, text, spans, keys, operations, cursors) {
-        WithAll::Refused(refusal) => WithAll::Refused(refusal),
-        WithAll::Counts {
-            text: written,
-            cursors: count,
-            spans: told,
-            history_text: length,
-        } => {
-            if !written_lists::text_fits(count, written, moved.len(), out.len()) {
-                return WithAll::Refused(refusal::Refusal::Room);
-            }
-            if !written_lists::history_fits(told, length, history.len(), history_text.len()) {
-                return WithAll::Refused(refusal::Refusal::Room);
-            }
-            written_lists::write_all(
-                original,
-                text,
-                spans,
-                keys,
-                operations,
-                out,
-                history,
-                history_text,
-            );
-            written_lists::sort_cursors(cursors, moved);
-            WithAll::Counts {
-                text: written,
-                cursors: count,
-                spans: told,
-                history_text: length,
-            }
-        }
+    let lengths = apply_with_all_lengths(lent, list)?;
+    if !written_lists::rooms_fit::<2>(lengths.cursors, moved.len(), lengths.text, out.len()) {
+        return Err(Refusal::Room);
     }
+    if !written_lists::rooms_fit::<4>(
+        lengths.spans,
+        history.len(),
+        lengths.history_text,
+        history_text.len(),
+    ) {
+        return Err(Refusal::Room);
+    }
+    written_lists::write_all(lent, list.operations, out, history, history_text);
+    written_lists::sort_cursors(list.cursors, moved);
+    Ok(lengths)
 }

@@ -1,118 +1,51 @@
 // One list's history and its text.
+use crate::rooms::{self, AMPLE, Lengths};
 use apply::WithHistory;
+use marked::Mark;
+use records::Lent;
+use refusal::Refusal;
 use vectors::Due;
+
+// What is due of `apply_with_history`: its answer, and what its rooms begin with.
+#[derive(Clone, Copy)]
+pub struct History<'a> {
+    pub due: Due,
+    pub spans: &'a [usize],
+    pub told: &'a [u32],
+}
 
 // Refusals 3, 4, 1 and 2 come with rooms of any length, refusal 7 with a room that is one number too short, and rooms of the lengths
 // asked are enough. A refused case asks none.
-pub fn agrees(
-    original: &[u32],
-    text: &[u32],
-    spans: &[u32],
-    keys: &[u32],
-    operations: &[usize],
-    due: Due,
-    history: &[usize],
-    told: &[u32],
-) -> bool {
-    let a = history.len();
-    let b = told.len();
-    is_due(
-        apply::apply_with_history_lengths(original, text, spans, keys, operations),
-        due,
-    ) && gives(
-        original, text, spans, keys, operations, 2048, 2048, due, history, told,
-    ) && gives(
-        original, text, spans, keys, operations, a, b, due, history, told,
-    ) && (a == 0
-        || gives(
-            original,
-            text,
-            spans,
-            keys,
-            operations,
-            marked::one_less(a),
-            b,
-            vectors::room_due(),
-            &[0usize; 0],
-            &[0u32; 0],
-        ))
-        && (b == 0
-            || gives(
-                original,
-                text,
-                spans,
-                keys,
+pub fn agrees(lent: Lent, operations: &[usize], history: History) -> bool {
+    let nothing = History {
+        due: Due::from(Refusal::Room),
+        spans: &[],
+        told: &[],
+    };
+    let asked = [0, 0, history.spans.len(), history.told.len()];
+    due_of(apply::apply_with_history_lengths(lent, operations)) == history.due
+        && rooms::agrees(asked, |lengths, short| {
+            gives(
+                lent,
                 operations,
-                a,
-                marked::one_less(b),
-                vectors::room_due(),
-                &[0usize; 0],
-                &[0u32; 0],
-            ))
+                lengths,
+                if short { nothing } else { history },
+            )
+        })
 }
 
 // Whether the call in rooms of these lengths gives what is due.
-fn gives(
-    original: &[u32],
-    text: &[u32],
-    spans: &[u32],
-    keys: &[u32],
-    operations: &[usize],
-    history_lent: usize,
-    told_lent: usize,
-    due: Due,
-    history: &[usize],
-    told: &[u32],
-) -> bool {
-    let mut history_room = [marked::MARK_USIZE; 2048];
-    let mut told_room = [marked::MARK_U32; 2048];
-    let a = marked::at_most(history_lent, 2048);
-    let b = marked::at_most(told_lent, 2048);
-    gives_in(
-        original,
-        text,
-        spans,
-        keys,
-        operations,
-        due,
-        history,
-        told,
-        &mut history_room[..a],
-        &mut told_room[..b],
-    )
+fn gives(lent: Lent, operations: &[usize], lengths: Lengths, history: History) -> bool {
+    let mut spans_room = [usize::MARK; AMPLE];
+    let mut told_room = [u32::MARK; AMPLE];
+    let [_, _, spans, told] = lengths;
+    let spans = &mut spans_room[..spans.min(AMPLE)];
+    let told = &mut told_room[..told.min(AMPLE)];
+    due_of(apply::apply_with_history(lent, operations, spans, told)) == history.due
+        && marked::holds(spans, history.spans)
+        && marked::holds(told, history.told)
 }
 
-fn gives_in(
-    original: &[u32],
-    text: &[u32],
-    spans: &[u32],
-    keys: &[u32],
-    operations: &[usize],
-    due: Due,
-    history: &[usize],
-    told: &[u32],
-    history_room: &mut [usize],
-    told_room: &mut [u32],
-) -> bool {
-    let counted = apply::apply_with_history(
-        original,
-        text,
-        spans,
-        keys,
-        operations,
-        history_room,
-        told_room,
-    );
-    is_due(counted, due)
-        && marked::holds_usize(history_room, history)
-        && marked::holds_u32(told_room, told)
-}
-
-fn is_due(counted: WithHistory, due: Due) -> bool {
-    match counted {
-        WithHistory::Counts { spans, text } => due.number == 0
-            && due.first == spans
-            && due.second == text,
-        WithHistory::Refused(why) => vectors::is_refusal(why, due),
-    }
+fn due_of(answer: Result<WithHistory, Refusal>) -> Due {
+    answer.map_or_else(Due::from, |n| Due::counts(n.spans, n.text, 0))
 }

@@ -5,11 +5,16 @@
 // those asked with one of them a number too short.
 #![tactic(auto)]
 
+use records::{Lent, List, Tokens};
+use vectors::Tally;
+
 mod all;
 mod history;
+mod rooms;
 mod text;
 
-use vectors::Due;
+use history::History;
+use text::Text;
 
 fn main() {
     let mut space = [0u8; 196608];
@@ -18,20 +23,16 @@ fn main() {
 }
 
 fn replay(bytes: &[u8]) {
-    let mut text = vectors::no_cases();
-    let mut history = vectors::no_cases();
-    let mut all = vectors::no_cases();
-    let mut at = 0;
-    'cases: while at < bytes.len() {
+    let mut text = Tally::default();
+    let mut history = Tally::default();
+    let mut all = Tally::default();
+    vectors::each_case(bytes.len(), |at| {
         let case = case_at(bytes, at);
         text = text.with(case.text);
         history = history.with(case.history);
         all = all.with(case.all);
-        if case.next <= at {
-            break 'cases;
-        }
-        at = case.next;
-    }
+        case.next
+    });
     vectors::report(b"apply", text);
     vectors::report(b"apply_with_history", history);
     vectors::report(b"apply_with_all", all);
@@ -51,137 +52,58 @@ fn case_at(bytes: &[u8], at: usize) -> Case {
     let mut text = [0u32; 1280];
     let mut spans = [0u32; 1280];
     let mut keys = [0u32; 1280];
-    let original_line = vectors::numbers_u32(bytes, at, &mut original);
-    let text_line = vectors::numbers_u32(bytes, original_line.next, &mut text);
-    let spans_line = vectors::numbers_u32(bytes, text_line.next, &mut spans);
-    let keys_line = vectors::numbers_u32(bytes, spans_line.next, &mut keys);
-    let o = original_line.count;
-    let t = text_line.count;
-    let s = spans_line.count;
-    let k = keys_line.count;
-    list_at(
-        bytes,
-        keys_line.next,
-        &original[..o],
-        &text[..t],
-        &spans[..s],
-        &keys[..k],
-    )
+    let original_line = vectors::numbers(bytes, at, &mut original);
+    let text_line = vectors::numbers(bytes, original_line.next, &mut text);
+    let spans_line = vectors::numbers(bytes, text_line.next, &mut spans);
+    let keys_line = vectors::numbers(bytes, spans_line.next, &mut keys);
+    let lent = Lent {
+        original: original_line.numbers,
+        text: text_line.numbers,
+        tokens: Tokens {
+            spans: spans_line.numbers,
+            keys: keys_line.numbers,
+        },
+    };
+    list_at(bytes, keys_line.next, lent)
 }
 
-fn list_at(
-    bytes: &[u8],
-    at: usize,
-    original: &[u32],
-    text: &[u32],
-    spans: &[u32],
-    keys: &[u32],
-) -> Case {
+fn list_at(bytes: &[u8], at: usize, lent: Lent) -> Case {
     let mut operations = [0usize; 1280];
     let mut cursors = [0usize; 1280];
-    let operations_line = vectors::numbers_usize(bytes, at, &mut operations);
-    let cursors_line = vectors::numbers_usize(bytes, operations_line.next, &mut cursors);
-    let o = operations_line.count;
-    let c = cursors_line.count;
-    answers_at(
-        bytes,
-        cursors_line.next,
-        original,
-        text,
-        spans,
-        keys,
-        &operations[..o],
-        &cursors[..c],
-    )
+    let operations_line = vectors::numbers(bytes, at, &mut operations);
+    let cursors_line = vectors::numbers(bytes, operations_line.next, &mut cursors);
+    let list = List {
+        operations: operations_line.numbers,
+        cursors: cursors_line.numbers,
+    };
+    answers_at(bytes, cursors_line.next, lent, list)
 }
 
-fn answers_at(
-    bytes: &[u8],
-    at: usize,
-    original: &[u32],
-    text: &[u32],
-    spans: &[u32],
-    keys: &[u32],
-    operations: &[usize],
-    cursors: &[usize],
-) -> Case {
+fn answers_at(bytes: &[u8], at: usize, lent: Lent, list: List) -> Case {
     let mut words = [0u32; 1280];
     let mut moved = [0usize; 1280];
-    let mut history = [0usize; 1280];
+    let mut spans = [0usize; 1280];
     let mut told = [0u32; 1280];
     let applied = vectors::due_at(bytes, at);
-    let words_line = vectors::numbers_u32(bytes, applied.next, &mut words);
-    let moved_line = vectors::numbers_usize(bytes, words_line.next, &mut moved);
+    let words_line = vectors::numbers(bytes, applied.next, &mut words);
+    let moved_line = vectors::numbers(bytes, words_line.next, &mut moved);
     let counted = vectors::due_at(bytes, moved_line.next);
-    let history_line = vectors::numbers_usize(bytes, counted.next, &mut history);
-    let told_line = vectors::numbers_u32(bytes, history_line.next, &mut told);
-    let w = words_line.count;
-    let m = moved_line.count;
-    let h = history_line.count;
-    let t = told_line.count;
-    let next = vectors::behind(bytes, told_line.next, 3);
-    judge(
-        original,
-        text,
-        spans,
-        keys,
-        operations,
-        cursors,
-        applied.due,
-        &words[..w],
-        &moved[..m],
-        counted.due,
-        &history[..h],
-        &told[..t],
-        next,
-    )
-}
-
-// Where `apply` refuses, by a cursor perhaps, so does `apply_with_all`, and writes no history.
-fn judge(
-    original: &[u32],
-    text: &[u32],
-    spans: &[u32],
-    keys: &[u32],
-    operations: &[usize],
-    cursors: &[usize],
-    applied: Due,
-    words: &[u32],
-    moved: &[usize],
-    counted: Due,
-    history: &[usize],
-    told: &[u32],
-    next: usize,
-) -> Case {
-    let all = if applied.number == 0 {
-        all::agrees(
-            original, text, spans, keys, operations, cursors, applied, counted, words, moved,
-            history, told,
-        )
-    } else {
-        all::agrees(
-            original,
-            text,
-            spans,
-            keys,
-            operations,
-            cursors,
-            applied,
-            counted,
-            words,
-            moved,
-            &[0usize; 0],
-            &[0u32; 0],
-        )
+    let spans_line = vectors::numbers(bytes, counted.next, &mut spans);
+    let told_line = vectors::numbers(bytes, spans_line.next, &mut told);
+    let text = Text {
+        due: applied.due,
+        words: words_line.numbers,
+        moved: moved_line.numbers,
+    };
+    let history = History {
+        due: counted.due,
+        spans: spans_line.numbers,
+        told: told_line.numbers,
     };
     Case {
-        text: text::agrees(
-            original, text, spans, keys, operations, cursors, applied, words, moved,
-        ),
-        history: history::agrees(
-            original, text, spans, keys, operations, counted, history, told,
-        ),
-        all,
-        next,
+        text: text::agrees(lent, list, text),
+        history: history::agrees(lent, list.operations, history),
+        all: all::agrees(lent, list, text, history),
+        next: vectors::behind(bytes, told_line.next, 3),
     }
 }

@@ -1,4 +1,3 @@
-pub mod Judging
 pub mod Accepted
 pub mod Passing
 pub mod Telling

@@ -18,12 +18,9 @@ use Rattle.records.specs.Cursors.{cursors_of}
 use Rattle.records.proofs.Operations as O
 use Rattle.records.proofs.Cursors as C
 use Rattle.refusal.specs.declared.Refusal.TheVariants.{Size}
-use Rattle.verdict.specs.declared.Verdict.{Verdict}
-use Rattle.verdict.specs.declared.Verdict.TheVariants.{Accepted, Refused}
 use Rattle.sizes.specs.declared.Limits.{Limits}
-use Rattle.checks.specs.declared.Run.{Run}
 use Rattle.checks.specs.declared.Pass.{Pass}
-use Rattle.verdict.specs.Verdicts.{and_then, sized}
+use Rattle.verdict.specs.Verdicts.{and_then, Verdict, accepted}
 use Rattle.verdict.specs.Points.{points_verdict}
 use Rattle.sizes.specs.Texts.{total, in_text, run_lent, claimed_by, inserted_by, retained_by}
 use Rattle.sizes.specs.Sizes.{Small, lent_fits}
@@ -35,6 +32,7 @@ use Rattle.verdict.proofs.Chains.{too_big}
 use Rattle.sizes.proofs.Sums.{cap, cap_cap, Adding, adding_begins, adding_in, adding_ends, inserted_other, inserted_run, Totals, totals_begin, totals_on, totals_end}
 use Rattle.shapes.proofs.Shapely.{Looking, looks_begin, looks_on, looks_end, run_is, record_insert, record_part, Recording, records_begin, records_on, records_end}
 use Rattle.shapes.proofs.Tiled.{Tiled, tiled_begin, tiled_insert, tiled_on, tiled_end}
+use Rattle.std.specs.Prelude.{Ok, Err}
 
 -- a run: its tokens are good so far, and their text is summed up
 pub record Running (spans keys : List ℕ) (n first count end i sum : ℕ) : Type 0 where
@@ -50,13 +48,13 @@ module _ {spans keys : List ℕ} {n first count end i sum : ℕ} (h : Running sp
       → Running spans keys n first count end (i + 1) s
   run_on t s l e z b es = record { looks = looks_on h.looks t l e z b; adds = adding_in h.adds t s l e b es }
 
-  pub run_ends : end ≤ i → Whole n (tokens_from spans keys first count) (record { good = true; text = sum })
+  pub run_ends : end ≤ i → Whole n (tokens_from spans keys first count) sum
   run_ends l = record { good = sym (looks_end h.looks l); text = adding_ends h.adds l }
 
-pub whole_insert : (n : ℕ) (spans keys : List ℕ) (o : Operation) (r : Run) → o.kind ≡ 1 → (o.count ≡ 0 → ⊥) → run_lent spans keys o ≡ true
+pub whole_insert : (n : ℕ) (spans keys : List ℕ) (o : Operation) (r : ℕ) → o.kind ≡ 1 → (o.count ≡ 0 → ⊥) → run_lent spans keys o ≡ true
     → Whole n (tokens_from spans keys o.first o.count) r → Inserts n spans keys o r
 whole_insert n spans keys o r k z l w =
-    record { good = sym (run_is n spans keys o true z l (sym w.good)); text = inserted_run n spans keys o r.text k l w.text }
+    record { good = sym (run_is n spans keys o true z l (sym w.good)); text = inserted_run n spans keys o r k l w.text }
 
 pub record Passing (l : Limits) (n m : ℕ) (spans keys xs : List ℕ) (count i at tokens inserted retained : ℕ) : Type 0 where
   pub few : tokens ≤ l.tokens
@@ -91,8 +89,8 @@ retains_most o = go (ℕ_discrete o.kind 2)
 module _ {l : Limits} {n m : ℕ} {spans keys xs : List ℕ} {count i at tokens inserted retained : ℕ}
     (h : Passing l n m spans keys xs count i at tokens inserted retained) where
   module _ (small : Small l) (o : Operation) (j : i < count) (e : o ≡ operation_at xs i) (side : o.side ≤ 1) where
-    pub passes_insert : (r : Run) → o.kind ≡ 1 → o.count ≤ l.tokens - tokens → Inserts m spans keys o r → r.text ≤ l.text - inserted
-        → Passing l n m spans keys xs count (i + 1) at (tokens + o.count) (inserted + r.text) retained
+    pub passes_insert : (r : ℕ) → o.kind ≡ 1 → o.count ≤ l.tokens - tokens → Inserts m spans keys o r → r ≤ l.text - inserted
+        → Passing l n m spans keys xs count (i + 1) at (tokens + o.count) (inserted + r) retained
     passes_insert r k c g d =
         let none : retained_by o ≡ 0 = rw (ne_eqb o.kind 2 (λ z. omega arith)) in
         record {
@@ -101,7 +99,7 @@ module _ {l : Limits} {n m : ℕ} {spans keys xs : List ℕ} {count i at tokens 
           kept = h.kept;
           claims = totals_on h.claims o o.count (tokens + o.count) j e (rw (eq-eqb o.kind 1 k)) (omega (arith, h.few, small.tokens));
           adds =
-              totals_on h.adds o r.text (inserted + r.text) j e (cap_cap (inserted_by m spans keys o) r.text g.text)
+              totals_on h.adds o r (inserted + r) j e (cap_cap (inserted_by m spans keys o) r g.text)
               (omega (arith, h.short, small.text));
           keeps = totals_on h.keeps o 0 retained j e (omega arith) (omega (arith, h.keeps.small));
           records = records_on h.records o j e (sym (record_insert m spans keys o side true k (sym g.good)));
@@ -124,7 +122,7 @@ module _ {l : Limits} {n m : ℕ} {spans keys xs : List ℕ} {count i at tokens 
         }
 
   pub passed : Small l → n ≤ 65535 → count ≤ i → at ≡ n
-      → Summed l n m spans keys (operations_of xs) (record { good = true; tokens = tokens; inserted = inserted; retained = retained })
+      → Summed l n m spans keys (operations_of xs) (record { tokens = tokens; inserted = inserted; retained = retained })
   passed small few j q =
       record {
         tokens = omega (arith, totals_end h.claims j, h.few, small.tokens);
@@ -139,7 +137,7 @@ module _ {l : Limits} {n m : ℕ} {spans keys xs : List ℕ} {count i at tokens 
 
 -- the sizes and the cursors, behind a pass
 pub good_list : (l : Limits) (n m : ℕ) (spans keys xs ys : List ℕ) (p : Pass) (v : Verdict) → Small l → n ≤ 65535 → length xs / 6 ≤ l.operations → length ys / 2 ≤ l.cursors
-    → Summed l n m spans keys (operations_of xs) p → v ≡ within_from (p.retained + p.inserted) (cursors_of ys) 0 → v ≡ Accepted
+    → Summed l n m spans keys (operations_of xs) p → v ≡ within_from (p.retained + p.inserted) (cursors_of ys) 0 → v ≡ accepted
     → Good l n m spans keys (operations_of xs) (cursors_of ys) p
 good_list l n m spans keys xs ys p v s k a b h e f =
     record {
@@ -163,24 +161,28 @@ pub lent_few : (original text : List ℕ) → lent_fits original text ≡ true �
 lent_few original text h = leb-true (length original) 65535 (and_left (leb (length original) 65535) (leb (length text) 131070) h)
 
 pub no_size : (l : Limits) (original text spans keys : List ℕ) (os : List Operation) (cs : List Cursor) → lent_fits original text ≡ false
-    → list_verdict l original text spans keys os cs ≡ Refused Size
+    → list_verdict l original text spans keys os cs ≡ Err Size
 unfolding list_verdict
 no_size l original text spans keys os cs e = sym (too_big _ _ (first_no _ _ e))
 
-then_none : (v : Verdict) → v ≡ and_then v Accepted
-unfolding and_then
-then_none Accepted = refl
-then_none (Refused r) = refl
+pub no_sizes : (l : Limits) (original text spans keys : List ℕ) (left right : List Operation) (cs ds : List Cursor) → lent_fits original text ≡ false
+    → lists_verdict l original text spans keys left right cs ds ≡ Err Size
+unfolding lists_verdict
+no_sizes l original text spans keys left right cs ds e = sym (too_big _ _ (first_no _ _ e))
+
+then_none : (v : Verdict) → v ≡ and_then v accepted
+then_none (Ok u) = refl
+then_none (Err r) = refl
 
 pub good_alone : (l : Limits) (original text spans keys : List ℕ) (os : List Operation) (cs : List Cursor) (p : Pass) → lent_fits original text ≡ true
     → Good l (length original) (length text) spans keys os cs p → points_verdict original text ≡ list_verdict l original text spans keys os cs
-unfolding list_verdict sized and_then
+unfolding list_verdict
 good_alone l original text spans keys os cs p f g =
     rw (f, g.fits, g.records, g.tiles, g.within) (then_none (points_verdict original text))
 
 pub good_lists : (l : Limits) (original text spans keys : List ℕ) (left right : List Operation) (cs ds : List Cursor) (p q : Pass) → lent_fits original text ≡ true
     → Good l (length original) (length text) spans keys left cs p → Good l (length original) (length text) spans keys right ds q
     → points_verdict original text ≡ lists_verdict l original text spans keys left right cs ds
-unfolding lists_verdict sized and_then
+unfolding lists_verdict
 good_lists l original text spans keys left right cs ds p q f g h =
     rw (f, g.fits, h.fits, g.records, h.records, g.tiles, h.tiles, g.within, h.within) (then_none (points_verdict original text))

@@ -1,15 +1,14 @@
 -- The verdict on the lists of a call: the first refusal in the paper's order, or accepted. Assumes nothing.
-use Rattle.std.specs.Prelude.{ℕ, ◌&&◌, List, length}
+use Rattle.std.specs.Prelude.{ℕ, ◌&&◌, List, length, Result, Ok}
 use Rattle.records.specs.declared.Operation.{Operation}
 use Rattle.records.specs.declared.Cursor.{Cursor}
-use Rattle.verdict.specs.declared.Verdict.{Verdict}
-use Rattle.verdict.specs.declared.Verdict.TheVariants.{Accepted, Refused}
 use Rattle.sizes.specs.declared.Limits.{Limits}
-use Rattle.checks.specs.declared.Checked.{Checked}
-use Rattle.checks.specs.declared.Checked.TheVariants.{Sums, Refused as No}
-use Rattle.verdict.specs.Verdicts.{and_then, sized}
+use Rattle.checks.specs.declared.Lengths.{Lengths}
+use Rattle.checks.specs.declared.Claims.{Claims}
+use Rattle.refusal.specs.declared.Refusal.{Refusal}
+use Rattle.verdict.specs.Verdicts.{and_then, sized, Verdict}
 use Rattle.verdict.specs.Points.{points_verdict}
-use Rattle.sizes.specs.Texts.{text_length}
+use Rattle.sizes.specs.Texts.{total, claimed_by, inserted_by, text_length}
 use Rattle.sizes.specs.Sizes.{lent_fits, list_fits}
 use Rattle.shapes.specs.Shapes.{records_from}
 use Rattle.shapes.specs.Tiling.{tiling_of, within_from}
@@ -35,7 +34,14 @@ lists_verdict l original text spans keys left right left_cursors right_cursors =
     (and_then (within_from (text_length (length text) spans keys left) left_cursors 0)
     (within_from (text_length (length text) spans keys right) right_cursors 0)))))
 
--- a verdict with two sums of what is accepted beside it
-unfoldable pub checked_of : Verdict → ℕ → ℕ → Checked
-checked_of Accepted n t = Sums n t
-checked_of (Refused r) n t = No r
+-- the verdict on one list; of one that is accepted how much text it inserts, and how long its text is
+abbrev pub lengths_on : Limits → List ℕ → List ℕ → List ℕ → List ℕ → List Operation → List Cursor → Result Lengths Refusal
+lengths_on l original text spans keys os cs =
+    and_then (list_verdict l original text spans keys os cs)
+    (Ok (record { inserted = total (inserted_by (length text) spans keys) os; text = text_length (length text) spans keys os }))
+
+-- the verdict on the two lists of a merge; of two that are accepted how many tokens each inserts
+abbrev pub claims_on : Limits → List ℕ → List ℕ → List ℕ → List ℕ → List Operation → List Operation → List Cursor → List Cursor → Result Claims Refusal
+claims_on l original text spans keys left right left_cursors right_cursors =
+    and_then (lists_verdict l original text spans keys left right left_cursors right_cursors)
+    (Ok (record { left = total claimed_by left; right = total claimed_by right }))

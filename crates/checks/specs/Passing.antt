@@ -3,24 +3,23 @@ use Rattle.std.specs.Prelude.{ℕ, ◌+◌, ◌≤◌, min, ◌≡◌, true, Lis
 use Rattle.records.specs.declared.Operation.{Operation}
 use Rattle.records.specs.declared.Token.{Token}
 use Rattle.records.specs.declared.Cursor.{Cursor}
-use Rattle.verdict.specs.declared.Verdict.TheVariants.{Accepted}
 use Rattle.sizes.specs.declared.Limits.{Limits}
-use Rattle.checks.specs.declared.Run.{Run}
 use Rattle.checks.specs.declared.Pass.{Pass}
 use Rattle.sizes.specs.Texts.{run_text, total, claimed_by, inserted_by, retained_by, text_length}
 use Rattle.sizes.specs.Sizes.{list_fits}
 use Rattle.shapes.specs.Shapes.{run_good, is_run, records_from}
 use Rattle.shapes.specs.Tiling.{tiling_of, within_from}
+use Rattle.verdict.specs.Verdicts.{accepted}
 
 -- a run's text, capped, and that its tokens are good
-pub record Whole (n : ℕ) (ts : List Token) (r : Run) : Type 0 where
+pub record Whole (n : ℕ) (ts : List Token) (sum : ℕ) : Type 0 where
   pub good : run_good n ts ≡ true
-  pub text : r.text ≡ min 1000000 (run_text n ts)
+  pub text : sum ≡ min 1000000 (run_text n ts)
 
 -- an insert's text, capped, and that its tokens are lent and good
-pub record Inserts (n : ℕ) (spans keys : List ℕ) (o : Operation) (r : Run) : Type 0 where
+pub record Inserts (n : ℕ) (spans keys : List ℕ) (o : Operation) (sum : ℕ) : Type 0 where
   pub good : is_run n spans keys o ≡ true
-  pub text : r.text ≡ min 1000000 (inserted_by n spans keys o)
+  pub text : sum ≡ min 1000000 (inserted_by n spans keys o)
 
 -- its sums, and that its sizes are kept and refusals 1 and 2 are not given
 pub record Summed (l : Limits) (n m : ℕ) (spans keys : List ℕ) (os : List Operation) (r : Pass) : Type 0 where
@@ -30,15 +29,15 @@ pub record Summed (l : Limits) (n m : ℕ) (spans keys : List ℕ) (os : List Op
   pub inserted : r.inserted ≡ total (inserted_by m spans keys) os
   pub retained : r.retained ≡ total retained_by os
   pub few : r.retained ≤ n
-  pub records : Accepted ≡ records_from m spans keys os 0
-  pub tiles : Accepted ≡ tiling_of n os
+  pub records : accepted ≡ records_from m spans keys os 0
+  pub tiles : accepted ≡ tiling_of n os
 
 -- none of refusals 3, 1, 2 and 5 is given; how many tokens and how much text are inserted, and how long the text is
 pub record Good (l : Limits) (n m : ℕ) (spans keys : List ℕ) (os : List Operation) (cs : List Cursor) (r : Pass) : Type 0 where
   pub fits : list_fits l m spans keys os cs ≡ true
-  pub records : records_from m spans keys os 0 ≡ Accepted
-  pub tiles : tiling_of n os ≡ Accepted
-  pub within : within_from (text_length m spans keys os) cs 0 ≡ Accepted
+  pub records : records_from m spans keys os 0 ≡ accepted
+  pub tiles : tiling_of n os ≡ accepted
+  pub within : within_from (text_length m spans keys os) cs 0 ≡ accepted
   pub claimed : r.tokens ≡ total claimed_by os
   pub inserted : r.inserted ≡ total (inserted_by m spans keys) os
   pub text : r.retained + r.inserted ≡ text_length m spans keys os

@@ -2,485 +2,275 @@
 // merge.
 #![tactic(auto)]
 
-ghost use Rattle.std.specs.Prelude.{◌≡◌, ◌+◌, ◌≤◌, true, false, length};
+ghost use Rattle.std.specs.Prelude.{◌≡◌, ◌+◌, ◌≤◌, true, length, IfSome};
 ghost use Rattle.records.specs.Operations.{operations_of};
 ghost use Rattle.records.specs.Tokens.{tokens_lent, tokens_from};
 ghost use Rattle.records.specs.Cursors.{cursors_of};
-ghost use Rattle.sizes.specs.Texts.{total, claimed_by, inserted_by, text_length};
 ghost use Rattle.sizes.specs.Sizes.{Small, lent_fits};
-ghost use Rattle.checks.specs.Lists.{list_verdict, lists_verdict, checked_of};
+ghost use Rattle.checks.specs.Lists.{list_verdict, lists_verdict, lengths_on, claims_on};
 ghost use Rattle.checks.specs.Passing.{Whole, Inserts, Summed, Good};
 
+use records::{Lent, List, Operation, Tokens};
+use refusal::Refusal;
 use sizes::Limits;
-use verdict::Verdict;
+
+// How much text an accepted list inserts, and how long its text is.
+#[derive(Clone, Copy)]
+pub struct Lengths {
+    pub inserted: usize,
+    pub text: usize,
+}
+
+// How many tokens each of the two accepted lists of a merge inserts.
+#[derive(Clone, Copy)]
+pub struct Claims {
+    pub left: usize,
+    pub right: usize,
+}
 
 // Refusals 3, 4, 1, 2 and 5 of one list, in this order: check by check, over texts that keep their sizes.
-fn judge_list(
-    limits: Limits,
-    original: &[u32],
-    text: &[u32],
-    spans: &[u32],
-    keys: &[u32],
-    operations: &[usize],
-    cursors: &[usize],
-) -> Verdict
-    requires { Small limits × (lent_fits original.now text.now ≡ true) }
-    ensures { result ≡ list_verdict limits original.now text.now spans.now keys.now (operations_of operations.now) (cursors_of cursors.now) }
+#[tactic(auto, unfolding(crate::specs::Lists::list_verdict))]
+fn judge_list(limits: Limits, lent: Lent, list: List) -> Result<(), Refusal>
+    requires { Small limits × (lent_fits lent.original.now lent.text.now ≡ true) }
+    ensures { result ≡ list_verdict limits lent.entry.original.now lent.entry.text.now lent.entry.tokens.spans.now lent.entry.tokens.keys.now (operations_of list.entry.operations.now) (cursors_of list.entry.cursors.now) }
 {
-    let n = original.len();
-    let m = text.len();
-    if !sizes::list_fits(limits, m, spans, keys, operations, cursors) {
-        return Verdict::Refused(refusal::Refusal::Size);
+    let m = lent.text.len();
+    if !sizes::list_fits(limits, m, lent.tokens, list) {
+        return Err(Refusal::Size);
     }
-    match verdict::check_texts(original, text) {
-        Verdict::Refused(refusal) => Verdict::Refused(refusal),
-        Verdict::Accepted => match shapes::check_records(spans, keys, m, operations) {
-            Verdict::Refused(refusal) => Verdict::Refused(refusal),
-            Verdict::Accepted => match shapes::check_tiling(n, operations) {
-                Verdict::Refused(refusal) => Verdict::Refused(refusal),
-                Verdict::Accepted => shapes::check_within(spans, keys, m, operations, cursors),
-            },
-        },
-    }
+    verdict::check_texts(lent.original, lent.text)?;
+    shapes::check_records(lent.tokens, m, list.operations)?;
+    shapes::check_tiling(lent.original.len(), list.operations)?;
+    shapes::check_within(lent.tokens, m, list)
 }
 
 // Refusals 3, 4, 1, 2 and 5 of the two lists of a merge, each on both before the next: check by check, over texts that keep their sizes.
-fn judge_lists(
-    limits: Limits,
-    original: &[u32],
-    text: &[u32],
-    spans: &[u32],
-    keys: &[u32],
-    left: &[usize],
-    right: &[usize],
-    left_cursors: &[usize],
-    right_cursors: &[usize],
-) -> Verdict
-    requires { Small limits × (lent_fits original.now text.now ≡ true) }
-    ensures { result ≡ lists_verdict limits original.now text.now spans.now keys.now (operations_of left.now) (operations_of right.now) (cursors_of left_cursors.now) (cursors_of right_cursors.now) }
+#[tactic(auto, unfolding(crate::specs::Lists::lists_verdict))]
+fn judge_lists(limits: Limits, lent: Lent, left: List, right: List) -> Result<(), Refusal>
+    requires { Small limits × (lent_fits lent.original.now lent.text.now ≡ true) }
+    ensures { result ≡ lists_verdict limits lent.entry.original.now lent.entry.text.now lent.entry.tokens.spans.now lent.entry.tokens.keys.now (operations_of left.entry.operations.now) (operations_of right.entry.operations.now) (cursors_of left.entry.cursors.now) (cursors_of right.entry.cursors.now) }
 {
-    let n = original.len();
-    let m = text.len();
-    if !sizes::lists_fit(
-        limits,
-        m,
-        spans,
-        keys,
-        left,
-        right,
-        left_cursors,
-        right_cursors,
-    ) {
-        return Verdict::Refused(refusal::Refusal::Size);
+    let n = lent.original.len();
+    let m = lent.text.len();
+    let tokens = lent.tokens;
+    if !sizes::lists_fit(limits, m, tokens, left, right) {
+        return Err(Refusal::Size);
     }
-    match verdict::check_texts(original, text) {
-        Verdict::Refused(refusal) => Verdict::Refused(refusal),
-        Verdict::Accepted => match shapes::check_both_records(spans, keys, m, left, right) {
-            Verdict::Refused(refusal) => Verdict::Refused(refusal),
-            Verdict::Accepted => match shapes::check_both_tilings(n, left, right) {
-                Verdict::Refused(refusal) => Verdict::Refused(refusal),
-                Verdict::Accepted => match shapes::check_within(
-                    spans,
-                    keys,
-                    m,
-                    left,
-                    left_cursors,
-                ) {
-                    Verdict::Refused(refusal) => Verdict::Refused(refusal),
-                    Verdict::Accepted => shapes::check_within(spans, keys, m, right, right_cursors),
-                },
-            },
-        },
-    }
+    verdict::check_texts(lent.original, lent.text)?;
+    shapes::check_records(tokens, m, left.operations)?;
+    shapes::check_records(tokens, m, right.operations)?;
+    shapes::check_tiling(n, left.operations)?;
+    shapes::check_tiling(n, right.operations)?;
+    shapes::check_within(tokens, m, left)?;
+    shapes::check_within(tokens, m, right)
 }
 
-// What a look at an insert's tokens finds: their text, capped; or that something may be to refuse.
-#[derive(Clone, Copy)]
-struct Run {
-    good: bool,
-    text: usize,
-}
-
-fn no_run() -> Run
-    ensures { result.good ≡ false }
-{
-    Run {
-        good: false,
-        text: 0,
-    }
-}
-
-// A run of tokens, looked at and summed up at once.
-fn pass_run(spans: &[u32], keys: &[u32], n: usize, first: usize, count: usize) -> Run
-    requires { first + count ≤ tokens_lent spans.now keys.now }
-    ensures { result.good ≡ true → Whole n (tokens_from spans.now keys.now first count) result }
+// A run of tokens, looked at and summed up at once: its text, capped; none where something may be to refuse.
+fn pass_run(tokens: Tokens, n: usize, first: usize, count: usize) -> Option<usize>
+    requires { first + count ≤ tokens_lent tokens.spans.now tokens.keys.now }
+    ensures { IfSome result (Whole n (tokens_from tokens.entry.spans.now tokens.entry.keys.now first count)) }
 {
     let end = first + count;
-    let mut i = first;
     let mut sum = 0;
-    'run: while i < end {
-        let t = records::token_at(spans, keys, i);
+    'run: for i in first..end {
+        let t = tokens.at(i);
         if t.length == 0 {
-            return no_run();
+            return None;
         }
         if !sizes::in_text(t, n) {
-            return no_run();
+            return None;
         }
-        let length = numbers::wide(t.length);
-        sum = sizes::capped(sum, length);
-        i += 1;
+        sum = sizes::capped(sum, numbers::wide(t.length));
     }
-    Run {
-        good: true,
-        text: sum,
-    }
+    Some(sum)
 }
 
 // An insert's tokens.
-fn pass_insert(spans: &[u32], keys: &[u32], n: usize, o: records::Operation) -> Run
+fn pass_insert(tokens: Tokens, n: usize, o: Operation) -> Option<usize>
     requires { o.kind ≡ 1 }
-    ensures { result.good ≡ true → Inserts n spans.now keys.now o result }
+    ensures { IfSome result (Inserts n tokens.entry.spans.now tokens.entry.keys.now o) }
 {
     if o.count == 0 {
-        return no_run();
+        return None;
     }
-    if !sizes::run_lent(spans, keys, o) {
-        return no_run();
+    if !sizes::run_lent(tokens, o) {
+        return None;
     }
-    pass_run(spans, keys, n, o.first, o.count)
+    pass_run(tokens, n, o.first, o.count)
 }
 
 // What one pass over a list's operations sums up: the tokens and the text that it inserts, and the
-// original that it retains; or that it may have found something to refuse.
+// original that it retains.
 #[derive(Clone, Copy)]
 struct Pass {
-    good: bool,
     tokens: usize,
     inserted: usize,
     retained: usize,
 }
 
-fn no_pass() -> Pass
-    ensures { result.good ≡ false }
-{
-    Pass {
-        good: false,
-        tokens: 0,
-        inserted: 0,
-        retained: 0,
-    }
-}
-
-// Tokens are read only while they keep their size. Of an operation's kind only whether it inserts is
-// a branch: kinds follow each other in no order that a processor could learn.
+// The sums of a list; none where something may be to refuse. Tokens are read only while they keep their
+// size. Of an operation's kind only whether it inserts is a branch: kinds follow each other in no order
+// that a processor could learn.
 fn pass_list(
     limits: Limits,
     n: usize,
     m: usize,
-    spans: &[u32],
-    keys: &[u32],
+    tokens: Tokens,
     operations: &[usize],
-) -> Pass
+) -> Option<Pass>
     requires { Small limits × (n ≤ 65535) }
-    ensures { result.good ≡ true → Summed limits n m spans.now keys.now (operations_of operations.now) result }
+    ensures { IfSome result (Summed limits n m tokens.entry.spans.now tokens.entry.keys.now (operations_of operations.now)) }
 {
-    let count = operations.len() / 6;
-    let mut i = 0;
     let mut at = 0;
-    let mut tokens = 0;
+    let mut claimed = 0;
     let mut inserted = 0;
     let mut retained = 0;
-    'pass: while i < count {
+    'pass: for i in 0..operations.len() / 6 {
         let o = records::operation_at(operations, i);
-        let next = i + 1;
         if 1 < o.side {
-            return no_pass();
+            return None;
         }
         if o.kind == 1 {
-            if limits.tokens - tokens < o.count {
-                return no_pass();
+            if limits.tokens - claimed < o.count {
+                return None;
             }
-            let run = pass_insert(spans, keys, m, o);
-            if !run.good {
-                return no_pass();
+            let text = pass_insert(tokens, m, o)?;
+            if limits.text - inserted < text {
+                return None;
             }
-            if limits.text - inserted < run.text {
-                return no_pass();
-            }
-            tokens += o.count;
-            inserted += run.text;
-            i = next;
+            claimed += o.count;
+            inserted += text;
             continue 'pass;
         }
         if 2 < o.kind {
-            return no_pass();
+            return None;
         }
         if o.length == 0 {
-            return no_pass();
+            return None;
         }
         if o.order != at {
-            return no_pass();
+            return None;
         }
         if n - at < o.length {
-            return no_pass();
+            return None;
         }
         retained += sizes::retained_by(o);
         at += o.length;
-        i = next;
     }
-    if at == n {
-        return Pass {
-            good: true,
-            tokens,
-            inserted,
-            retained,
-        };
+    if at != n {
+        return None;
     }
-    no_pass()
+    Some(Pass {
+        tokens: claimed,
+        inserted,
+        retained,
+    })
 }
 
 // The sums of a list in which one pass shows that there is nothing to refuse.
-fn good_sums(
-    limits: Limits,
-    n: usize,
-    m: usize,
-    spans: &[u32],
-    keys: &[u32],
-    operations: &[usize],
-    cursors: &[usize],
-) -> Pass
-    requires { Small limits × (n ≤ 65535) }
-    ensures { result.good ≡ true → Good limits n m spans.now keys.now (operations_of operations.now) (cursors_of cursors.now) result }
+fn good_sums(limits: Limits, lent: Lent, list: List) -> Option<Pass>
+    requires { Small limits × (length lent.original.now ≤ 65535) }
+    ensures { IfSome result (Good limits (length lent.entry.original.now) (length lent.entry.text.now) lent.entry.tokens.spans.now lent.entry.tokens.keys.now (operations_of list.entry.operations.now) (cursors_of list.entry.cursors.now)) }
 {
-    if limits.operations < operations.len() / 6 {
-        return no_pass();
+    if limits.operations < list.operations.len() / 6 {
+        return None;
     }
-    if limits.cursors < cursors.len() / 2 {
-        return no_pass();
+    if limits.cursors < list.cursors.len() / 2 {
+        return None;
     }
-    let sums = pass_list(limits, n, m, spans, keys, operations);
-    if !sums.good {
-        return no_pass();
+    let sums = pass_list(
+        limits,
+        lent.original.len(),
+        lent.text.len(),
+        lent.tokens,
+        list.operations,
+    )?;
+    match shapes::check_cursors(list.cursors, sums.retained + sums.inserted) {
+        Ok(()) => Some(sums),
+        Err(_) => None,
     }
-    let end = sums.retained + sums.inserted;
-    let verdict = shapes::check_cursors(cursors, end);
-    match verdict {
-        Verdict::Accepted => sums,
-        Verdict::Refused(refusal) => no_pass(),
-    }
-}
-
-// The verdict with two sums of what is accepted: of one list how much text it inserts and how long its
-// text is, of the two of a merge how many tokens each inserts.
-#[derive(Clone, Copy)]
-pub enum Checked {
-    Sums { first: usize, second: usize },
-    Refused(refusal::Refusal),
 }
 
 // The same, check by check.
-fn judge_sums(
-    limits: Limits,
-    original: &[u32],
-    text: &[u32],
-    spans: &[u32],
-    keys: &[u32],
-    operations: &[usize],
-    cursors: &[usize],
-) -> Checked
-    requires { Small limits × (lent_fits original.now text.now ≡ true) }
-    ensures { result ≡ checked_of (list_verdict limits original.now text.now spans.now keys.now (operations_of operations.now) (cursors_of cursors.now)) (total (inserted_by (length text.now) spans.now keys.now) (operations_of operations.now)) (text_length (length text.now) spans.now keys.now (operations_of operations.now)) }
+fn judge_sums(limits: Limits, lent: Lent, list: List) -> Result<Lengths, Refusal>
+    requires { Small limits × (lent_fits lent.original.now lent.text.now ≡ true) }
+    ensures { result ≡ lengths_on limits lent.entry.original.now lent.entry.text.now lent.entry.tokens.spans.now lent.entry.tokens.keys.now (operations_of list.entry.operations.now) (cursors_of list.entry.cursors.now) }
 {
-    match judge_list(limits, original, text, spans, keys, operations, cursors) {
-        Verdict::Refused(refusal) => Checked::Refused(refusal),
-        Verdict::Accepted => {
-            let inserted = sizes::inserted(spans, keys, text.len(), operations);
-            let written = sizes::text_length(spans, keys, text.len(), operations);
-            Checked::Sums {
-                first: inserted,
-                second: written,
-            }
-        }
-    }
+    judge_list(limits, lent, list)?;
+    let m = lent.text.len();
+    Ok(Lengths {
+        inserted: sizes::inserted(lent.tokens, m, list.operations),
+        text: sizes::text_length(lent.tokens, m, list.operations),
+    })
 }
 
 // Refusals 3, 4, 1, 2 and 5 of one list, in this order, or the lengths of its texts. One pass mostly
 // shows that there is none.
-pub fn sum_list(
-    limits: Limits,
-    original: &[u32],
-    text: &[u32],
-    spans: &[u32],
-    keys: &[u32],
-    operations: &[usize],
-    cursors: &[usize],
-) -> Checked
+pub fn sum_list(limits: Limits, lent: Lent, list: List) -> Result<Lengths, Refusal>
     requires { Small limits }
-    ensures { result ≡ checked_of (list_verdict limits original.now text.now spans.now keys.now (operations_of operations.now) (cursors_of cursors.now)) (total (inserted_by (length text.now) spans.now keys.now) (operations_of operations.now)) (text_length (length text.now) spans.now keys.now (operations_of operations.now)) }
+    ensures { result ≡ lengths_on limits lent.entry.original.now lent.entry.text.now lent.entry.tokens.spans.now lent.entry.tokens.keys.now (operations_of list.entry.operations.now) (cursors_of list.entry.cursors.now) }
 {
-    let n = original.len();
-    let m = text.len();
-    if !sizes::lent_fits(original, text) {
-        return Checked::Refused(refusal::Refusal::Size);
+    if !sizes::lent_fits(lent) {
+        return Err(Refusal::Size);
     }
-    let sums = good_sums(limits, n, m, spans, keys, operations, cursors);
-    if !sums.good {
-        return judge_sums(limits, original, text, spans, keys, operations, cursors);
-    }
-    match verdict::check_texts(original, text) {
-        Verdict::Refused(refusal) => Checked::Refused(refusal),
-        Verdict::Accepted => {
-            let written = sums.retained + sums.inserted;
-            Checked::Sums {
-                first: sums.inserted,
-                second: written,
-            }
-        }
-    }
+    let Some(sums) = good_sums(limits, lent, list) else {
+        return judge_sums(limits, lent, list);
+    };
+    verdict::check_texts(lent.original, lent.text)?;
+    Ok(Lengths {
+        inserted: sums.inserted,
+        text: sums.retained + sums.inserted,
+    })
 }
 
 // Refusals 3, 4, 1, 2 and 5 of one list, in this order.
-pub fn check_list(
-    limits: Limits,
-    original: &[u32],
-    text: &[u32],
-    spans: &[u32],
-    keys: &[u32],
-    operations: &[usize],
-    cursors: &[usize],
-) -> Verdict
+pub fn check_list(limits: Limits, lent: Lent, list: List) -> Result<(), Refusal>
     requires { Small limits }
-    ensures { result ≡ list_verdict limits original.now text.now spans.now keys.now (operations_of operations.now) (cursors_of cursors.now) }
+    ensures { result ≡ list_verdict limits lent.entry.original.now lent.entry.text.now lent.entry.tokens.spans.now lent.entry.tokens.keys.now (operations_of list.entry.operations.now) (cursors_of list.entry.cursors.now) }
 {
-    match sum_list(limits, original, text, spans, keys, operations, cursors) {
-        Checked::Refused(refusal) => Verdict::Refused(refusal),
-        Checked::Sums {
-            first: inserted,
-            second: written,
-        } => Verdict::Accepted,
-    }
+    sum_list(limits, lent, list)?;
+    Ok(())
 }
 
 // Those of the two lists of a merge, with the tokens that each inserts, check by check.
-fn judge_claims(
-    limits: Limits,
-    original: &[u32],
-    text: &[u32],
-    spans: &[u32],
-    keys: &[u32],
-    left: &[usize],
-    right: &[usize],
-    left_cursors: &[usize],
-    right_cursors: &[usize],
-) -> Checked
-    requires { Small limits × (lent_fits original.now text.now ≡ true) }
-    ensures { result ≡ checked_of (lists_verdict limits original.now text.now spans.now keys.now (operations_of left.now) (operations_of right.now) (cursors_of left_cursors.now) (cursors_of right_cursors.now)) (total claimed_by (operations_of left.now)) (total claimed_by (operations_of right.now)) }
+fn judge_claims(limits: Limits, lent: Lent, left: List, right: List) -> Result<Claims, Refusal>
+    requires { Small limits × (lent_fits lent.original.now lent.text.now ≡ true) }
+    ensures { result ≡ claims_on limits lent.entry.original.now lent.entry.text.now lent.entry.tokens.spans.now lent.entry.tokens.keys.now (operations_of left.entry.operations.now) (operations_of right.entry.operations.now) (cursors_of left.entry.cursors.now) (cursors_of right.entry.cursors.now) }
 {
-    match judge_lists(
-        limits,
-        original,
-        text,
-        spans,
-        keys,
-        left,
-        right,
-        left_cursors,
-        right_cursors,
-    ) {
-        Verdict::Refused(refusal) => Checked::Refused(refusal),
-        Verdict::Accepted => {
-            let first = sizes::claimed(left);
-            let second = sizes::claimed(right);
-            Checked::Sums { first, second }
-        }
-    }
+    judge_lists(limits, lent, left, right)?;
+    Ok(Claims {
+        left: sizes::claimed(left.operations),
+        right: sizes::claimed(right.operations),
+    })
 }
 
 // Refusals 3, 4, 1, 2 and 5 of the two lists of a merge, each on both before the next, or how many
 // tokens each inserts. One pass over each list mostly shows that there is none.
-pub fn sum_lists(
-    limits: Limits,
-    original: &[u32],
-    text: &[u32],
-    spans: &[u32],
-    keys: &[u32],
-    left: &[usize],
-    right: &[usize],
-    left_cursors: &[usize],
-    right_cursors: &[usize],
-) -> Checked
+pub fn sum_lists(limits: Limits, lent: Lent, left: List, right: List) -> Result<Claims, Refusal>
     requires { Small limits }
-    ensures { result ≡ checked_of (lists_verdict limits original.now text.now spans.now keys.now (operations_of left.now) (operations_of right.now) (cursors_of left_cursors.now) (cursors_of right_cursors.now)) (total claimed_by (operations_of left.now)) (total claimed_by (operations_of right.now)) }
+    ensures { result ≡ claims_on limits lent.entry.original.now lent.entry.text.now lent.entry.tokens.spans.now lent.entry.tokens.keys.now (operations_of left.entry.operations.now) (operations_of right.entry.operations.now) (cursors_of left.entry.cursors.now) (cursors_of right.entry.cursors.now) }
 {
-    let n = original.len();
-    let m = text.len();
-    if !sizes::lent_fits(original, text) {
-        return Checked::Refused(refusal::Refusal::Size);
+    if !sizes::lent_fits(lent) {
+        return Err(Refusal::Size);
     }
-    let left_sums = good_sums(limits, n, m, spans, keys, left, left_cursors);
-    if !left_sums.good {
-        return judge_claims(
-            limits,
-            original,
-            text,
-            spans,
-            keys,
-            left,
-            right,
-            left_cursors,
-            right_cursors,
-        );
-    }
-    let right_sums = good_sums(limits, n, m, spans, keys, right, right_cursors);
-    if !right_sums.good {
-        return judge_claims(
-            limits,
-            original,
-            text,
-            spans,
-            keys,
-            left,
-            right,
-            left_cursors,
-            right_cursors,
-        );
-    }
-    match verdict::check_texts(original, text) {
-        Verdict::Refused(refusal) => Checked::Refused(refusal),
-        Verdict::Accepted => Checked::Sums {
-            first: left_sums.tokens,
-            second: right_sums.tokens,
-        },
-    }
+    let Some(lefts) = good_sums(limits, lent, left) else {
+        return judge_claims(limits, lent, left, right);
+    };
+    let Some(rights) = good_sums(limits, lent, right) else {
+        return judge_claims(limits, lent, left, right);
+    };
+    verdict::check_texts(lent.original, lent.text)?;
+    Ok(Claims {
+        left: lefts.tokens,
+        right: rights.tokens,
+    })
 }
 
 // Refusals 3, 4, 1, 2 and 5 of the two lists of a merge, each on both before the next.
-pub fn check_lists(
-    limits: Limits,
-    original: &[u32],
-    text: &[u32],
-    spans: &[u32],
-    keys: &[u32],
-    left: &[usize],
-    right: &[usize],
-    left_cursors: &[usize],
-    right_cursors: &[usize],
-) -> Verdict
+pub fn check_lists(limits: Limits, lent: Lent, left: List, right: List) -> Result<(), Refusal>
     requires { Small limits }
-    ensures { result ≡ lists_verdict limits original.now text.now spans.now keys.now (operations_of left.now) (operations_of right.now) (cursors_of left_cursors.now) (cursors_of right_cursors.now) }
+    ensures { result ≡ lists_verdict limits lent.entry.original.now lent.entry.text.now lent.entry.tokens.spans.now lent.entry.tokens.keys.now (operations_of left.entry.operations.now) (operations_of right.entry.operations.now) (cursors_of left.entry.cursors.now) (cursors_of right.entry.cursors.now) }
 {
-    match sum_lists(
-        limits,
-        original,
-        text,
-        spans,
-        keys,
-        left,
-        right,
-        left_cursors,
-        right_cursors,
-    ) {
-        Checked::Refused(refusal) => Verdict::Refused(refusal),
-        Checked::Sums { first, second } => Verdict::Accepted,
-    }
+    sum_lists(limits, lent, left, right)?;
+    Ok(())
 }

@@ -4,34 +4,14 @@
 // right cursors, and the verdict: 0, or a refusal's number and values.
 #![tactic(auto)]
 
-use vectors::Due;
-use verdict::Verdict;
+use records::{Lent, List, Tokens};
+use vectors::{Case, Due};
 
 fn main() {
     let mut space = [0u8; 131072];
     let n = io::read_full(0, &mut space);
-    replay(b"checks", &space[..n]);
-}
-
-fn replay(name: &[u8], bytes: &[u8]) {
-    let mut tally = vectors::no_cases();
-    let mut at = 0;
-    'cases: while at < bytes.len() {
-        let case = case_at(bytes, at);
-        tally = tally.with(case.agrees);
-        if case.next <= at {
-            break 'cases;
-        }
-        at = case.next;
-    }
-    vectors::report(name, tally);
-}
-
-// Whether the check gives the case's verdict, and the offset behind the case.
-#[derive(Clone, Copy)]
-struct Case {
-    agrees: bool,
-    next: usize,
+    let bytes = &space[..n];
+    vectors::replay(b"checks", n, |at| case_at(bytes, at));
 }
 
 fn case_at(bytes: &[u8], at: usize) -> Case {
@@ -40,107 +20,47 @@ fn case_at(bytes: &[u8], at: usize) -> Case {
     let mut text = [0u32; 64];
     let mut spans = [0u32; 64];
     let mut keys = [0u32; 64];
-    let lists_line = vectors::numbers_usize(bytes, at, &mut lists);
-    let original_line = vectors::numbers_u32(bytes, lists_line.next, &mut original);
-    let text_line = vectors::numbers_u32(bytes, original_line.next, &mut text);
-    let spans_line = vectors::numbers_u32(bytes, text_line.next, &mut spans);
-    let keys_line = vectors::numbers_u32(bytes, spans_line.next, &mut keys);
-    let o = original_line.count;
-    let t = text_line.count;
-    let s = spans_line.count;
-    let k = keys_line.count;
-    lists_at(
-        bytes,
-        keys_line.next,
-        lists[0] == 2,
-        &original[..o],
-        &text[..t],
-        &spans[..s],
-        &keys[..k],
-    )
+    let lists_line = vectors::numbers(bytes, at, &mut lists);
+    let original_line = vectors::numbers(bytes, lists_line.next, &mut original);
+    let text_line = vectors::numbers(bytes, original_line.next, &mut text);
+    let spans_line = vectors::numbers(bytes, text_line.next, &mut spans);
+    let keys_line = vectors::numbers(bytes, spans_line.next, &mut keys);
+    let lent = Lent {
+        original: original_line.numbers,
+        text: text_line.numbers,
+        tokens: Tokens {
+            spans: spans_line.numbers,
+            keys: keys_line.numbers,
+        },
+    };
+    lists_at(bytes, keys_line.next, lists[0] == 2, lent)
 }
 
-fn lists_at(
-    bytes: &[u8],
-    at: usize,
-    merging: bool,
-    original: &[u32],
-    text: &[u32],
-    spans: &[u32],
-    keys: &[u32],
-) -> Case {
+fn lists_at(bytes: &[u8], at: usize, merging: bool, lent: Lent) -> Case {
     let mut left = [0usize; 64];
     let mut right = [0usize; 64];
     let mut left_cursors = [0usize; 64];
     let mut right_cursors = [0usize; 64];
-    let left_line = vectors::numbers_usize(bytes, at, &mut left);
-    let right_line = vectors::numbers_usize(bytes, left_line.next, &mut right);
-    let left_cursors_line = vectors::numbers_usize(bytes, right_line.next, &mut left_cursors);
-    let right_cursors_line = vectors::numbers_usize(
-        bytes,
-        left_cursors_line.next,
-        &mut right_cursors,
-    );
+    let left_line = vectors::numbers(bytes, at, &mut left);
+    let right_line = vectors::numbers(bytes, left_line.next, &mut right);
+    let left_cursors_line = vectors::numbers(bytes, right_line.next, &mut left_cursors);
+    let right_cursors_line = vectors::numbers(bytes, left_cursors_line.next, &mut right_cursors);
+    let left_list = List {
+        operations: left_line.numbers,
+        cursors: left_cursors_line.numbers,
+    };
+    let right_list = List {
+        operations: right_line.numbers,
+        cursors: right_cursors_line.numbers,
+    };
     let answer = vectors::due_at(bytes, right_cursors_line.next);
-    let l = left_line.count;
-    let r = right_line.count;
-    let m = left_cursors_line.count;
-    let n = right_cursors_line.count;
-    let verdict = verdict_on(
-        merging,
-        original,
-        text,
-        spans,
-        keys,
-        &left[..l],
-        &right[..r],
-        &left_cursors[..m],
-        &right_cursors[..n],
-    );
+    let verdict = if merging {
+        checks::check_lists(sizes::merging_limits(), lent, left_list, right_list)
+    } else {
+        checks::check_list(sizes::other_limits(), lent, left_list)
+    };
     Case {
-        agrees: is_due(verdict, answer.due),
+        agrees: verdict.map_or_else(Due::from, |_| Due::counts(0, 0, 0)) == answer.due,
         next: answer.next,
-    }
-}
-
-fn verdict_on(
-    merging: bool,
-    original: &[u32],
-    text: &[u32],
-    spans: &[u32],
-    keys: &[u32],
-    left: &[usize],
-    right: &[usize],
-    left_cursors: &[usize],
-    right_cursors: &[usize],
-) -> Verdict {
-    if merging {
-        return checks::check_lists(
-            sizes::merging_limits(),
-            original,
-            text,
-            spans,
-            keys,
-            left,
-            right,
-            left_cursors,
-            right_cursors,
-        );
-    }
-    checks::check_list(
-        sizes::other_limits(),
-        original,
-        text,
-        spans,
-        keys,
-        left,
-        left_cursors,
-    )
-}
-
-fn is_due(verdict: Verdict, due: Due) -> bool {
-    match verdict {
-        Verdict::Accepted => due.number == 0,
-        Verdict::Refused(why) => vectors::is_refusal(why, due),
     }
 }

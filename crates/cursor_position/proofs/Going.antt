@@ -1,5 +1,8 @@
--- Shown: the two loops that put a side's cursors into the room, what each keeps, one turn, and the ways out.
+-- Shown: the loop that puts a side's cursors into the room, what it keeps, one turn, and the ways out; and what goes is what moves with an operation, or goes to the end.
 -- How: the cursors put so far, with those that are still to go, are all that go. The room grows by one at each turn.
+use Rattle.std.specs.Prelude.{Option, Some, None}
+use mathlib.Core.Bool.{Bool, true, false}
+use lib.Dec.{leb}
 use Prim.Native.Nat.{ℕ, ◌+◌, ◌-◌, ◌*◌, ◌/◌, ◌≤◌, ◌<◌}
 use mathlib.Core.Path.{◌≡◌, refl, sym, ◌∙◌, ap}
 use mathlib.Core.List.{List, [], ◌∷◌, ◌++◌, append_assoc, append-nil}
@@ -12,8 +15,7 @@ use Rattle.records.proofs.Cursors.{from_more, from_none, length_put, put_answere
 use Rattle.merging.specs.declared.Shift.{Shift}
 use Rattle.merging.specs.Cursors.{moved_index, moved, behind, ended}
 use Rattle.cursor_position.specs.declared.Progress.{Progress}
-use Rattle.cursor_position.specs.Moves.{left_of, Went}
-use Rattle.merging.proofs.Moving.{moved_on, moved_out, behind_on, behind_out}
+use Rattle.cursor_position.specs.Moves.{gone, stayed, left_of, Went}
 
 -- of the cursors `all`, which go into the room d from j on, `rest` are still to go; n of a side's m cursors are passed
 pub record Going (m : ℕ) (all : List Cursor) (d : List ℕ) (i j : ℕ) (rest : List Cursor) (o : List ℕ) (n k : ℕ) : Type 0 where
@@ -81,60 +83,94 @@ went_none xs d p =
       grows = λ cs d₀ ej ed. rw (append-nil cs) ed;
     }
 
--- the loop that moves cursors
-pub record Moving (t : Shift) (xs : List ℕ) (m : ℕ) (d : List ℕ) (i j : ℕ) (o : List ℕ) (n k : ℕ) : Type 0 where
-  pub going : Going m (moved t (cursors_from xs i (m - i))) d i j (moved t (cursors_from xs n (m - n))) o n k
-  pub stays : behind t (cursors_from xs n (m - n)) ≡ behind t (cursors_from xs i (m - i))
+-- one cursor that goes, and one that does not
+module _ (f : ℕ → Option ℕ) (c : Cursor) (cs : List Cursor) where
+  gone_on : (v : ℕ) → Some v ≡ f c.index → gone f (c ∷ cs) ≡ at_index c v ∷ gone f cs
+  unfolding gone
+  gone_on v e = ap (λ (x : Option ℕ). elim x as (λ _. List Cursor) [ Some i ↦ at_index c i ∷ gone f cs | None ↦ [] ]) (sym e)
 
-pub moving_none : (t : Shift) (xs : List ℕ) (m : ℕ) (d : List ℕ) (i j : ℕ) → Moving t xs m d i j d i j
-moving_none t xs m d i j = record { going = going_none m _ d i j; stays = refl }
+  stayed_on : (v : ℕ) → Some v ≡ f c.index → stayed f (c ∷ cs) ≡ stayed f cs
+  unfolding stayed
+  stayed_on v e = ap (λ (x : Option ℕ). elim x as (λ _. List Cursor) [ Some i ↦ stayed f cs | None ↦ c ∷ cs ]) (sym e)
 
-module _ {t : Shift} {xs : List ℕ} {m : ℕ} {d : List ℕ} {i j : ℕ} {o : List ℕ} {n k : ℕ} (g : Moving t xs m d i j o n k) where
+  gone_out : None ≡ f c.index → gone f (c ∷ cs) ≡ []
+  unfolding gone
+  gone_out e = ap (λ (x : Option ℕ). elim x as (λ _. List Cursor) [ Some i ↦ at_index c i ∷ gone f cs | None ↦ [] ]) (sym e)
+
+  stayed_out : None ≡ f c.index → stayed f (c ∷ cs) ≡ c ∷ cs
+  unfolding stayed
+  stayed_out e = ap (λ (x : Option ℕ). elim x as (λ _. List Cursor) [ Some i ↦ stayed f cs | None ↦ c ∷ cs ]) (sym e)
+
+-- the same cursors, told otherwise
+pub went_as : {xs d o : List ℕ} {as' bs ms ns : List Cursor} {p r : Progress} → Went xs as' bs d o p r → as' ≡ ms → bs ≡ ns → Went xs ms ns d o p r
+went_as w e h = rw (← e, ← h) w
+
+-- the loop that puts cursors
+pub record Moving (f : ℕ → Option ℕ) (xs : List ℕ) (m : ℕ) (d : List ℕ) (i j : ℕ) (o : List ℕ) (n k : ℕ) : Type 0 where
+  pub going : Going m (gone f (cursors_from xs i (m - i))) d i j (gone f (cursors_from xs n (m - n))) o n k
+  pub stays : stayed f (cursors_from xs n (m - n)) ≡ stayed f (cursors_from xs i (m - i))
+
+pub moving_none : (f : ℕ → Option ℕ) (xs : List ℕ) (m : ℕ) (d : List ℕ) (i j : ℕ) → Moving f xs m d i j d i j
+moving_none f xs m d i j = record { going = going_none m _ d i j; stays = refl }
+
+module _ {f : ℕ → Option ℕ} {xs : List ℕ} {m : ℕ} {d : List ℕ} {i j : ℕ} {o : List ℕ} {n k : ℕ} (g : Moving f xs m d i j o n k) where
   pub moving_more : (c e : Cursor) (v : ℕ) (o' : List ℕ) → (j + (m - i)) * 2 ≤ length d → n < m → c ≡ cursor_at xs n
-      → c.index ≤ t.seen + t.length → v ≡ moved_index t c.index → e ≡ at_index c v → o' ≡ put_cursor o k e → Moving t xs m d i j o' (n + 1) (k + 1)
-  moving_more c e v o' l h ec hi ev ee eo =
+      → Some v ≡ f c.index → e ≡ at_index c v → o' ≡ put_cursor o k e → Moving f xs m d i j o' (n + 1) (k + 1)
+  moving_more c e v o' l h ec ev ee eo =
       let cs : List Cursor = cursors_from xs (n + 1) (m - (n + 1)) in
-      let s : moved t (cursors_from xs n (m - n)) ≡ e ∷ moved t cs = rw (from_more xs n m h, ← ec, moved_on t c cs hi, ← ev, ← ee) in
-      let b : behind t (cursors_from xs n (m - n)) ≡ behind t cs = rw (from_more xs n m h, ← ec, behind_on t c cs hi) in
-      record { going = going_more g.going e (moved t cs) o' s l h eo; stays = sym b ∙ g.stays }
+      let s : gone f (cursors_from xs n (m - n)) ≡ e ∷ gone f cs = rw (from_more xs n m h, ← ec, gone_on f c cs v ev, ← ee) in
+      let b : stayed f (cursors_from xs n (m - n)) ≡ stayed f cs = rw (from_more xs n m h, ← ec, stayed_on f c cs v ev) in
+      record { going = going_more g.going e (gone f cs) o' s l h eo; stays = sym b ∙ g.stays }
 
   pub moving_all : m ≡ length xs / 2 → m ≤ n
-      → Went xs (moved t (cursors_from xs i (m - i))) (behind t (cursors_from xs i (m - i))) d o (record { next = i; count = j })
+      → Went xs (gone f (cursors_from xs i (m - i))) (stayed f (cursors_from xs i (m - i))) d o (record { next = i; count = j })
       (record { next = n; count = k })
-  unfolding moved behind
+  unfolding gone stayed
   moving_all em h =
       let z : cursors_from xs n (m - n) ≡ [] = from_none xs n m h in
       going_out g.going xs _ (rw z) em (z ∙ (rw z at g.stays))
 
-  pub moving_out : (c : Cursor) → m ≡ length xs / 2 → n < m → c ≡ cursor_at xs n → t.seen + t.length < c.index
-      → Went xs (moved t (cursors_from xs i (m - i))) (behind t (cursors_from xs i (m - i))) d o (record { next = i; count = j })
+  pub moving_out : (c : Cursor) → m ≡ length xs / 2 → n < m → c ≡ cursor_at xs n → None ≡ f c.index
+      → Went xs (gone f (cursors_from xs i (m - i))) (stayed f (cursors_from xs i (m - i))) d o (record { next = i; count = j })
       (record { next = n; count = k })
-  moving_out c em h ec hi =
+  moving_out c em h ec e =
       let cs : List Cursor = cursors_from xs (n + 1) (m - (n + 1)) in
       let z : cursors_from xs n (m - n) ≡ c ∷ cs = rw (from_more xs n m h, ← ec) in
-      going_out g.going xs _ (rw z (moved_out t c cs hi)) em (z ∙ (sym (behind_out t c cs hi) ∙ (rw z at g.stays)))
+      going_out g.going xs _ (rw z (gone_out f c cs e)) em (z ∙ (sym (stayed_out f c cs e) ∙ (rw z at g.stays)))
 
--- the loop that sends cursors to the end
-pub record Ending (e : ℕ) (xs : List ℕ) (m : ℕ) (d : List ℕ) (i j : ℕ) (o : List ℕ) (n k : ℕ) : Type 0 where
-  pub going : Going m (ended e (cursors_from xs i (m - i))) d i j (ended e (cursors_from xs n (m - n))) o n k
+-- how cursors move with an operation
+abbrev pub moving : Shift → ℕ → Option ℕ
+moving t i = elim (leb i (t.seen + t.length)) [ true ↦ Some (moved_index t i) | false ↦ None ]
 
-pub ending_none : (e : ℕ) (xs : List ℕ) (m : ℕ) (d : List ℕ) (i j : ℕ) → Ending e xs m d i j d i j
-ending_none e xs m d i j = record { going = going_none m _ d i j }
+pub moved_is : (t : Shift) (cs : List Cursor) → gone (moving t) cs ≡ moved t cs
+unfolding gone moved
+moved_is t [] = refl
+moved_is t (c ∷ cs) = go (moved_is t cs) (leb c.index (t.seen + t.length))
+  where
+    go : gone (moving t) cs ≡ moved t cs → (b : Bool)
+        → elim (elim b as (λ _. Option ℕ) [ true ↦ Some (moved_index t c.index) | false ↦ None ]) as (λ _. List Cursor) [ Some i ↦ at_index c i ∷ gone (moving t) cs | None ↦ [] ]
+        ≡ elim b [ true ↦ at_index c (moved_index t c.index) ∷ moved t cs | false ↦ [] ]
+    go h true = ap (λ (r : List Cursor). at_index c (moved_index t c.index) ∷ r) h
+    go h false = refl
 
-module _ {e : ℕ} {xs : List ℕ} {m : ℕ} {d : List ℕ} {i j : ℕ} {o : List ℕ} {n k : ℕ} (g : Ending e xs m d i j o n k) where
-  pub ending_more : (c y : Cursor) (o' : List ℕ) → (j + (m - i)) * 2 ≤ length d → n < m → c ≡ cursor_at xs n → y ≡ at_index c e → o' ≡ put_cursor o k y
-      → Ending e xs m d i j o' (n + 1) (k + 1)
-  unfolding ended
-  ending_more c y o' l h ec ey eo =
-      let s : ended e (cursors_from xs n (m - n)) ≡ y ∷ ended e (cursors_from xs (n + 1) (m - (n + 1))) =
-      rw (from_more xs n m h)
-      (ap (λ (r : Cursor). r ∷ ended e (cursors_from xs (n + 1) (m - (n + 1)))) (sym (ey ∙ ap (λ (r : Cursor). at_index r e) ec)))
-      in
-      record { going = going_more g.going y _ o' s l h eo }
+pub behind_is : (t : Shift) (cs : List Cursor) → stayed (moving t) cs ≡ behind t cs
+unfolding stayed behind
+behind_is t [] = refl
+behind_is t (c ∷ cs) = go (behind_is t cs) (leb c.index (t.seen + t.length))
+  where
+    go : stayed (moving t) cs ≡ behind t cs → (b : Bool)
+        → elim (elim b as (λ _. Option ℕ) [ true ↦ Some (moved_index t c.index) | false ↦ None ]) as (λ _. List Cursor) [ Some i ↦ stayed (moving t) cs | None ↦ c ∷ cs ]
+        ≡ elim b [ true ↦ behind t cs | false ↦ c ∷ cs ]
+    go h true = h
+    go h false = refl
 
-  pub ending_out : m ≡ length xs / 2 → m ≤ n
-      → Went xs (ended e (cursors_from xs i (m - i))) [] d o (record { next = i; count = j }) (record { next = n; count = k })
-  unfolding ended
-  ending_out em h =
-      let z : cursors_from xs n (m - n) ≡ [] = from_none xs n m h in
-      going_out g.going xs [] (rw z) em z
+-- how they go to the end
+pub ended_is : (e : ℕ) (cs : List Cursor) → gone (λ _. Some e) cs ≡ ended e cs
+unfolding gone ended
+ended_is e [] = refl
+ended_is e (c ∷ cs) = ap (λ (r : List Cursor). at_index c e ∷ r) (ended_is e cs)
+
+pub none_stays : (e : ℕ) (cs : List Cursor) → stayed (λ _. Some e) cs ≡ []
+unfolding stayed
+none_stays e [] = refl
+none_stays e (c ∷ cs) = none_stays e cs

@@ -1,9 +1,9 @@
 -- What moving cursors asks and leaves: the cursors of a side that are still to come, and the room that holds the others. Assumes
 -- nothing.
-use Rattle.std.specs.Prelude.{ℕ, ◌+◌, ◌-◌, ◌*◌, ◌/◌, ◌≤◌, ◌≡◌, Bool, false, List, [], ◌∷◌, ◌++◌, leb, length}
+use Rattle.std.specs.Prelude.{ℕ, ◌+◌, ◌-◌, ◌*◌, ◌/◌, ◌≤◌, ◌≡◌, Bool, false, Option, Some, None, List, [], ◌∷◌, ◌++◌, leb, length}
 use Rattle.room.specs.Placed.{answered}
 use Rattle.records.specs.declared.Cursor.{Cursor}
-use Rattle.records.specs.Cursors.{cursors_from, flat_cursors}
+use Rattle.records.specs.Cursors.{at_index, cursors_from, flat_cursors}
 use Rattle.merging.specs.declared.Shift.{Shift}
 use Rattle.numbers.specs.Sizes.{most}
 use Rattle.cursor_position.specs.declared.Progress.{Progress}
@@ -22,6 +22,20 @@ left_of xs p = cursors_from xs p.next (length xs / 2 - p.next)
 unfoldable pub waits : ℕ → List Cursor → Bool
 waits end [] = false
 waits end (c ∷ cs) = leb c.index end
+
+-- an index that is given, or none, is what f says
+abbrev pub Places : {F : Type 0} → (F → ℕ → Option ℕ → Type 0) → F → (ℕ → Option ℕ) → Type 0
+Places post place f = (i : ℕ) (r : Option ℕ) → post place i r → r ≡ f i
+
+-- of a side's cursors those that go, each to the index that f gives it, up to the first that is given none
+unfoldable pub gone : (ℕ → Option ℕ) → List Cursor → List Cursor
+gone f [] = []
+gone f (c ∷ cs) = elim (f c.index) [ Some i ↦ at_index c i ∷ gone f cs | None ↦ [] ]
+
+-- and those that do not
+unfoldable pub stayed : (ℕ → Option ℕ) → List Cursor → List Cursor
+stayed f [] = []
+stayed f (c ∷ cs) = elim (f c.index) [ Some i ↦ stayed f cs | None ↦ c ∷ cs ]
 
 -- "cursors, both counts together": the room has place for all that have not moved
 abbrev pub Spacious : List ℕ → Progress → List ℕ → Type 0

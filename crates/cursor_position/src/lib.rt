@@ -2,22 +2,23 @@
 // moved stand in the room, the others are still to come.
 #![tactic(auto)]
 
-ghost use Rattle.std.specs.Prelude.{◌≡◌, ◌+◌, ◌≤◌, [], length};
+ghost use Rattle.std.specs.Prelude.{◌≡◌, ◌+◌, ◌≤◌, ℕ, Option, [], length};
 ghost use Rattle.merging.specs.Cursors.{moved_index, moved, behind, moved_by, behind_of, ended};
-ghost use Rattle.cursor_position.specs.Moves.{Fits, left_of, waits, Spacious, Went};
+ghost use Rattle.cursor_position.specs.Moves.{Fits, left_of, waits, Places, gone, stayed, Spacious, Went};
 
 use merging::{Op, Shift};
-use operation::{past, smaller};
 use records::{cursor_at, put_cursor};
+use std::cmp::min;
 
 // The new index of a cursor that moves with an operation.
+#[tactic(auto, unfolding(merging::specs::Cursors::moved_index))]
 pub fn moved_index(t: Shift, index: usize) -> usize
     requires { Fits t × (index ≤ t.seen + t.length) }
     ensures { result ≡ moved_index t index }
 {
-    let offset = past(index, t.seen);
+    let offset = index.saturating_sub(t.seen);
     if offset <= t.removed {
-        t.start + smaller(offset, t.shared)
+        t.start + min(offset, t.shared)
     } else {
         t.merged + offset - t.removed
     }
@@ -35,12 +36,34 @@ pub struct Progress {
 pub fn is_awaited(cursors: &[usize], p: Progress, end: usize) -> bool
     ensures { result ≡ waits end (left_of cursors.now p) }
 {
-    let next = p.next;
-    if next < cursors.len() / 2 {
+    p.next < cursors.len() / 2 && cursor_at(cursors, p.next).index <= end
+}
+
+// The cursors of a side from p.next on go into the room from p.count on, each to the index that it is
+// given, up to the first that is given none.
+fn put_on<F: Fn(usize) -> Option<usize>>(
+    cursors: &[usize],
+    p: Progress,
+    out: &mut [usize],
+    place: F,
+) -> Progress
+    requires callable { F.IsAlwaysCallable place }
+    requires spacious { Spacious cursors.now p out.old }
+    ensures { (f : ℕ → Option ℕ) → Places F.post place f → Went cursors.now (gone f (left_of cursors.now p)) (stayed f (left_of cursors.now p)) out.old out.new p result }
+{
+    let mut gone = p;
+    'going: for next in p.next..cursors.len() / 2 {
         let c = cursor_at(cursors, next);
-        return c.index <= end;
+        let Some(index) = place(c.index) else {
+            return gone;
+        };
+        put_cursor(out, gone.count, c.with_index(index));
+        gone = Progress {
+            next: next + 1,
+            count: gone.count + 1,
+        };
     }
-    false
+    gone
 }
 
 // The cursors of a side from p.next on move with an operation, up to its end, into the room from
@@ -49,20 +72,13 @@ pub fn move_cursors(cursors: &[usize], p: Progress, t: Shift, out: &mut [usize])
     requires { Fits t × Spacious cursors.now p out.old }
     ensures { Went cursors.now (moved t (left_of cursors.now p)) (behind t (left_of cursors.now p)) out.old out.new p result }
 {
-    let total = cursors.len() / 2;
-    let end = t.seen + t.length;
-    let mut next = p.next;
-    let mut count = p.count;
-    'moving: while next < total {
-        let c = cursor_at(cursors, next);
-        if end < c.index {
-            return Progress { next, count };
+    put_on(cursors, p, out, |index| {
+        if index <= t.seen + t.length {
+            Some(moved_index(t, index))
+        } else {
+            None
         }
-        put_cursor(out, count, c.with_index(moved_index(t, c.index)));
-        next += 1;
-        count += 1;
-    }
-    Progress { next, count }
+    })
 }
 
 // With a delete no cursor moves.
@@ -71,13 +87,8 @@ pub fn move_with(a: Op, cursors: &[usize], p: Progress, t: Shift, out: &mut [usi
     ensures { Went cursors.now (moved_by a t (left_of cursors.now p)) (behind_of a t (left_of cursors.now p)) out.old out.new p result }
 {
     match a {
-        Op::Delete { order, length } => p,
-        Op::Insert {
-            order,
-            first,
-            count,
-        } => move_cursors(cursors, p, t, out),
-        Op::Retain { order, length } => move_cursors(cursors, p, t, out),
+        Op::Delete { .. } => p,
+        Op::Insert { .. } | Op::Retain { .. } => move_cursors(cursors, p, t, out),
     }
 }
 
@@ -86,14 +97,5 @@ pub fn end_cursors(cursors: &[usize], p: Progress, end: usize, out: &mut [usize]
     requires { Spacious cursors.now p out.old }
     ensures { Went cursors.now (ended end (left_of cursors.now p)) [] out.old out.new p result }
 {
-    let total = cursors.len() / 2;
-    let mut next = p.next;
-    let mut count = p.count;
-    'ending: while next < total {
-        let c = cursor_at(cursors, next);
-        put_cursor(out, count, c.with_index(end));
-        next += 1;
-        count += 1;
-    }
-    Progress { next, count }
+    put_on(cursors, p, out, |_| Some(end))
 }

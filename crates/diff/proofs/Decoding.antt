@@ -1,44 +1,17 @@
--- An item is decoded by its kind, and the items that are left are the next one and the rest.
--- The kind is known by its machine word; each other law is a step of a definition. Assumes nothing.
-use mathlib.Core.Path.{◌≡◌, refl, sym, ap, ◌∙◌}
+-- The items that are left are the next one and the rest, and a text lies within what was lent.
+-- Each law is a step of a definition. Assumes nothing.
+use mathlib.Core.Path.{◌≡◌, refl, sym, ap}
 use mathlib.Core.Bool.{Bool, true, false}
 use mathlib.Core.List.{List, [], ◌∷◌}
-use Prim.Native.Nat.{ℕ, zero, suc, ◌+◌, ◌-◌, ◌/◌, ◌≤◌, ◌<◌, ◌^◌}
+use Prim.Native.Nat.{ℕ, zero, suc, ◌+◌, ◌-◌, ◌/◌, ◌≤◌, ◌<◌}
 use native.Mathlib.Omega.{arith}
 use lib.ListN.{length, take, drop}
 use lib.IntN.{ℤ, pos, negsuc}
 use lib.Dec.{leb}
 use borrow.Author.Tests.{leb-true}
-use mir.Syntax.{w64}
-use lib.Signed.{mag}
-use mir.Val.{to_z, of_z}
-use mir.Facts.{to_z-of_z, to_z_pos}
 use Rattle.room.specs.Choice.{pick}
 use Rattle.diff.specs.declared.diff.Item.TheVariants.{Insert, Neither}
 use Rattle.diff.specs.Items.{numbered, ranged, item_of, item_at, items_from, items_of}
-
--- a number of a slice is what its machine word reads as
-pub reads_back : (z : ℤ) → mag z < 2 ^ 63 → to_z w64 (of_z w64 z) ≡ z
-reads_back z h = to_z-of_z {w = w64} (record { sfits = h })
-
--- a number whose machine word is small is that word
-pub word_is : (z : ℤ) (k : ℕ) → k < 2 ^ 63 → mag z < 2 ^ 63 → of_z w64 z ≡ k → z ≡ pos k
-word_is z k h f e = sym (reads_back z f) ∙ ap (to_z w64) e ∙ to_z_pos w64 h
-
-pub kind_number : {z : ℤ} (a b : ℤ) (lent : ℕ) → z ≡ pos 0 → item_of z a b lent ≡ numbered a
-unfolding item_of
-kind_number a b lent e = rw (e)
-
-pub kind_text : {z : ℤ} (a b : ℤ) (lent : ℕ) → z ≡ pos 1 → item_of z a b lent ≡ ranged a b lent
-unfolding item_of
-kind_text a b lent e = rw (e)
-
-pub kind_other : (z a b : ℤ) (lent : ℕ) → (of_z w64 z ≡ 0 → ⊥) → (of_z w64 z ≡ 1 → ⊥) → item_of z a b lent ≡ Neither
-unfolding item_of
-kind_other (pos zero) a b lent f g = absurd (f refl)
-kind_other (pos (suc zero)) a b lent f g = absurd (g refl)
-kind_other (pos (suc (suc k))) a b lent f g = refl
-kind_other (negsuc k) a b lent f g = refl
 
 -- what is left from a place on begins with the item there
 pub items_more :

@@ -12,27 +12,36 @@ use lib.Dec.{ltb}
 use borrow.Author.Tests.{le-ltb, ltb-false}
 use Rattle.room.specs.Choice.{pick}
 use Rattle.refusal.specs.declared.Refusal.{Refusal}
-use Rattle.verdict.specs.declared.Verdict.{Verdict}
-use Rattle.verdict.specs.declared.Verdict.TheVariants.{Accepted, Refused}
 use Rattle.diff.specs.declared.diff.Item.{Item}
 use Rattle.diff.specs.declared.diff.Item.TheVariants.{Retain, Delete, Insert, Neither}
 use Rattle.diff.specs.Items.{item_at, items_from}
 use Rattle.diff.specs.Replay.{Edit, retain, delete, insert, edit_of, edits_of, replayed, mentioned, left, kept, added}
 use Rattle.diff.specs.Checks.{used, numbers, covers}
 use Rattle.diff.proofs.Decoding.{insert_within}
+use Rattle.std.specs.Prelude.{Ok, Err}
+use Rattle.verdict.specs.Verdicts.{Verdict, accepted, and_then}
 
 -- a choice between a refusal and what follows was accepted: the test failed, and what follows is accepted
-picked_accepted : (t : Bool) (r : Refusal) (v : Verdict) → pick t (Refused r) v ≡ Accepted → (t ≡ false) × (v ≡ Accepted)
+pub picked_accepted : (t : Bool) (r : Refusal) (v : Verdict) → pick t (Err r) v ≡ accepted → (t ≡ false) × (v ≡ accepted)
 picked_accepted true r v e = let z : true ≡ false = cc in (z, cc)
 picked_accepted false r v e = (refl, e)
 
+-- an answer behind a check: a refusal is the check's, and an answer comes where the check accepts
+pub refused_by : {A : Type 0} (v : Verdict) (x : A) (r : Refusal) → and_then v (Ok x) ≡ Err r → v ≡ Err r
+refused_by (Ok u) x r e = cc
+refused_by (Err q) x r e = cc
+
+pub answered_by : {A : Type 0} (v : Verdict) (x y : A) → and_then v (Ok x) ≡ Ok y → (v ≡ accepted) × (x ≡ y)
+answered_by (Ok u) x y e = (refl, cc)
+answered_by (Err q) x y e = (cc, cc)
+
 -- edits that pass for covering leave nothing
-pub covers_none : (len : ℕ) (es : List Edit) → covers len es ≡ Accepted → left len es ≡ 0
+pub covers_none : (len : ℕ) (es : List Edit) → covers len es ≡ accepted → left len es ≡ 0
 unfolding covers
-covers_none len es e = let w = picked_accepted (ltb 0 (left len es)) _ Accepted e in omega (arith, ltb-false 0 (left len es) w.0)
+covers_none len es e = let w = picked_accepted (ltb 0 (left len es)) _ accepted e in omega (arith, ltb-false 0 (left len es) w.0)
 
 -- numbers that never ask too much ask no more than there is
-pub numbers_enough : (at rest : ℕ) (es : List Edit) → numbers at rest es ≡ Accepted → mentioned es ≤ rest
+pub numbers_enough : (at rest : ℕ) (es : List Edit) → numbers at rest es ≡ accepted → mentioned es ≤ rest
 unfolding numbers mentioned
 numbers_enough at rest [] e = omega arith
 numbers_enough at rest (retain n ∷ es) e =
@@ -44,7 +53,7 @@ numbers_enough at rest (delete n ∷ es) e =
 numbers_enough at rest (insert s ∷ es) e = numbers_enough at rest es e
 
 -- and the other way
-pub enough_numbers : (at rest : ℕ) (es : List Edit) → mentioned es ≤ rest → numbers at rest es ≡ Accepted
+pub enough_numbers : (at rest : ℕ) (es : List Edit) → mentioned es ≤ rest → numbers at rest es ≡ accepted
 unfolding numbers mentioned
 enough_numbers at rest [] h = refl
 enough_numbers at rest (retain n ∷ es) h =

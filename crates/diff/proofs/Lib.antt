@@ -1,4 +1,3 @@
-pub mod Signs
 pub mod Decoding
 pub mod Turns
 pub mod Laws

@@ -1,26 +1,25 @@
 -- The loops over a diff's items: for each the invariant, and what one more item does to it.
 -- What is left of the items gives the whole answer, from where the loop stands. Assumes nothing.
-use mathlib.Core.Path.{◌≡◌, sym, ap, ◌∙◌}
-use mathlib.Core.Bool.{Bool, true, false}
+use mathlib.Core.Path.{◌≡◌, refl, sym, ap, ◌∙◌}
+use mathlib.Core.Logic.{◌⊎◌, inl, inr}
 use mathlib.Core.List.{List, [], ◌∷◌}
 use Prim.Native.Nat.{ℕ, ◌+◌, ◌-◌, ◌/◌, ◌≤◌, ◌<◌, zero-le}
 use native.Mathlib.Nat.{sub-zero}
 use native.Mathlib.Omega.{arith}
 use lib.ListN.{length}
 use lib.IntN.{ℤ}
-use lib.Dec.{ltb}
 use borrow.Author.Tests.{lt-ltb, le-ltb}
-use Rattle.refusal.specs.declared.Refusal.TheVariants.{Record, Short}
-use Rattle.verdict.specs.declared.Verdict.TheVariants.{Accepted, Refused}
+use Rattle.refusal.specs.declared.Refusal.TheVariants.{Record, Short, Size}
 use Rattle.diff.specs.declared.diff.Item.{Item}
 use Rattle.diff.specs.declared.diff.Item.TheVariants.{Retain, Delete, Insert, Neither}
-use Rattle.diff.specs.declared.diff.Surveyed.TheVariants.{TooLong, Used, Stopped as Broken}
-use Rattle.diff.specs.declared.diff.Walked.TheVariants.{Reached, Stopped}
 use Rattle.diff.specs.Items.{item_at, items_from, items_of}
 use Rattle.diff.specs.Replay.{Edit, retain, delete, insert, edit_of, edits_of, mentioned, kept}
 use Rattle.diff.specs.Checks.{text_most, used, records, numbers}
 use Rattle.diff.specs.Passes.{surveyed, walked}
 use Rattle.diff.proofs.Decoding.{items_more, items_none}
+use Rattle.std.specs.Prelude.{Ok, Err}
+use Rattle.verdict.specs.Verdicts.{Verdict, accepted, and_then}
+use Rattle.std.specs.Result.{result_and}
 
 -- the items from a place on
 abbrev pub rest : List ℤ → ℕ → ℕ → List Item
@@ -36,88 +35,61 @@ pub rest_all : (xs : List ℤ) (lent : ℕ) → rest xs lent 0 ≡ items_of xs l
 unfolding items_of
 rest_all xs lent = rw (sub-zero (length xs / 3))
 
--- the sum of the texts, of so much in all
-pub record Summing (xs : List ℤ) (lent total i sum : ℕ) : Type 0 where
+-- the look at all items: the sum of the texts, and the first item that is neither
+pub record Surveying (xs : List ℤ) (lent i sum : ℕ) (checked : Verdict) : Type 0 where
   pub below : sum ≤ text_most
-  pub same : sum + used (rest xs lent i) ≡ total
+  pub same : sum + used (rest xs lent i) ≡ used (items_of xs lent)
+  pub good : and_then checked (records i (rest xs lent i)) ≡ records 0 (items_of xs lent)
 
-module _ {xs : List ℤ} {lent total i sum : ℕ} (h : Summing xs lent total i sum) where
-  pub sum_ends : length xs / 3 ≤ i → sum ≡ total
-  unfolding used
-  sum_ends l = omega (arith, h.same, ap used (rest_none xs lent i l))
-
-  module _ (l : i < length xs / 3) where
-    pub sum_retain : {n : ℕ} → item_at xs lent i ≡ Retain n → Summing xs lent total (i + 1) sum
-    unfolding used
-    sum_retain e = record { below = h.below; same = omega (arith, h.same, ap used (rest_at xs lent i l e)) }
-
-    pub sum_delete : {n : ℕ} → item_at xs lent i ≡ Delete n → Summing xs lent total (i + 1) sum
-    unfolding used
-    sum_delete e = record { below = h.below; same = omega (arith, h.same, ap used (rest_at xs lent i l e)) }
-
-    pub sum_neither : item_at xs lent i ≡ Neither → Summing xs lent total (i + 1) sum
-    unfolding used
-    sum_neither e = record { below = h.below; same = omega (arith, h.same, ap used (rest_at xs lent i l e)) }
-
-    pub sum_insert : {s n : ℕ} → item_at xs lent i ≡ Insert s n → n ≤ text_most - sum → Summing xs lent total (i + 1) (sum + n)
-    unfolding used
-    sum_insert e f = record { below = omega (arith, h.below); same = omega (arith, h.same, ap used (rest_at xs lent i l e)) }
-
-    pub sum_passes : {s n : ℕ} → item_at xs lent i ≡ Insert s n → text_most - sum < n → text_most < total
-    unfolding used
-    sum_passes e f = omega (arith, h.same, ap used (rest_at xs lent i l e))
-
--- the look at all items: the sum of the texts, and no item passed that is neither
-pub record Surveying (xs : List ℤ) (lent i sum : ℕ) : Type 0 where
-  pub summing : Summing xs lent (used (items_of xs lent)) i sum
-  pub good : records i (rest xs lent i) ≡ records 0 (items_of xs lent)
-
-pub survey_begins : (xs : List ℤ) (lent : ℕ) → Surveying xs lent 0 0
+pub survey_begins : (xs : List ℤ) (lent : ℕ) → Surveying xs lent 0 0 accepted
 survey_begins xs lent = record {
-  summing = record { below = zero-le; same = omega (arith, ap used (rest_all xs lent)) };
+  below = zero-le;
+  same = omega (arith, ap used (rest_all xs lent));
   good = ap (records 0) (rest_all xs lent);
 }
 
-module _ {xs : List ℤ} {lent i sum : ℕ} (h : Surveying xs lent i sum) where
-  pub survey_ends : length xs / 3 ≤ i → Used sum ≡ surveyed (items_of xs lent)
-  unfolding surveyed records
+-- a refusal hides those after it, and an answer stands behind both or neither
+twice : (v : Verdict) (i : ℕ) (w : Verdict) → and_then (result_and v (Err (Record i))) w ≡ and_then v (Err (Record i))
+twice (Ok u) i w = refl
+twice (Err r) i w = refl
+
+answer : (v : Verdict) (n : ℕ) → result_and v (Ok n) ≡ and_then (and_then v accepted) (Ok n)
+answer (Ok u) n = refl
+answer (Err r) n = refl
+
+module _ {xs : List ℤ} {lent i sum : ℕ} {checked : Verdict} (h : Surveying xs lent i sum checked) where
+  pub survey_ends : length xs / 3 ≤ i → Ok (result_and checked (Ok sum)) ≡ surveyed (items_of xs lent)
+  unfolding surveyed records used
   survey_ends l =
-      let e : sum ≡ used (items_of xs lent) = sum_ends h.summing l in
-      let r : Accepted ≡ records 0 (items_of xs lent) = ap (records i) (sym (rest_none xs lent i l)) ∙ h.good in
-      rw (← e, le-ltb _ _ h.summing.below, ← r)
+      let n = rest_none xs lent i l in
+      let e : sum ≡ used (items_of xs lent) = omega (arith, h.same, ap used n) in
+      let r : and_then checked accepted ≡ records 0 (items_of xs lent) = ap (λ (is : List Item). and_then checked (records i is)) (sym n) ∙ h.good in
+      rw (← e, le-ltb _ _ h.below, ← r, answer checked sum)
 
   module _ (l : i < length xs / 3) where
-    pub survey_retain : {n : ℕ} → item_at xs lent i ≡ Retain n → Surveying xs lent (i + 1) sum
-    unfolding records
-    survey_retain e = record { summing = sum_retain h.summing l e; good = sym (ap (records i) (rest_at xs lent i l e)) ∙ h.good }
+    pub survey_number : ((n : ℕ) × (item_at xs lent i ≡ Retain n)) ⊎ ((n : ℕ) × (item_at xs lent i ≡ Delete n)) → Surveying xs lent (i + 1) sum checked
+    unfolding records used
+    survey_number (inl (n, e)) = let m = rest_at xs lent i l e in
+        record { below = h.below; same = omega (arith, h.same, ap used m); good = rw m at h.good }
+    survey_number (inr (n, e)) = let m = rest_at xs lent i l e in
+        record { below = h.below; same = omega (arith, h.same, ap used m); good = rw m at h.good }
 
-    pub survey_delete : {n : ℕ} → item_at xs lent i ≡ Delete n → Surveying xs lent (i + 1) sum
-    unfolding records
-    survey_delete e = record { summing = sum_delete h.summing l e; good = sym (ap (records i) (rest_at xs lent i l e)) ∙ h.good }
+    pub survey_insert : {s n : ℕ} → item_at xs lent i ≡ Insert s n → n ≤ text_most - sum → Surveying xs lent (i + 1) (sum + n) checked
+    unfolding records used
+    survey_insert e f = let m = rest_at xs lent i l e in
+        record { below = omega (arith, h.below); same = omega (arith, h.same, ap used m); good = rw m at h.good }
 
-    pub survey_insert : {s n : ℕ} → item_at xs lent i ≡ Insert s n → n ≤ text_most - sum → Surveying xs lent (i + 1) (sum + n)
-    unfolding records
-    survey_insert e f = record { summing = sum_insert h.summing l e f; good = sym (ap (records i) (rest_at xs lent i l e)) ∙ h.good }
+    -- the texts past an item that is neither are summed all the same
+    pub survey_neither : item_at xs lent i ≡ Neither → Surveying xs lent (i + 1) sum (result_and checked (Err (Record i)))
+    unfolding records used
+    survey_neither e = let m = rest_at xs lent i l e in
+        record { below = h.below; same = omega (arith, h.same, ap used m); good = twice checked i _ ∙ (rw m at h.good) }
 
-    pub survey_long : {s n : ℕ} → item_at xs lent i ≡ Insert s n → text_most - sum < n → TooLong ≡ surveyed (items_of xs lent)
-    unfolding surveyed
-    survey_long e f = rw (lt-ltb _ _ (sum_passes h.summing l e f))
-
-    module _ (e : item_at xs lent i ≡ Neither) where
-      -- the texts past an item that is neither are summed all the same
-      total : sum + used (rest xs lent (i + 1)) ≡ used (items_of xs lent)
-      total = (sum_neither h.summing l e).same
-
-      pub survey_passes : {t : Bool} → t ≡ ltb text_most (sum + used (rest xs lent (i + 1))) → t ≡ true → TooLong ≡ surveyed (items_of xs lent)
-      unfolding surveyed
-      survey_passes d p = rw (← total, ← d, p)
-
-      pub survey-broken :
-          {t : Bool} → t ≡ ltb text_most (sum + used (rest xs lent (i + 1))) → t ≡ false → Broken (Record i) ≡ surveyed (items_of xs lent)
-      unfolding surveyed records
-      survey-broken d p =
-          let r : Refused (Record i) ≡ records 0 (items_of xs lent) = sym (ap (records i) (rest_at xs lent i l e)) ∙ h.good in
-          rw (← total, ← d, p, ← r)
+    pub survey_long : {s n : ℕ} → item_at xs lent i ≡ Insert s n → text_most - sum < n → Err Size ≡ surveyed (items_of xs lent)
+    unfolding surveyed used
+    survey_long e f =
+        let w : text_most < used (items_of xs lent) = omega (arith, h.same, ap used (rest_at xs lent i l e)) in
+        rw (lt-ltb _ _ w)
 
 -- the edits from a place on
 abbrev pub rest_edits : List ℤ → List ℕ → ℕ → List Edit
@@ -151,11 +123,11 @@ unfolding edits_of
 edits_none xs text i l = rw (rest_none xs (length text) i l)
 
 module _ {xs : List ℤ} {text : List ℕ} {len i at keeps : ℕ} (h : Walking xs text len i at keeps) where
-  pub walk_ends : length xs / 3 ≤ i → Reached at keeps ≡ walked len (edits_of text (items_of xs (length text)))
+  pub walk_ends : length xs / 3 ≤ i → Ok (record { position = at; kept = keeps }) ≡ walked len (edits_of text (items_of xs (length text)))
   unfolding walked numbers mentioned kept
   walk_ends l =
       let n = edits_none xs text i l in
-      let a : Accepted ≡ numbers 0 len (edits_of text (items_of xs (length text))) = ap (numbers at (len - at)) (sym n) ∙ h.asked in
+      let a : accepted ≡ numbers 0 len (edits_of text (items_of xs (length text))) = ap (numbers at (len - at)) (sym n) ∙ h.asked in
       let p : at ≡ mentioned (edits_of text (items_of xs (length text))) = omega (arith, h.spoken, ap mentioned n) in
       let k : keeps ≡ kept (edits_of text (items_of xs (length text))) = omega (arith, h.keeping, ap kept n) in
       rw (← a, ← p, ← k)
@@ -172,13 +144,10 @@ module _ {xs : List ℤ} {text : List ℕ} {len i at keeps : ℕ} (h : Walking x
       keeping = omega (arith, h.keeping, ap kept n);
     }
 
-    pub walk_insert : {s n : ℕ} → item_at xs (length text) i ≡ Insert s n → Walking xs text len (i + 1) at keeps
+    pub walk_other : ((s n : ℕ) × (item_at xs (length text) i ≡ Insert s n)) ⊎ (item_at xs (length text) i ≡ Neither) → Walking xs text len (i + 1) at keeps
     unfolding edit_of
-    walk_insert e = walk_passes (edits-at xs text i l e)
-
-    pub walk_neither : item_at xs (length text) i ≡ Neither → Walking xs text len (i + 1) at keeps
-    unfolding edit_of
-    walk_neither e = walk_passes (edits-at xs text i l e)
+    walk_other (inl (s, n, e)) = walk_passes (edits-at xs text i l e)
+    walk_other (inr e) = walk_passes (edits-at xs text i l e)
 
     pub walk_retain : {n : ℕ} → item_at xs (length text) i ≡ Retain n → n ≤ len - at → Walking xs text len (i + 1) (at + n) (keeps + n)
     unfolding edit_of numbers mentioned kept
@@ -207,19 +176,19 @@ module _ {xs : List ℤ} {text : List ℕ} {len i at keeps : ℕ} (h : Walking x
         }
 
     pub walk_short_retain : {n : ℕ} → item_at xs (length text) i ≡ Retain n → len - at < n
-        → Stopped (Short at n (len - at)) ≡ walked len (edits_of text (items_of xs (length text)))
+        → Err (Short at n (len - at)) ≡ walked len (edits_of text (items_of xs (length text)))
     unfolding edit_of numbers walked
     walk_short_retain {n} e f =
         let d : rest_edits xs text i ≡ retain n ∷ rest_edits xs text (i + 1) = edits-at xs text i l e in
-        let a : Refused (Short at n (len - at)) ≡ numbers 0 len (edits_of text (items_of xs (length text))) = sym
+        let a : Err (Short at n (len - at)) ≡ numbers 0 len (edits_of text (items_of xs (length text))) = sym
         (rw (lt-ltb _ _ f) at (ap (numbers at (len - at)) d)) ∙ h.asked in
         rw (← a)
 
     pub walk_short_delete : {n : ℕ} → item_at xs (length text) i ≡ Delete n → len - at < n
-        → Stopped (Short at n (len - at)) ≡ walked len (edits_of text (items_of xs (length text)))
+        → Err (Short at n (len - at)) ≡ walked len (edits_of text (items_of xs (length text)))
     unfolding edit_of numbers walked
     walk_short_delete {n} e f =
         let d : rest_edits xs text i ≡ delete n ∷ rest_edits xs text (i + 1) = edits-at xs text i l e in
-        let a : Refused (Short at n (len - at)) ≡ numbers 0 len (edits_of text (items_of xs (length text))) = sym
+        let a : Err (Short at n (len - at)) ≡ numbers 0 len (edits_of text (items_of xs (length text))) = sym
         (rw (lt-ltb _ _ f) at (ap (numbers at (len - at)) d)) ∙ h.asked in
         rw (← a)

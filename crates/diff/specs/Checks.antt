@@ -1,19 +1,17 @@
 -- The checks of a diff, each over the whole of what it looks at.
 -- Assumes nothing.
-use Rattle.std.specs.Prelude.{ℕ, ◌+◌, ◌-◌, Bool, List, [], ◌∷◌, length, ltb}
+use Rattle.std.specs.Prelude.{ℕ, ◌+◌, ◌-◌, Bool, List, [], ◌∷◌, length, ltb, Err}
 use Rattle.room.specs.Choice.{pick}
 use Rattle.refusal.specs.declared.Refusal.{Refusal}
 use Rattle.refusal.specs.declared.Refusal.TheVariants.{Record, Size, Short, Room, Unmentioned}
-use Rattle.verdict.specs.declared.Verdict.{Verdict}
-use Rattle.verdict.specs.declared.Verdict.TheVariants.{Accepted, Refused}
-use Rattle.verdict.specs.Verdicts.{and_then}
+use Rattle.verdict.specs.Verdicts.{and_then, Verdict, accepted}
 use Rattle.diff.specs.declared.diff.Item.{Item}
 use Rattle.diff.specs.declared.diff.Item.TheVariants.{Retain, Delete, Insert, Neither}
 use Rattle.diff.specs.Replay.{Edit, retain, delete, insert, left}
 
 -- "Given exactly when": refused by a test
 abbrev pub refuse_if : Bool → Refusal → Verdict
-refuse_if t r = pick t (Refused r) Accepted
+refuse_if t r = pick t (Err r) accepted
 
 -- "Sums are exact; parts outside what was lent add no text": the code points that the texts use
 unfoldable pub used : List Item → ℕ
@@ -44,17 +42,17 @@ sizes original is lent =
 
 -- 1: "unknown kind"; "token or range outside what was lent"; the "index of first such operation or item", counted from the one given
 unfoldable pub records : ℕ → List Item → Verdict
-records i [] = Accepted
+records i [] = accepted
 records i (Retain n ∷ is) = records (i + 1) is
 records i (Delete n ∷ is) = records (i + 1) is
 records i (Insert s n ∷ is) = records (i + 1) is
-records i (Neither ∷ is) = Refused (Record i)
+records i (Neither ∷ is) = Err (Record i)
 
 -- 6: "a diff number asks more than is left of the original", at a position with so much left of it: "position, requested, available"
 unfoldable pub numbers : ℕ → ℕ → List Edit → Verdict
-numbers at rest [] = Accepted
-numbers at rest (retain n ∷ es) = pick (ltb rest n) (Refused (Short at n rest)) (numbers (at + n) (rest - n) es)
-numbers at rest (delete n ∷ es) = pick (ltb rest n) (Refused (Short at n rest)) (numbers (at + n) (rest - n) es)
+numbers at rest [] = accepted
+numbers at rest (retain n ∷ es) = pick (ltb rest n) (Err (Short at n rest)) (numbers (at + n) (rest - n) es)
+numbers at rest (delete n ∷ es) = pick (ltb rest n) (Err (Short at n rest)) (numbers (at + n) (rest - n) es)
 numbers at rest (insert s ∷ es) = numbers at rest es
 
 -- 9: "a covering replay ends with original text unmentioned": "code points left"

@@ -1,16 +1,17 @@
 // A diff is lent as a flat slice of 64-bit numbers, three to an item: kind, number or start, length.
 // Kind 0 is a number, whose sign chooses retain or delete; kind 1 a text, a range of the lent text.
-ghost use Rattle.std.specs.Prelude.{◌≡◌, true, ◌+◌, ◌*◌, ◌-◌, ◌/◌, ◌≤◌, length, nat_abs, ltb};
-ghost use Rattle.verdict.specs.Points.{points_from, points_verdict};
-ghost use Rattle.diff.specs.Items.{numbered, ranged, item_at, items_from, items_of};
+// Kept so: the C interface lends items as numbers.
+ghost use Rattle.std.specs.Prelude.{◌≡◌, ◌+◌, ◌-◌, ◌*◌, ◌/◌, ◌<◌, ◌≤◌, length, IfOk, IfErr};
+ghost use Rattle.refusal.specs.declared.Refusal.TheVariants.{Short};
+ghost use Rattle.diff.specs.Items.{numbered, ranged, item_at, items_of};
 ghost use Rattle.diff.specs.Replay.{edits_of};
-ghost use Rattle.diff.specs.Checks.{used, text_most};
-ghost use Rattle.diff.specs.Passes.{pointed, surveyed, walked};
+ghost use Rattle.diff.specs.Passes.{surveyed, walked};
 
 use refusal::Refusal;
 
 // An item read out of the slice. Neither: of unknown kind, or a range outside what was lent.
-#[derive(Clone, Copy)]
+// Kept so: an Option of the three other cases is no plainer, since each match would name it at every case.
+#[derive(Clone, Copy, Debug, PartialEq, Eq)]
 pub enum Item {
     Retain(u64),
     Delete(u64),
@@ -18,205 +19,141 @@ pub enum Item {
     Neither,
 }
 
-// The size of a number, that of the smallest included: no negation of it is made.
-pub fn magnitude(number: i64) -> u64
-    ensures { result ≡ nat_abs number }
-{
-    if number < 0 {
-        let above = number + 1;
-        (-above) as u64 + 1
-    } else {
-        number as u64
-    }
-}
-
 // What a number asks for.
+#[tactic(auto, unfolding(crate::specs::Items::numbered))]
 pub fn number_item(number: i64) -> Item
     ensures { result ≡ numbered number }
 {
     if number < 0 {
-        Item::Delete(magnitude(number))
+        Item::Delete(number.unsigned_abs())
     } else {
-        Item::Retain(magnitude(number))
+        Item::Retain(number.unsigned_abs())
     }
 }
 
 // What a text asks for, of so many code points lent.
+#[tactic(auto, unfolding(crate::specs::Items::ranged))]
 pub fn text_item(start: i64, length: i64, lent: usize) -> Item
     ensures { result ≡ ranged start length lent }
 {
-    if start < 0 {
-        return Item::Neither;
-    }
-    if length < 0 {
-        return Item::Neither;
-    }
-    let first = start as usize;
-    let count = length as usize;
-    if lent < first + count {
-        return Item::Neither;
-    }
-    Item::Insert {
-        start: first,
-        length: count,
+    match (usize::try_from(start), usize::try_from(length)) {
+        (Ok(start), Ok(length)) if start + length <= lent => Item::Insert { start, length },
+        _ => Item::Neither,
     }
 }
 
 // The item at a place.
+#[tactic(auto, unfolding(crate::specs::Items::item_at, crate::specs::Items::item_of))]
 pub fn item_at(items: &[i64], lent: usize, i: usize) -> Item
     requires { i * 3 + 3 ≤ length items.now }
     ensures { result ≡ item_at items.now lent i }
 {
     let b = i * 3;
-    let kind = items[b];
-    if kind == 0 {
-        return number_item(items[b + 1]);
+    match items[b] {
+        0 => number_item(items[b + 1]),
+        1 => text_item(items[b + 1], items[b + 2], lent),
+        _ => Item::Neither,
     }
-    if kind == 1 {
-        return text_item(items[b + 1], items[b + 2], lent);
-    }
-    Item::Neither
 }
 
-// A place found, or none.
+// The items of a diff as they are lent: their numbers, and the text that they use.
 #[derive(Clone, Copy)]
-pub enum Bad {
-    At(usize),
-    Nowhere,
+pub struct Items<'a> {
+    pub numbers: &'a [i64],
+    pub text: &'a [u32],
 }
 
-// Where a text has its first number that is no code point.
-pub fn bad_point(text: &[u32]) -> Bad
-    ensures { pointed result ≡ points_from text.now 0 }
+// Where the numbers lead over an original: the position, and how much is retained up to there.
+#[derive(Clone, Copy, Debug, PartialEq, Eq)]
+pub struct Reached {
+    pub position: usize,
+    pub kept: usize,
+}
+
+// How much a number asks of an original at a position; refusal 6 where that is more than is left.
+fn asked(position: usize, len: usize, n: u64) -> Result<usize, Refusal>
+    requires { position ≤ len }
+    ensures enough { IfOk result (λ m. (m ≡ n) × (n ≤ len - position)) }
+    ensures short { IfErr result (λ r. (r ≡ Short position n (len - position)) × (len - position < n)) }
 {
-    let first = numbers::scalars_of(text);
-    if first < text.len() {
-        return Bad::At(first);
+    let available = len - position;
+    if (available as u64) < n {
+        return Err(Refusal::Short {
+            position,
+            requested: n,
+            available,
+        });
     }
-    Bad::Nowhere
+    Ok(n as usize)
 }
 
-// The same of an original and then of the text of a diff.
-pub fn bad_points(original: &[u32], text: &[u32]) -> Bad
-    ensures { pointed result ≡ points_verdict original.now text.now }
-{
-    match bad_point(original) {
-        Bad::At(index) => Bad::At(index),
-        Bad::Nowhere => bad_point(text),
+impl<'a> Items<'a> {
+    pub fn new(numbers: &'a [i64], text: &'a [u32]) -> Items<'a>
+        ensures { (result.numbers ≡ numbers.entry) × (result.text ≡ text.entry) }
+    {
+        Items { numbers, text }
     }
-}
 
-// Whether the texts from an item on use more than the limit, with so much used before it.
-fn passes(items: &[i64], lent: usize, from: usize, before: usize) -> bool
-    requires { before ≤ text_most }
-    ensures { result ≡ ltb text_most (before + used (items_from items.now lent from (length items.now / 3 - from))) }
-{
-    let count = items.len() / 3;
-    let mut i = from;
-    let mut sum = before;
-    'items: while i < count {
-        let next = i + 1;
-        match item_at(items, lent, i) {
-            Item::Insert { start: _, length } => {
-                if 131070 - sum < length {
-                    return true;
-                }
-                sum += length;
-                i = next;
-            }
-            Item::Retain(_) => i = next,
-            Item::Delete(_) => i = next,
-            Item::Neither => i = next,
-        }
+    // How many there are.
+    pub fn count(self) -> usize
+        ensures { result ≡ length self.entry.numbers.now / 3 }
+    {
+        self.numbers.len() / 3
     }
-    false
-}
 
-// What a look at all items finds: texts too long together, the first item that is neither number nor text, or how much text is used.
-#[derive(Clone, Copy)]
-pub enum Surveyed {
-    TooLong,
-    Stopped(Refusal),
-    Used(usize),
-}
+    // The one at a place.
+    pub fn at(self, i: usize) -> Item
+        requires { i < length self.numbers.now / 3 }
+        ensures { result ≡ item_at self.entry.numbers.now (length self.entry.text.now) i }
+    {
+        item_at(self.numbers, self.text.len(), i)
+    }
 
-pub fn survey(items: &[i64], lent: usize) -> Surveyed
-    ensures { result ≡ surveyed (items_of items.now lent) }
-{
-    let count = items.len() / 3;
-    let mut i: usize = 0;
-    let mut sum: usize = 0;
-    'items: while i < count {
-        let next = i + 1;
-        match item_at(items, lent, i) {
-            Item::Insert { start: _, length } => {
-                if 131070 - sum < length {
-                    return Surveyed::TooLong;
+    // Refusal 3 by what the texts use, and within it refusal 1, the first item that is neither number nor text, or how much text is used.
+    pub fn survey(self) -> Result<Result<usize, Refusal>, Refusal>
+        ensures { result ≡ surveyed (items_of self.entry.numbers.now (length self.entry.text.now)) }
+    {
+        let mut sum: usize = 0;
+        let mut checked = Ok(());
+        'items: for i in 0..self.count() {
+            match self.at(i) {
+                Item::Insert { start: _, length } => {
+                    if 131070 - sum < length {
+                        return Err(Refusal::Size);
+                    }
+                    sum += length;
                 }
-                sum += length;
-                i = next;
-            }
-            Item::Retain(_) => i = next,
-            Item::Delete(_) => i = next,
-            Item::Neither => {
-                if passes(items, lent, next, sum) {
-                    return Surveyed::TooLong;
-                }
-                return Surveyed::Stopped(Refusal::Record { index: i });
+                Item::Retain(_) | Item::Delete(_) => {}
+                Item::Neither => checked = checked.and(Err(Refusal::Record { index: i })),
             }
         }
+        Ok(checked.and(Ok(sum)))
     }
-    Surveyed::Used(sum)
-}
 
-// Where the numbers lead over an original: the position and how much is retained, or the first number that asks too much.
-#[derive(Clone, Copy)]
-pub enum Walked {
-    Reached { position: usize, kept: usize },
-    Stopped(Refusal),
-}
-
-pub fn walk(items: &[i64], text: &[u32], len: usize) -> Walked
-    ensures { result ≡ walked len (edits_of text.now (items_of items.now (length text.now))) }
-{
-    let lent = text.len();
-    let count = items.len() / 3;
-    let mut i: usize = 0;
-    let mut position: usize = 0;
-    let mut kept: usize = 0;
-    'items: while i < count {
-        let next = i + 1;
-        let available = len - position;
-        match item_at(items, lent, i) {
-            Item::Retain(n) => {
-                if (available as u64) < n {
-                    return Walked::Stopped(Refusal::Short {
-                        position,
-                        requested: n,
-                        available,
-                    });
+    // Where the numbers lead over an original of so many code points; refusal 6, the first that asks too much.
+    pub fn walk(self, len: usize) -> Result<Reached, Refusal>
+        ensures { result ≡ walked len (edits_of self.entry.text.now (items_of self.entry.numbers.now (length self.entry.text.now))) }
+    {
+        let mut position: usize = 0;
+        let mut kept: usize = 0;
+        'items: for i in 0..self.count() {
+            match self.at(i) {
+                Item::Retain(n) => {
+                    let n = asked(position, len, n)?;
+                    position += n;
+                    kept += n;
                 }
-                position += n as usize;
-                kept += n as usize;
-                i = next;
-            }
-            Item::Delete(n) => {
-                if (available as u64) < n {
-                    return Walked::Stopped(Refusal::Short {
-                        position,
-                        requested: n,
-                        available,
-                    });
+                Item::Delete(n) => {
+                    let n = asked(position, len, n)?;
+                    position += n;
                 }
-                position += n as usize;
-                i = next;
+                Item::Insert {
+                    start: _,
+                    length: _,
+                }
+                | Item::Neither => {}
             }
-            Item::Insert {
-                start: _,
-                length: _,
-            } => i = next,
-            Item::Neither => i = next,
         }
+        Ok(Reached { position, kept })
     }
-    Walked::Reached { position, kept }
 }

@@ -124,6 +124,10 @@ value_bits b h = elim (dec_lt b 48) [
   ]
 ]
 
+-- the same of a byte's number, as the code has its bits
+pub bits_digit : (b x : ℕ) → x ≡ b → value_of b < 16 → bit_and x 15 + 9 * (x / 64) ≡ value_of b
+bits_digit b x e h = rw (e, and_mask b 4) (value_bits b h)
+
 -- from 0 to f, the bytes between the digits and the letters are those with more than 24
 pub value_between : (b : ℕ) → 48 ≤ b → b ≤ 102 → 24 < (b + 31) % 64 → value_of b ≡ 16
 value_between b g h e = value_gap b (omega arith) (omega arith)

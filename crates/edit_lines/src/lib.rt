@@ -5,18 +5,9 @@ ghost use Rattle.std.specs.Prelude.{◌≡◌, ◌+◌, ◌*◌, ◌≤◌, ◌<
 ghost use Rattle.edit_format.specs.Tests.{begins};
 ghost use Rattle.edit_lines.specs.Scan.{cap, scan, closed_at, line_at, ended_at, point_at, Stands, Closes};
 
-use numbers::bytes::wide;
-
 // A number and the place after it. A number above every size is held as CAP.
 #[derive(Clone, Copy)]
-pub enum Number {
-    Value { value: u32, next: usize },
-    Bad,
-}
-
-// A number that was judged, and the place after it.
-#[derive(Clone, Copy)]
-pub struct Judged {
+pub struct Number {
     pub value: u32,
     pub next: usize,
 }
@@ -26,46 +17,43 @@ pub struct Judged {
 pub enum Point {
     More { point: u32, next: usize },
     Last { point: u32, next: usize },
-    Bad,
 }
 
 pub const CAP: u32 = 2000000;
 
 // One digit more.
+#[tactic(auto, using(crate::proofs::Leaves::product_fits))]
 fn capped(n: u32, base: u32, digit: u32) -> u32
     requires { (n ≤ 2000000) × (base ≤ 16) × (digit ≤ 16) }
     ensures { result ≡ cap (n * base + digit) }
 {
-    let m = n * base + digit;
-    if m < CAP { m } else { CAP }
+    std::cmp::min(n * base + digit, CAP)
 }
 
 // A number in a base of 10 or 16, with no leading zero.
-fn number_at(bytes: &[u8], at: usize, base: u32) -> Number
+#[tactic(auto, using(crate::proofs::Leaves::scan_end, crate::proofs::Leaves::scan_none, crate::proofs::Leaves::scan_on, crate::proofs::Leaves::more_end, crate::proofs::Leaves::more_none, crate::proofs::Leaves::more_zero, crate::proofs::Leaves::more_on))]
+fn number_at(bytes: &[u8], at: usize, base: u32) -> Option<Number>
     requires { (at ≤ length bytes.now) × (1 < base) × (base ≤ 16) }
     ensures { result ≡ scan base at (drop at bytes.now) }
 {
-    if bytes.len() <= at {
-        return Number::Bad;
+    let mut n = edit_format::value(*bytes.get(at)?);
+    if base <= n {
+        return None;
     }
-    let first = edit_format::value(bytes[at]);
-    if base <= first {
-        return Number::Bad;
-    }
-    let mut n = first;
-    let mut i = at + 1;
-    'digits: while i < bytes.len() {
+    'digits: for i in at + 1..bytes.len() {
         let digit = edit_format::value(bytes[i]);
         if base <= digit {
-            return Number::Value { value: n, next: i };
+            return Some(Number { value: n, next: i });
         }
         if n == 0 {
-            return Number::Bad;
+            return None;
         }
         n = capped(n, base, digit);
-        i += 1;
     }
-    Number::Value { value: n, next: i }
+    Some(Number {
+        value: n,
+        next: bytes.len(),
+    })
 }
 
 // Whether a key stands at a place.
@@ -73,133 +61,110 @@ pub fn has_key(bytes: &[u8], at: usize, key: &[u8]) -> bool
     requires { at ≤ length bytes.now }
     ensures { result ≡ begins key.now (drop at bytes.now) }
 {
-    if bytes.len() - at < key.len() {
-        return false;
-    }
-    let mut i = 0;
-    'key: while i < key.len() {
-        if bytes[at + i] != key[i] {
-            return false;
-        }
-        i += 1;
-    }
-    true
+    bytes[at..].starts_with(key)
 }
 
 // LF after a number.
-fn closed(bytes: &[u8], n: Number) -> Number
-    ensures { result ≡ closed_at bytes.now n }
+#[tactic(auto, using(crate::proofs::Leaves::closes, crate::proofs::Leaves::closes_not, crate::proofs::Leaves::closes_past))]
+fn closed(bytes: &[u8], n: Number) -> Option<Number>
+    ensures { result ≡ closed_at bytes.now (Some n) }
 {
-    match n {
-        Number::Value { value, next } => {
-            if next < bytes.len() {
-                if bytes[next] == b'\n' {
-                    return Number::Value {
-                        value,
-                        next: next + 1,
-                    };
-                }
-            }
-            Number::Bad
-        }
-        Number::Bad => Number::Bad,
+    match bytes.get(n.next) {
+        Some(b'\n') => Some(Number {
+            next: n.next + 1,
+            ..n
+        }),
+        _ => None,
     }
 }
 
 // A line of one decimal number.
-pub fn number_line(bytes: &[u8], at: usize, key: &[u8]) -> Number
+#[tactic(auto, unfolding(crate::specs::Scan::line_at, crate::specs::Scan::closed_at), using(crate::proofs::Begins::room_after))]
+pub fn number_line(bytes: &[u8], at: usize, key: &[u8]) -> Option<Number>
     requires { at ≤ length bytes.now }
     ensures { result ≡ line_at key.now bytes.now at }
 {
-    if has_key(bytes, at, key) {
-        return closed(bytes, number_at(bytes, at + key.len(), 10));
+    if !has_key(bytes, at, key) {
+        return None;
     }
-    Number::Bad
+    closed(bytes, number_at(bytes, at + key.len(), 10)?)
 }
 
 // The number of a line that was judged: every byte from 0 on is a digit, and the first other is LF.
-pub fn judged_line(bytes: &[u8], at: usize) -> Judged
+#[tactic(auto, using(crate::proofs::Lines::starts, crate::proofs::Lines::first_low, crate::proofs::Lines::first_read, crate::proofs::Lines::inside, crate::proofs::Lines::ends, crate::proofs::Lines::digit_most, crate::proofs::Lines::goes_on))]
+pub fn judged_line(bytes: &[u8], at: usize) -> Number
     requires { Closes bytes.now at }
-    ensures { closed_at bytes.now (scan 10 at (drop at bytes.now)) ≡ Number.Value result.value result.next }
+    ensures { closed_at bytes.now (scan 10 at (drop at bytes.now)) ≡ Some result }
 {
-    let mut n = wide(bytes[at]) - 48;
+    let mut n = u32::from(bytes[at]) - 48;
     let mut i = at + 1;
+    // Kept so: a `for` over what is left is no plainer, since it needs an answer for an end that is never met.
     'digits: while b'0' <= bytes[i] {
-        n = n * 10 + (wide(bytes[i]) - 48);
+        n = n * 10 + (u32::from(bytes[i]) - 48);
         i += 1;
     }
-    Judged {
+    Number {
         value: n,
         next: i + 1,
     }
 }
 
 // What follows a number of an add line.
-fn ended(bytes: &[u8], n: Number) -> Point
-    ensures { result ≡ ended_at bytes.now n }
+#[tactic(auto, using(crate::proofs::Leaves::no_point, crate::proofs::Leaves::ends_last, crate::proofs::Leaves::ends_more, crate::proofs::Leaves::ends_not, crate::proofs::Leaves::ends_past))]
+fn ended(bytes: &[u8], n: Number) -> Option<Point>
+    ensures { result ≡ ended_at bytes.now (Some n) }
 {
-    match n {
-        Number::Value { value, next } => {
-            if numbers::is_point(value) {
-                if next < bytes.len() {
-                    let b = bytes[next];
-                    if b == b'\n' {
-                        return Point::Last {
-                            point: value,
-                            next: next + 1,
-                        };
-                    }
-                    if b == b' ' {
-                        return Point::More {
-                            point: value,
-                            next: next + 1,
-                        };
-                    }
-                }
-            }
-            Point::Bad
-        }
-        Number::Bad => Point::Bad,
+    let point = n.value;
+    let next = n.next;
+    if !numbers::is_point(point) {
+        return None;
+    }
+    match bytes.get(next) {
+        Some(b'\n') => Some(Point::Last {
+            point,
+            next: next + 1,
+        }),
+        Some(b' ') => Some(Point::More {
+            point,
+            next: next + 1,
+        }),
+        _ => None,
     }
 }
 
 // The number of a code point where six bytes are left. A seventh digit makes it no code point, and so does a digit after 69631, which is
 // 10fff in hex; so the loop has six turns, which a compiler lays out one after the other.
-fn short_number(bytes: &[u8], at: usize) -> Number
+#[tactic(auto, using(crate::proofs::Points::none, crate::proofs::Points::first, crate::proofs::Points::further, crate::proofs::Points::after_zero, crate::proofs::Points::after_last, crate::proofs::Points::stops, crate::proofs::Points::six))]
+fn short_number(bytes: &[u8], at: usize) -> Option<Number>
     requires { at + 6 ≤ length bytes.now }
     ensures { point_at bytes.now at ≡ ended_at bytes.now result }
 {
-    let first = edit_format::hex_value(bytes[at]);
-    if 16 <= first {
-        return Number::Bad;
+    let mut n = edit_format::hex_value(bytes[at]);
+    if 16 <= n {
+        return None;
     }
-    let mut n = first;
-    let mut k: usize = 1;
-    'digits: while k < 6 {
+    'digits: for k in 1..6 {
         let digit = edit_format::hex_value(bytes[at + k]);
         if 16 <= digit {
-            return Number::Value {
+            return Some(Number {
                 value: n,
                 next: at + k,
-            };
+            });
         }
-        if n < 1 {
-            return Number::Bad;
-        }
-        if 69631 < n {
-            return Number::Bad;
+        if n < 1 || 69631 < n {
+            return None;
         }
         n = n * 16 + digit;
-        k += 1;
     }
-    Number::Value {
+    Some(Number {
         value: n,
         next: at + 6,
-    }
+    })
 }
 
 // The number of a code point at any place.
-fn hex_number(bytes: &[u8], at: usize) -> Number
+#[tactic(auto, unfolding(crate::specs::Scan::point_at))]
+fn hex_number(bytes: &[u8], at: usize) -> Option<Number>
     requires { at ≤ length bytes.now }
     ensures { point_at bytes.now at ≡ ended_at bytes.now result }
 {
@@ -210,45 +175,44 @@ fn hex_number(bytes: &[u8], at: usize) -> Number
 }
 
 // A code point of an add line.
-pub fn point_at(bytes: &[u8], at: usize) -> Point
+#[tactic(auto, unfolding(crate::specs::Scan::ended_at))]
+pub fn point_at(bytes: &[u8], at: usize) -> Option<Point>
     requires { at ≤ length bytes.now }
     ensures { result ≡ point_at bytes.now at }
 {
-    ended(bytes, hex_number(bytes, at))
+    ended(bytes, hex_number(bytes, at)?)
 }
 
 // The number of a code point that was judged: every byte from 0 on is a digit, and the first other ends it.
-fn judged_number(bytes: &[u8], at: usize) -> Judged
+#[tactic(auto, using(crate::proofs::Points::judged_starts, crate::proofs::Points::judged_first, crate::proofs::Points::first, crate::proofs::Points::judged_in, crate::proofs::Points::judged_stops, crate::proofs::Points::judged_digit, crate::proofs::Points::judged_further, crate::proofs::Points::six))]
+fn judged_number(bytes: &[u8], at: usize) -> Number
     requires { Stands bytes.now at }
-    ensures { point_at bytes.now at ≡ ended_at bytes.now (Number.Value result.value result.next) }
+    ensures { point_at bytes.now at ≡ ended_at bytes.now (Some result) }
 {
     let mut n = edit_format::digit(bytes[at]);
-    let mut k: usize = 1;
-    'digits: while k < 6 {
+    'digits: for k in 1..6 {
         let b = bytes[at + k];
         if b < b'0' {
-            return Judged {
+            return Number {
                 value: n,
                 next: at + k,
             };
         }
         n = n * 16 + edit_format::digit(b);
-        k += 1;
     }
-    Judged {
+    Number {
         value: n,
         next: at + 6,
     }
 }
 
 // A code point that was judged.
+#[tactic(auto, using(crate::proofs::Points::ends_in, crate::proofs::Points::ends_last, crate::proofs::Points::ends_more))]
 pub fn judged_at(bytes: &[u8], at: usize) -> Point
     requires { Stands bytes.now at }
-    ensures { result ≡ point_at bytes.now at }
+    ensures { Some result ≡ point_at bytes.now at }
 {
-    let number = judged_number(bytes, at);
-    let point = number.value;
-    let next = number.next;
+    let Number { value: point, next } = judged_number(bytes, at);
     if bytes[next] == b'\n' {
         return Point::Last {
             point,

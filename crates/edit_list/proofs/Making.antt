@@ -23,9 +23,8 @@ use Rattle.edit_format.proofs.Accepts.{accepted_good}
 use Rattle.edit_format.proofs.TextLaws.{texts_length}
 use Rattle.edit_format.proofs.RecordLaws.{length_records}
 use Rattle.edit_read.specs.Answer.{answer_of, items_left, text_left, ReadInto}
-use Rattle.edit_read.specs.declared.FileRead.{FileRead}
-use Rattle.edit_read.specs.declared.FileRead.TheVariants.{Counts, Refused as No}
-use Rattle.edit_list.specs.declared.Sizes.{Sizes}
+use Rattle.std.specs.Prelude.{Result, Ok, Err}
+use Rattle.item_records.specs.declared.Counts.{Counts}
 use Rattle.edit_list.specs.Raws.{runs_of, items_in}
 use Rattle.edit_list.specs.Steps.{runs_in, ItemsLent, Fits, Filled, Readable, ItemsRead, Makeable, RawsMade}
 use Rattle.edit_list.proofs.Bounds.{file_long, file_items}
@@ -62,7 +61,7 @@ module _ (file : List ℕ) (is : List Item) (a : read_file file ≡ Accepted is)
   -- reading
 
   module _ (at : ℕ) (text : List ℕ) (items : List ℤ) (ft : at + 1024 ≤ length text) (fi : 1023 ≤ length items) where
-    answers : answer_of (read_file file) (length items) (length (mid_of at (length text - at) text)) ≡ Counts (length is) (length (texts is))
+    answers : answer_of (read_file file) (length items) (length (mid_of at (length text - at) text)) ≡ Ok (record { items = length is; text = length (texts is) })
     unfolding answer_of
     answers =
         rw (
@@ -71,21 +70,22 @@ module _ (file : List ℕ) (is : List Item) (a : read_file file ≡ Accepted is)
           le-ltb (length (mid_of at (length text - at) text)) (length (texts is)) (omega (arith, little, rest_length text at)),
         )
 
-    module _ {items' : List ℤ} {t : List ℕ} {r : FileRead} (h : ReadInto (read_file file) items (mid_of at (length text - at) text) items' t r) where
-      reads : (n m : ℕ) → r ≡ Counts n m → ItemsRead is at text (put_mid at (length text - at) text t) items items' (record { items = n; text = m })
+    module _ {items' : List ℤ} {t : List ℕ} {r : Result Counts Refusal} (h : ReadInto (read_file file) items (mid_of at (length text - at) text) items' t r) where
+      reads : (n : Counts) → r ≡ Ok n → ItemsRead is at text (put_mid at (length text - at) text t) items items' n
       unfolding items_left text_left
-      reads n m e =
-          let q : Counts n m ≡ Counts (length is) (length (texts is)) = sym e ∙ h.answer ∙ answers in
+      reads n e =
+          let q : ◌≡◌ {A = Result Counts Refusal} (Ok n) (Ok (record { items = length is; text = length (texts is) })) = sym e ∙ h.answer ∙ answers in
+          let w : n ≡ record { items = length is; text = length (texts is) } = cc in
           record {
             text_is = rest_placed text t (texts is) at (omega arith) (h.text ∙ rw (e, a));
             items_are = h.items ∙ rw (e, a);
-            many_items = cc;
-            many_points = cc;
+            many_items = ap (λ (x : Counts). x.items) w;
+            many_points = ap (λ (x : Counts). x.text) w;
           }
 
-      reads_all : (x : Refusal) → r ≡ No x → ⊥
+      reads_all : (x : Refusal) → r ≡ Err x → ⊥
       reads_all x e =
-          let q : No x ≡ Counts (length is) (length (texts is)) = sym e ∙ h.answer ∙ answers in
+          let q : ◌≡◌ {A = Result Counts Refusal} (Err x) (Ok (record { items = length is; text = length (texts is) })) = sym e ∙ h.answer ∙ answers in
           let z : ◌≡◌ {A = ℕ} 0 1 = cc in
           omega arith
 
@@ -93,7 +93,7 @@ module _ (file : List ℕ) (is : List Item) (a : read_file file ≡ Accepted is)
 
   module _ (at : ℕ) (text raw s k : List ℕ) (ft : at + 1024 ≤ length text) (most : length text ≤ 131070) (fr : 1023 ≤ length raw)
       (fs : 2048 ≤ length s) (fk : 1024 ≤ length k)
-      {text' : List ℕ} {items items' : List ℤ} {z : Sizes} (h : ItemsRead is at text text' items items' z) where
+      {text' : List ℕ} {items items' : List ℤ} {z : Counts} (h : ItemsRead is at text text' items items' z) where
     text_long : length text' ≡ length text
     text_long = ap length h.text_is ∙ placed_length text at (texts is) (omega (arith, little))
 
@@ -139,16 +139,15 @@ module _ (file : List ℕ) (is : List Item) (a : read_file file ≡ Accepted is)
 
 -- the same, by what the two functions ask
 
-module _ {file : List ℕ} {at : ℕ} {text : List ℕ} {items : List ℤ} (p : Readable file at text items) {items' : List ℤ} {t : List ℕ} {r : FileRead}
+module _ {file : List ℕ} {at : ℕ} {text : List ℕ} {items : List ℤ} (p : Readable file at text items) {items' : List ℤ} {t : List ℕ} {r : Result Counts Refusal}
     (h : ReadInto (read_file file) items (mid_of at (length text - at) text) items' t r) where
-  pub read_done : (n m : ℕ) → r ≡ Counts n m
-      → ItemsRead (items_in (read_file file)) at text (put_mid at (length text - at) text t) items items' (record { items = n; text = m })
-  read_done n m e = reads file (items_in (read_file file)) p.accepted p.short at text items p.text_fits p.items_fit h n m e
+  pub read_done : (n : Counts) → r ≡ Ok n → ItemsRead (items_in (read_file file)) at text (put_mid at (length text - at) text t) items items' n
+  read_done n e = reads file (items_in (read_file file)) p.accepted p.short at text items p.text_fits p.items_fit h n e
 
-  pub read_never : (x : Refusal) → r ≡ No x → ⊥
+  pub read_never : (x : Refusal) → r ≡ Err x → ⊥
   read_never x e = reads_all file (items_in (read_file file)) p.accepted p.short at text items p.text_fits p.items_fit h x e
 
-module _ {file : List ℕ} {at : ℕ} {text raw s k : List ℕ} (p : Makeable file at text raw s k) {text' : List ℕ} {items items' : List ℤ} {z : Sizes}
+module _ {file : List ℕ} {at : ℕ} {text raw s k : List ℕ} (p : Makeable file at text raw s k) {text' : List ℕ} {items items' : List ℤ} {z : Counts}
     (h : ItemsRead (items_in (read_file file)) at text text' items items' z) where
   abbrev is : List Item
   is = items_in (read_file file)

@@ -11,8 +11,7 @@ use borrow.Author.Tests.{le-leb, lt-ltb}
 use Rattle.room.specs.Choice.{pick}
 use Rattle.records.specs.declared.Token.{Token}
 use Rattle.records.specs.Tokens.{tokens_from, tokens_length}
-use Rattle.verdict.specs.declared.Verdict.TheVariants.{Accepted}
-use Rattle.verdict.specs.Verdicts.{and_then, sized, roomed}
+use Rattle.verdict.specs.Verdicts.{accepted}
 use Rattle.verdict.specs.Points.{points_from}
 use Rattle.sizes.specs.Texts.{in_text, run_text}
 use Rattle.shapes.specs.Shapes.{run_good}
@@ -86,7 +85,7 @@ module _ (n : ℕ) (s k j : List ℕ) where
       both_yes _ _ (le-leb r.kind 2 g.known)
       (both_yes _ _ (lt-ltb 0 r.count some) (both_yes _ _ (le-leb (r.first + r.count) (pieces_lent s k j) l) (run_fine r.first r.count g.inside)))
 
-  shapes_fine : (rs : List Raw) (i : ℕ) → AllRuns n (runsLent s k j rs) → AllLent (pieces_lent s k j) rs → shapes_from n s k j rs i ≡ Accepted
+  shapes_fine : (rs : List Raw) (i : ℕ) → AllRuns n (runsLent s k j rs) → AllLent (pieces_lent s k j) rs → shapes_from n s k j rs i ≡ accepted
   unfolding shapes_from AllRuns AllLent runsLent
   shapes_fine [] i g l = refl
   shapes_fine (r ∷ rs) i g l = rw (raw_fine r g.0 l.0, shapes_from) (shapes_fine rs (i + 1) g.1 l.1)
@@ -103,9 +102,9 @@ pub record Sized (rs : List Raw) (s k j text : List ℕ) (o s' k' j' : ℕ) : Ty
   pub in_keys : counts rs ≤ k'
   pub in_joins : counts rs ≤ j'
 
-pub passes : (rs : List Raw) (s k j text : List ℕ) (o s' k' j' : ℕ) → Sized rs s k j text o s' k' j' → points_from text 0 ≡ Accepted
-    → AllRuns (length text) (runsLent s k j rs) → raw_verdict text s k j rs o s' k' j' ≡ Accepted
-unfolding raw_verdict and_then sized roomed
+pub passes : (rs : List Raw) (s k j text : List ℕ) (o s' k' j' : ℕ) → Sized rs s k j text o s' k' j' → points_from text 0 ≡ accepted
+    → AllRuns (length text) (runsLent s k j rs) → raw_verdict text s k j rs o s' k' j' ≡ accepted
+unfolding raw_verdict
 passes rs s k j text o s' k' j' z p g =
     let u : total (text_by (length text) s k j) rs ≤ 131070 = omega (arith, used_most (length text) s k j rs, lengths_total s k j rs, z.used) in
     let e1 : raw_fits (length text) s k j rs ≡ true =

@@ -9,22 +9,22 @@ use lib.Dec.{leb}
 use Rattle.room.specs.Placed.{placed}
 use Rattle.room.proofs.Bools.{and_left, and_right}
 use Rattle.refusal.specs.declared.Refusal.TheVariants.{CodePoint}
-use Rattle.verdict.specs.declared.Verdict.TheVariants.{Accepted}
 use Rattle.numbers.specs.Points.{is_point}
 use Rattle.verdict.specs.Points.{points_from}
 use Rattle.verdict.proofs.Chains.{went}
 use Rattle.edit_format.specs.Items.{Item, Keep, Drop, Add, texts, all_points, items_good}
+use Rattle.verdict.specs.Verdicts.{accepted}
 
 unfoldable AllPoints : List ℕ → Type 0
 AllPoints [] = Unit
 AllPoints (c ∷ cs) = (is_point c ≡ true) × AllPoints cs
 
-told : (cs : List ℕ) (i : ℕ) → points_from cs i ≡ Accepted → AllPoints cs
+told : (cs : List ℕ) (i : ℕ) → points_from cs i ≡ accepted → AllPoints cs
 unfolding points_from AllPoints
 told [] i h = tt
 told (c ∷ cs) i h = let w = went (is_point c) (points_from cs (i + 1)) (CodePoint i) h in (w.0, told cs (i + 1) w.1)
 
-tells : (cs : List ℕ) (i : ℕ) → AllPoints cs → points_from cs i ≡ Accepted
+tells : (cs : List ℕ) (i : ℕ) → AllPoints cs → points_from cs i ≡ accepted
 unfolding points_from AllPoints
 tells [] i h = refl
 tells (c ∷ cs) i h = rw (h.0, points_from) (tells cs (i + 1) h.1)
@@ -61,7 +61,7 @@ all_texts k (Add cs ∷ is) g =
     all_append cs (texts is) (all_points_lem cs (and_right (leb 1 (length cs)) (all_points cs) h))
     (all_texts false is (and_right (leb 1 (length cs) && all_points cs) (items_good false is) g))
 
-pub good_text : (d : List ℕ) (at : ℕ) (is : List Item) → points_from d 0 ≡ Accepted → items_good false is ≡ true → points_from (placed d at (texts is)) 0 ≡ Accepted
+pub good_text : (d : List ℕ) (at : ℕ) (is : List Item) → points_from d 0 ≡ accepted → items_good false is ≡ true → points_from (placed d at (texts is)) 0 ≡ accepted
 unfolding placed
 good_text d at is h g =
     let a = told d 0 h in

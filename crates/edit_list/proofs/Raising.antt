@@ -14,16 +14,13 @@ use Rattle.room.proofs.Answers.{same_room}
 use Rattle.refusal.specs.declared.Refusal.{Refusal}
 use Rattle.records.specs.Operations.{flat_operations}
 use Rattle.records.proofs.Operations.{length_flat}
-use Rattle.verdict.specs.declared.Verdict.{Verdict}
-use Rattle.verdict.specs.declared.Verdict.TheVariants.{Accepted as Fine}
 use Rattle.verdict.specs.Points.{points_from}
 use Rattle.raw_lists.specs.declared.Raw.{Raw}
 use Rattle.raw_lists.specs.Raws.{Run, pieces_lent, flat_spans, flat_keys, raws_of, runs_of as runsLent}
 use Rattle.raw_lists.specs.Good.{counts}
 use Rattle.raw_lists.proofs.Pieces.{length_spans, length_keys}
 use Rattle.elongate.specs.declared.Written.{Written}
-use Rattle.elongate.specs.declared.Answer.{Answer}
-use Rattle.elongate.specs.declared.Answer.TheVariants as A
+use Rattle.std.specs.Prelude.{Result, Ok, Err}
 use Rattle.elongate.specs.Elongated.{arranged, elongated, cooked_from, all_tokens}
 use Rattle.elongate.specs.Places.{kind_of}
 use Rattle.elongate.specs.Verdicts.{Elongates, verdict_on}
@@ -45,6 +42,7 @@ use Rattle.edit_list.proofs.Points.{good_text}
 use Rattle.edit_list.proofs.Passing.{Sized, list_lent, passes}
 use Rattle.edit_list.proofs.Shifting.{shifts, firsts}
 use Rattle.edit_list.proofs.Making.{rest_length, rest_placed, few, little, tokens_few, good}
+use Rattle.verdict.specs.Verdicts.{Verdict, accepted}
 
 -- elongating keeps the tokens
 tokens_same : (s k j : List ℕ) (rs : List Raw) → length (all_tokens (elongated (runsLent s k j rs))) ≡ counts rs
@@ -87,30 +85,30 @@ module _ {raw s k text : List ℕ} {first : ℕ} {o s₀ k₀ : List ℕ} (f : E
   abbrev v : Verdict
   v = verdict_on raw s k joinable text o (mid_of (first * 2) (length s₀ - first * 2) s₀) (mid_of first (length k₀ - first) k₀) j₀
 
-  fine : v ≡ Fine
+  fine : v ≡ accepted
   fine = rw (rest_length s₀ (first * 2), rest_length k₀ first, lj) f.fine
 
   abbrev E : List Run
   E = elongated (runsLent s k joinable (raws_of raw))
 
-  module _ {o₁ s₁ k₁ j₁ : List ℕ} {r : Answer}
+  module _ {o₁ s₁ k₁ j₁ : List ℕ} {r : Result Written Refusal}
       (h : Elongates raw s k joinable text o (mid_of (first * 2) (length s₀ - first * 2) s₀)
       (mid_of first (length k₀ - first) k₀) j₀ o₁ s₁ k₁ j₁ v r) where
-    counted : r ≡ A.Counts (record { operations = length E; tokens = counts (raws_of raw) })
+    counted : r ≡ Ok (record { operations = length E; tokens = counts (raws_of raw) })
     counted = h.answer ∙ rw fine
 
-    pub never_refused : (x : Refusal) → r ≡ A.Refused x → ⊥
+    pub never_refused : (x : Refusal) → r ≡ Err x → ⊥
     never_refused x e =
-        let q : A.Refused x ≡ A.Counts (record { operations = length E; tokens = counts (raws_of raw) }) = sym e ∙ counted in
+        let q : ◌≡◌ {A = Result Written Refusal} (Err x) (Ok (record { operations = length E; tokens = counts (raws_of raw) })) = sym e ∙ counted in
         let z : ◌≡◌ {A = ℕ} 0 1 = cc in
         omega arith
 
     cooked_are : o₁ ≡ answered (flat_operations (cooked_from E 0 0)) o
     cooked_are = h.operations ∙ rw fine
 
-    module _ (w : Written) (e : r ≡ A.Counts w) where
+    module _ (w : Written) (e : r ≡ Ok w) where
       same : w ≡ record { operations = length E; tokens = counts (raws_of raw) }
-      same = let q : A.Counts w ≡ A.Counts (record { operations = length E; tokens = counts (raws_of raw) }) = sym e ∙ counted in cc
+      same = let q : ◌≡◌ {A = Result Written Refusal} (Ok w) (Ok (record { operations = length E; tokens = counts (raws_of raw) })) = sym e ∙ counted in cc
 
       many_operations : w.operations ≡ length E
       many_operations = ap (λ (x : Written). x.operations) same
@@ -124,7 +122,7 @@ module _ {raw s k text : List ℕ} {first : ℕ} {o s₀ k₀ : List ℕ} (f : E
 
       pub raises : {o₂ : List ℕ} → o₂ ≡ shifted_from o₁ first 0 w.operations
           → Raised raw s k first o s₀ k₀ o₂ (put_mid (first * 2) (length s₀ - first * 2) s₀ s₁) (put_mid first (length k₀ - first) k₀ k₁)
-          (record { operations = w.operations; tokens = w.tokens })
+          w
       raises {o₂} g = record {
         stands = record {
           operations_are = shifted_list E o o₁ o₂ first w.operations cooked_are many_operations g;
@@ -201,7 +199,7 @@ module _ {file : List ℕ} {at first : ℕ} {text o s₀ k₀ : List ℕ} (p : L
         in_keys = omega (arith, c, tokens_most, p.keys_fit);
         in_joins = omega (arith, c, tokens_most);
       } in
-      let q : points_from text' 0 ≡ Fine = rw h.text_is (good_text text at is p.good (good file is p.accepted p.short).each) in
+      let q : points_from text' 0 ≡ accepted = rw h.text_is (good_text text at is p.good (good file is p.accepted p.short).each) in
       let g = runs_good (length text') false at is (good file is p.accepted p.short).each (omega (arith, text_long, p.long))
       (omega (arith, added_is, tm, text_long, p.text_fits)) in
       record {

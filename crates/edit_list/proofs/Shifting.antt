@@ -9,7 +9,7 @@ use lib.Seq.{get_or-set_other, get_or-append-add, set_at}
 use Rattle.records.specs.Operations.{flat_operations}
 use Rattle.raw_lists.specs.Raws.{Run}
 use Rattle.elongate.specs.Elongated.{cooked_from, pieces_length, consumes, all_tokens}
-use Rattle.edit_list.specs.Steps.{shifted_from, Shiftable}
+use Rattle.edit_list.specs.Steps.{shifted_from}
 
 -- the loop: o is what o₀ became when the first i were moved
 pub record Shifting (o₀ : List ℕ) (count by : ℕ) (o : List ℕ) (i : ℕ) : Type 0 where
@@ -34,12 +34,6 @@ module _ {o₀ o : List ℕ} {count by i : ℕ} (h : Shifting o₀ count by o i)
   pub ends : count ≤ i → o ≡ shifted_from o₀ by 0 count
   unfolding shifted_from
   ends l = let e : count - i ≡ 0 = omega arith in rw e at h.whole
-
-  pub in_room : Shiftable o₀ count by → i < count → i * 6 + 6 ≤ length o
-  in_room s l = omega (arith, s.fits, h.same)
-
-  pub small : Shiftable o₀ count by → i < count → get_or o (i * 6 + 4) 0 + by < 9223372036854775808
-  small s l = omega (arith, s.small i l, h.rest i (omega arith))
 
 -- one first token moved on
 moved : (p t : List ℕ) (i a b c d e g by : ℕ) → length p ≡ i * 6

@@ -3,10 +3,9 @@
 use mathlib.Core.Path.{◌≡◌, refl, sym, ap, ◌∙◌}
 use mathlib.Core.List.{List, [], ◌∷◌, ◌++◌}
 use Prim.Native.Nat.{ℕ, suc, ◌+◌, ◌-◌, ◌*◌, ◌≤◌, ◌<◌, zero-le}
-use native.Mathlib.Numerals.{add-one}
 use native.Mathlib.Omega.{arith}
-use lib.ListN.{length, take, drop, get_or, set, length-append, length-drop}
-use lib.Seq.{sets-eq, drop-cons, length-take-le}
+use lib.ListN.{length, take, drop, get_or, length-append, length-drop}
+use lib.Seq.{drop-cons, length-take-le}
 use lib.IntN.{ℤ}
 use Rattle.room.specs.Placed.{placed, answered}
 use Rattle.room.proofs.Answers.{at_start}
@@ -23,18 +22,9 @@ use Rattle.edit_list.specs.Raws.{point_tokens, part_token}
 use Rattle.edit_list.specs.Steps.{run_in, runs_in, flat_raws, TokensPut, PointsFit, RunPut, SmallRun, AllSmall, RunFits, ItemsLent, Filled, Fits}
 use Rattle.edit_list.proofs.Runs.{points_length}
 
-two_stores : (d : List ℕ) (at a b : ℕ) → at + 2 ≤ length d → set (set d at a) (at + 1) b ≡ placed d at (a ∷ b ∷ [])
-unfolding placed
-two_stores d at a b h = rw (add-one at) (sets-eq (a ∷ b ∷ []) d at h)
-
-one_store : (d : List ℕ) (at a : ℕ) → at + 1 ≤ length d → set d at a ≡ placed d at (a ∷ [])
-unfolding placed
-one_store d at a h = sets-eq (a ∷ []) d at h
-
-pub token_put : (s k : List ℕ) (i : ℕ) (p : Piece) → i * 2 + 2 ≤ length s → i + 1 ≤ length k
-    → TokensPut (p ∷ []) i s k (set (set s (i * 2) p.start) (i * 2 + 1) p.length) (set k i p.key)
+pub token_put : {s k s' k' : List ℕ} {i : ℕ} (p : Piece) → s' ≡ placed s (i * 2) (p.start ∷ p.length ∷ []) → k' ≡ placed k i (p.key ∷ []) → TokensPut (p ∷ []) i s k s' k'
 unfolding flat_spans flat_keys
-token_put s k i p h l = record { in_spans = two_stores s (i * 2) p.start p.length h; in_keys = one_store k i p.key l }
+token_put p e f = record { in_spans = e; in_keys = f }
 
 -- the tokens ps are still to be put at `here`; with them the rooms are the first ones with the tokens qs at `at`
 pub record Putting (ps : List Piece) (here : ℕ) (qs : List Piece) (at : ℕ) (s₀ k₀ s k : List ℕ) : Type 0 where

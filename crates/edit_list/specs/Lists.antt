@@ -2,7 +2,6 @@
 use Rattle.std.specs.Prelude.{ℕ, ◌+◌, ◌*◌, ◌≤◌, ◌≡◌, List, length}
 use Rattle.room.specs.Placed.{placed, answered}
 use Rattle.records.specs.Operations.{flat_operations}
-use Rattle.verdict.specs.declared.Verdict.TheVariants.{Accepted as Fine}
 use Rattle.verdict.specs.Points.{points_from}
 use Rattle.raw_lists.specs.Raws.{flat_spans, flat_keys}
 use Rattle.elongate.specs.Elongated.{cooked_from, all_tokens}
@@ -10,6 +9,7 @@ use Rattle.edit_format.specs.Items.{Item, kept, dropped, texts}
 use Rattle.edit_format.specs.Reading.{read_file, Accepted}
 use Rattle.edit_list.specs.declared.Listed.{Listed}
 use Rattle.edit_list.specs.Raws.{list_of, items_in}
+use Rattle.verdict.specs.Verdicts.{accepted as fine}
 
 -- "Keep plus drop is original": how much of the original a file's items use
 abbrev pub used_by : List ℕ → ℕ
@@ -20,7 +20,7 @@ used_by file = kept (items_in (read_file file)) + dropped (items_in (read_file f
 pub record Listable (file : List ℕ) (at first : ℕ) (text operations spans keys : List ℕ) : Type 0 where
   pub accepted : read_file file ≡ Accepted (items_in (read_file file))
   pub short : length file ≤ 2048
-  pub good : points_from text 0 ≡ Fine
+  pub good : points_from text 0 ≡ fine
   pub long : used_by file ≤ length text
   pub most : length text ≤ 131070
   pub text_fits : at + 1024 ≤ length text

@@ -2,7 +2,6 @@
 use Rattle.std.specs.Prelude.{ℕ, zero, suc, ◌+◌, ◌-◌, ◌*◌, ◌≤◌, ◌<◌, ◌≡◌, List, [], ◌∷◌, length, take, drop, get_or, set, replicate, ℤ}
 use Rattle.room.specs.Placed.{placed, answered}
 use Rattle.records.specs.Operations.{flat_operations}
-use Rattle.verdict.specs.declared.Verdict.TheVariants.{Accepted as Fine}
 use Rattle.diff.specs.declared.diff.Item.{Item as Edit}
 use Rattle.diff.specs.declared.diff.Item.TheVariants.{Retain, Delete, Insert, Neither}
 use Rattle.raw_lists.specs.Raws.{Piece, Run, flat_spans, flat_keys, raws_of, runs_of as runsLent}
@@ -13,9 +12,11 @@ use Rattle.elongate.specs.Verdicts.{raw_verdict}
 use Rattle.edit_format.specs.Items.{Item, texts}
 use Rattle.edit_format.specs.Records.{records_of}
 use Rattle.edit_format.specs.Reading.{read_file, Accepted}
-use Rattle.edit_list.specs.declared.Sizes.{Sizes}
+use Rattle.item_records.specs.declared.Counts.{Counts}
+use Rattle.edit_list.specs.declared.RawRooms.{RawRooms}
 use Rattle.edit_list.specs.declared.Made.{Made}
 use Rattle.edit_list.specs.Raws.{point_tokens, part_token, runs_of, items_in}
+use Rattle.verdict.specs.Verdicts.{accepted}
 
 -- "makes each added code point a joinable token keyed by itself, each keep or drop one joinable token": of an item as its record says it, with
 -- the file's text from place `at` of the lent text on
@@ -34,6 +35,11 @@ runs_in text at (x ∷ xs) = run_in text at x ∷ runs_in text at xs
 unfoldable pub flat_raws : ℕ → List Run → List ℕ
 flat_raws f [] = []
 flat_raws f (r ∷ rs) = r.kind ∷ f ∷ length r.tokens ∷ flat_raws (f + length r.tokens) rs
+
+-- the rooms are still those that were lent
+abbrev pub SameRooms : RawRooms → RawRooms → Type 0
+SameRooms old new =
+    (new.raw.ghost_name ≡ old.raw.ghost_name) × (new.spans.ghost_name ≡ old.spans.ghost_name) × (new.keys.ghost_name ≡ old.keys.ghost_name)
 
 -- tokens put at a place of their two rooms; all are joinable, so their flags need none
 pub record TokensPut (ps : List Piece) (at : ℕ) (s k s' k' : List ℕ) : Type 0 where
@@ -98,7 +104,7 @@ pub record Readable (file : List ℕ) (at : ℕ) (text : List ℕ) (items : List
   pub items_fit : 1023 ≤ length items
 
 -- the items in their room, and their text at its place of the lent text
-pub record ItemsRead (is : List Item) (at : ℕ) (text text' : List ℕ) (items items' : List ℤ) (r : Sizes) : Type 0 where
+pub record ItemsRead (is : List Item) (at : ℕ) (text text' : List ℕ) (items items' : List ℤ) (r : Counts) : Type 0 where
   pub text_is : text' ≡ placed text at (texts is)
   pub items_are : items' ≡ answered (records_of is) items
   pub many_items : r.items ≡ length is
@@ -137,7 +143,7 @@ joinable = replicate 1024 3
 
 -- a raw list that is not refused, with tokens for the places from `first` on
 pub record Elongable (raw s k text : List ℕ) (first : ℕ) (o s' k' : List ℕ) : Type 0 where
-  pub fine : raw_verdict text s k joinable (raws_of raw) (length o) (length s' - first * 2) (length k' - first) 1024 ≡ Fine
+  pub fine : raw_verdict text s k joinable (raws_of raw) (length o) (length s' - first * 2) (length k' - first) 1024 ≡ accepted
   pub in_spans : first * 2 ≤ length s'
   pub in_keys : first ≤ length k'
   pub few : counts (raws_of raw) ≤ 1024

@@ -1,5 +1,6 @@
 -- All items of an accepted file in the rooms: the loop's invariant, its start, turn and end, and the answers of the public call.
 -- The rooms hold the answer of the items done; what is left is accepted, so at the end these are all items. Assumes nothing.
+use Rattle.std.specs.Prelude.{Ok, Err}
 use mathlib.Core.Path.{◌≡◌, refl, sym, ap, ◌∙◌}
 use mathlib.Core.List.{List, [], ◌∷◌, ◌++◌}
 use Prim.Native.Nat.{ℕ, ◌+◌, ◌*◌, ◌/◌, ◌≤◌, ◌<◌, zero-le}
@@ -9,7 +10,8 @@ use lib.IntN.{ℤ}
 use borrow.Author.Tests.{lt-ltb, le-ltb}
 use Rattle.room.specs.Placed.{placed, answered}
 use Rattle.room.proofs.Answers.{one_more, same_room}
-use Rattle.refusal.specs.declared.Refusal.TheVariants.{Line as BadLine, Room}
+use Rattle.refusal.specs.declared.Refusal.{Refusal}
+use Rattle.refusal.specs.declared.Refusal.TheVariants.{Room}
 use Rattle.edit_format.specs.Items.{Item, added, texts}
 use Rattle.edit_format.specs.Written.{Head}
 use Rattle.edit_format.specs.Reading.{open', opened, Accepted, found, read_file}
@@ -22,9 +24,8 @@ use Rattle.edit_format.proofs.Rests.{at_least, no_more}
 use Rattle.edit_read.specs.Judged.{Judged}
 use Rattle.edit_read.specs.Filled.{ItemPut, Accepting, Fillable, records_found, text_found}
 use Rattle.edit_read.specs.Answer.{answer_of, items_left, text_left, ReadInto}
-use Rattle.edit_read.specs.declared.Spot.TheVariants.{Good as GoodSpot, Bad as BadSpot}
-use Rattle.edit_read.specs.declared.Verdict.TheVariants.{Accepted as Yes, Refused as No}
-use Rattle.edit_read.specs.declared.FileRead.TheVariants.{Counts, Refused as NoFile}
+use Rattle.edit_read.specs.declared.Spot.{Spot}
+use Rattle.edit_read.specs.declared.Accepted.{Accepted as Counted}
 use Rattle.edit_read.proofs.Judging.{opened_more, opened_last}
 
 -- a run put where an answer ends
@@ -104,14 +105,11 @@ module _ {p : List ℕ} {count : ℕ} {d₀ : List ℤ} {e₀ : List ℕ} {d : L
     left = here_left g;
   }
 
-  pub never_bad : {d' : List ℤ} {e' : List ℕ} → i < count → ItemPut open' p at start (i * 3) d d' e e' BadSpot → ⊥
-  never_bad g q = q.says f.head f.done f.items (few g) (sym f.place) (omega (arith, text_long, f.text)) (here_left g)
-
-  pub goes_on : {d' : List ℤ} {e' : List ℕ} {s j : ℕ} → i < count → ItemPut open' p at start (i * 3) d d' e e' (GoodSpot s j) → Filling p count d₀ e₀ d' e' j s (i + 1)
-  goes_on {d'} {e'} {s} {j} g q =
+  pub goes_on : {d' : List ℤ} {e' : List ℕ} {u : Spot} → i < count → ItemPut open' p at start (i * 3) d d' e e' u → Filling p count d₀ e₀ d' e' u.next u.start (i + 1)
+  goes_on {d'} {e'} {u} g q =
       let r = q.says f.head f.done f.items (few g) (sym f.place) (omega (arith, text_long, f.text)) (here_left g) in
       let x : Item = r.0 in
-      let w : s ≡ start + size x = r.1 in
+      let w : u.start ≡ start + size x = r.1 in
       let l : i * 3 ≡ length (records_of f.done) = omega (arith, length_records f.done, f.here) in
       let m : start ≡ length (texts f.done) = f.place ∙ sym (texts_length f.done) in
       record {
@@ -142,7 +140,7 @@ module _ {p : List ℕ} {count : ℕ} {d₀ : List ℤ} {e₀ : List ℕ} {d : L
   unfolding text_found
   text_all g = rw (f.accepted, all_done g) f.text_room
 
-pub fillable : {p : List ℕ} {n m o f : ℕ} (a b : ℕ) → Judged p (Yes n m o f) → n ≤ a / 3 → m ≤ b → Fillable p f n a b
+pub fillable : {p : List ℕ} {f : Counted} (a b : ℕ) → Judged p (Ok f) → f.items ≤ a / 3 → f.text ≤ b → Fillable p f.first f.items a b
 fillable a b r g h = record {
   items = r.says.0;
   head = r.says.1;
@@ -156,16 +154,16 @@ fillable a b r g h = record {
 
 -- the public call
 module _ {p : List ℕ} {d : List ℤ} {e : List ℕ} where
-  pub refused : {l : ℕ} → Judged p (No l) → ReadInto (read_file p) d e d e (NoFile (BadLine l))
+  pub refused : {why : Refusal} → Judged p (Err why) → ReadInto (read_file p) d e d e (Err why)
   unfolding answer_of items_left text_left
-  refused r = record { answer = rw r.says; items = refl; text = refl }
+  refused r = record { answer = rw (r.says.2, r.says.1); items = refl; text = refl }
 
-  module _ {n m o f : ℕ} (r : Judged p (Yes n m o f)) where
-    pub few_records : length d / 3 < n → ReadInto (read_file p) d e d e (NoFile Room)
+  module _ {f : Counted} (r : Judged p (Ok f)) where
+    pub few_records : length d / 3 < f.items → ReadInto (read_file p) d e d e (Err Room)
     unfolding answer_of items_left text_left
     few_records g = record { answer = rw (r.says.2, lt-ltb (length d) (3 * length r.says.0) (omega (arith, r.says.3))); items = refl; text = refl }
 
-    pub little_text : n ≤ length d / 3 → length e < m → ReadInto (read_file p) d e d e (NoFile Room)
+    pub little_text : f.items ≤ length d / 3 → length e < f.text → ReadInto (read_file p) d e d e (Err Room)
     unfolding answer_of items_left text_left
     little_text a b = record {
       answer = rw (r.says.2, le-ltb (length d) (3 * length r.says.0) (omega (arith, r.says.3)), lt-ltb (length e) (length (texts r.says.0)) (omega (arith, r.says.4, texts_length r.says.0)));
@@ -173,7 +171,8 @@ module _ {p : List ℕ} {d : List ℤ} {e : List ℕ} where
       text = refl;
     }
 
-    pub filled : {d' : List ℤ} {e' : List ℕ} → n ≤ length d / 3 → m ≤ length e → d' ≡ answered (records_found (read_file p)) d → e' ≡ answered (text_found (read_file p)) e → ReadInto (read_file p) d e d' e' (Counts n m)
+    pub filled : {d' : List ℤ} {e' : List ℕ} → f.items ≤ length d / 3 → f.text ≤ length e → d' ≡ answered (records_found (read_file p)) d → e' ≡ answered (text_found (read_file p)) e
+        → ReadInto (read_file p) d e d' e' (Ok (record { items = f.items; text = f.text }))
     unfolding answer_of items_left text_left records_found text_found
     filled a b u v = record {
       answer = rw (r.says.2, le-ltb (length d) (3 * length r.says.0) (omega (arith, r.says.3)), le-ltb (length e) (length (texts r.says.0)) (omega (arith, r.says.4, texts_length r.says.0)), r.says.3, r.says.4, texts_length r.says.0);

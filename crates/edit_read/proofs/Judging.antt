@@ -1,5 +1,6 @@
 -- The judging pass: its invariant's start and turn, each way out of the end line, and what a verdict says of the two answers.
 -- What is left decides what the file is found to be, so each way out is one step from there. Assumes nothing.
+use Rattle.std.specs.Prelude.{Option, Some, None, Ok, Err}
 use mathlib.Core.Path.{◌≡◌, refl, sym, ap, ◌∙◌, subst}
 use mathlib.Core.Bool.{false}
 use mathlib.Core.List.{List, [], ◌∷◌, ◌++◌}
@@ -8,6 +9,7 @@ use native.Mathlib.Omega.{arith}
 use lib.ListN.{length, drop, drop_of_length-le, length-append}
 use lib.Dec.{eqb}
 use borrow.Author.Tests.{eq-eqb, ne_eqb}
+use Rattle.refusal.specs.declared.Refusal.{Refusal}
 use Rattle.refusal.specs.declared.Refusal.TheVariants.{Line as BadLine}
 use Rattle.edit_format.specs.Items.{Item, kept, dropped, added, ends_keep}
 use Rattle.edit_format.specs.Written.{Head, end_key}
@@ -18,13 +20,9 @@ use Rattle.edit_lines.specs.Scan.{cap, line_at}
 use Rattle.edit_read.specs.Judged.{HeadRead, ItemRead, Judging, Judged}
 use Rattle.edit_read.specs.Answer.{lengths_of}
 use Rattle.edit_lines.specs.declared.Number.{Number}
-use Rattle.edit_lines.specs.declared.Number.TheVariants.{Value, Bad}
 use Rattle.edit_read.specs.declared.Header.{Header}
-use Rattle.edit_read.specs.declared.Heading.TheVariants.{Good as GoodHead, Bad as BadHead}
 use Rattle.edit_read.specs.declared.Sums.{Sums}
-use Rattle.edit_read.specs.declared.Turn.TheVariants.{Good as GoodItem, Bad as BadItem}
-use Rattle.edit_read.specs.declared.Verdict.TheVariants.{Accepted as Yes, Refused as No}
-use Rattle.edit_read.specs.declared.FileRead.TheVariants.{Counts, Refused as NoFile}
+use Rattle.edit_read.specs.declared.Accepted.{Accepted as Counted}
 use Rattle.edit_lines.proofs.Leaves.{at_byte}
 use Rattle.edit_lines.proofs.Scanning.{Lined, lined}
 
@@ -32,7 +30,7 @@ use Rattle.edit_lines.proofs.Scanning.{Lined, lined}
 abbrev pub none : ℕ → Sums
 none at = record { next = at; used = 0; kept = 0; added = 0; joined = false }
 
-pub begins : {p : List ℕ} {t : Header} → HeadRead p (GoodHead t) → Judging p t (none t.next) 0
+pub begins : {p : List ℕ} {t : Header} → HeadRead p (Ok t) → Judging p t (none t.next) 0
 unfolding kept dropped added ends_keep
 begins r = record {
   head = r.says.0;
@@ -63,7 +61,7 @@ module _ {p : List ℕ} {t : Header} {s : Sums} {i : ℕ} (j : Judging p t s i) 
   here : i < t.count → read_file p ≡ found (open' j.head j.items) (drop s.next p)
   here g = j.left ∙ rw (opened_more j.head j.items (omega (arith, j.many, j.count)))
 
-  pub goes_on : {u : Sums} → i < t.count → ItemRead open' p s (GoodItem u) → Judging p t u (i + 1)
+  pub goes_on : {u : Sums} → i < t.count → ItemRead open' p s (Some u) → Judging p t u (i + 1)
   goes_on {u} g r =
       let q = r.says j.head j.items j.holds (omega (arith, j.many, j.count, j.few)) in
       record {
@@ -81,8 +79,8 @@ module _ {p : List ℕ} {t : Header} {s : Sums} {i : ℕ} (j : Judging p t s i) 
         left = here g ∙ q.3;
       }
 
-  pub fails : i < t.count → ItemRead open' p s BadItem → Judged p (No (i + 5))
-  fails g r = record { says = here g ∙ r.says j.head j.items j.holds (omega (arith, j.many, j.count, j.few)) ∙ ap (λ (n : ℕ). Refused (n + 5)) j.many }
+  pub fails : i < t.count → ItemRead open' p s None → Judged p (Err (BadLine (i + 5)))
+  fails g r = record { says = (i + 5, refl, here g ∙ r.says j.head j.items j.holds (omega (arith, j.many, j.count, j.few)) ∙ ap (λ (n : ℕ). Refused (n + 5)) j.many) }
 
 -- all items were read
 pub whole : {p : List ℕ} {t : Header} {s : Sums} {i : ℕ} → Judging p t s i → t.count ≤ i → Judging p t s t.count
@@ -99,57 +97,63 @@ module _ {p : List ℕ} {t : Header} {s : Sums} (j : Judging p t s t.count) wher
   unfolding l
   at_end = j.left ∙ rw (opened_last j.head j.items all_read)
 
-  end_line : (r : Number) → line_at end_key p s.next ≡ r → Lined l p s.next r
+  end_line : (r : Option Number) → line_at end_key p s.next ≡ r → Lined l p s.next r
   unfolding l key_of several
   end_line r e = rw e at (lined l p s.next refl)
 
-  charged : read_file p ≡ Refused (line_no l) → Judged p (No (t.count + 5))
+  charged : {why : Refusal} → why ≡ BadLine (t.count + 5) → read_file p ≡ Refused (line_no l) → Judged p (Err why)
   unfolding l line_no
-  charged e = record { says = e ∙ ap (λ (n : ℕ). Refused (n + 5)) j.many }
+  charged f e = record { says = (t.count + 5, f, e ∙ ap (λ (n : ℕ). Refused (n + 5)) j.many) }
 
-  pub no_end : line_at end_key p s.next ≡ Bad → Judged p (No (t.count + 5))
-  no_end e = charged (at_end ∙ end_line Bad e)
+  pub no_end : {why : Refusal} → line_at end_key p s.next ≡ None → why ≡ BadLine (t.count + 5) → Judged p (Err why)
+  no_end e f = charged f (at_end ∙ end_line None e)
 
-  pub other_end : {v k : ℕ} → line_at end_key p s.next ≡ Value v k → (v ≡ t.count → ⊥) → Judged p (No (t.count + 5))
+  pub other_end : {got : Number} {why : Refusal} → line_at end_key p s.next ≡ Some got → (got.value ≡ t.count → ⊥) → why ≡ BadLine (t.count + 5) → Judged p (Err why)
   unfolding l fits
-  other_end {v} {k} e n =
-      let d : Lined l p s.next (Value v k) = end_line (Value v k) e in
-      let w : v ≡ cap d.0 = d.3 in
-      charged (at_end ∙ d.5 (ne_eqb d.0 j.head.count (λ z. n (omega (arith, j.count, j.few)))))
+  other_end {got} e n f =
+      let d : Lined l p s.next (Some got) = end_line (Some got) e in
+      let w : got.value ≡ cap d.0 = d.3 in
+      charged f (at_end ∙ d.5 (ne_eqb d.0 j.head.count (λ z. n (omega (arith, j.count, j.few)))))
 
-  module _ {v k : ℕ} (e : line_at end_key p s.next ≡ Value v k) (same : v ≡ t.count) where
-    past : read_file p ≡ found (after j.head j.items) (drop k p)
+  module _ {got : Number} (e : line_at end_key p s.next ≡ Some got) (same : got.value ≡ t.count) where
+    past : read_file p ≡ found (after j.head j.items) (drop got.next p)
     unfolding l fits next
     past =
-        let d : Lined l p s.next (Value v k) = end_line (Value v k) e in
-        let w : v ≡ cap d.0 = d.3 in
+        let d : Lined l p s.next (Some got) = end_line (Some got) e in
+        let w : got.value ≡ cap d.0 = d.3 in
         at_end ∙ d.4 (eq-eqb d.0 j.head.count (omega (arith, j.count, j.few)))
 
-    pub more_bytes : k < length p → Judged p (No (t.count + 6))
+    pub more_bytes : {why : Refusal} → got.next < length p → why ≡ BadLine (t.count + 6) → Judged p (Err why)
     unfolding run step
-    more_bytes g = record {
-      says =
-          past ∙ ap (found (after j.head j.items)) (at_byte p k g) ∙ found_bad (length j.items + 6) (drop (k + 1) p)
-          ∙ ap (λ (n : ℕ). Refused (n + 6)) j.many;
+    more_bytes g f = record {
+      says = (
+        t.count + 6,
+        f,
+        past ∙ ap (found (after j.head j.items)) (at_byte p got.next g) ∙ found_bad (length j.items + 6) (drop (got.next + 1) p)
+            ∙ ap (λ (n : ℕ). Refused (n + 6)) j.many,
+      );
     }
 
-    summed : length p ≤ k → read_file p ≡ finish (after j.head j.items)
+    summed : length p ≤ got.next → read_file p ≡ finish (after j.head j.items)
     unfolding run
     summed g = past ∙ ap (found (after j.head j.items)) (drop_of_length-le p g)
 
-    pub false_original : length p ≤ k → (s.used ≡ t.original → ⊥) → Judged p (No 2)
+    pub false_original : {why : Refusal} → length p ≤ got.next → (s.used ≡ t.original → ⊥) → why ≡ BadLine 2 → Judged p (Err why)
     unfolding finish
-    false_original g n = record { says = summed g ∙ rw (ne_eqb (kept j.items + dropped j.items) j.head.original (λ z. n (j.holds.used ∙ z ∙ sym j.original))) }
+    false_original g n f = record { says = (2, f, summed g ∙ rw (ne_eqb (kept j.items + dropped j.items) j.head.original (λ z. n (j.holds.used ∙ z ∙ sym j.original)))) }
 
-    pub false_result : length p ≤ k → s.used ≡ t.original → (s.kept + s.added ≡ t.result → ⊥) → Judged p (No 3)
+    pub false_result : {why : Refusal} → length p ≤ got.next → s.used ≡ t.original → (s.kept + s.added ≡ t.result → ⊥) → why ≡ BadLine 3 → Judged p (Err why)
     unfolding finish
-    false_result g a n = record {
-      says =
-          summed g
-          ∙ rw (eq-eqb (kept j.items + dropped j.items) j.head.original (sym j.holds.used ∙ a ∙ j.original), ne_eqb (kept j.items + added j.items) j.head.result (λ z. n (omega (arith, j.holds.keeps, j.holds.text, j.result, j.within.used, j.within.keeps, j.within.text))));
+    false_result g a n f = record {
+      says = (
+        3,
+        f,
+        summed g
+            ∙ rw (eq-eqb (kept j.items + dropped j.items) j.head.original (sym j.holds.used ∙ a ∙ j.original), ne_eqb (kept j.items + added j.items) j.head.result (λ z. n (omega (arith, j.holds.keeps, j.holds.text, j.result, j.within.used, j.within.keeps, j.within.text)))),
+      );
     }
 
-    pub accepts : length p ≤ k → s.used ≡ t.original → s.kept + s.added ≡ t.result → Judged p (Yes t.count s.added s.used t.next)
+    pub accepts : length p ≤ got.next → s.used ≡ t.original → s.kept + s.added ≡ t.result → Judged p (Ok (record { items = t.count; text = s.added; original = s.used; first = t.next }))
     unfolding finish
     accepts g a b =
         let f : read_file p ≡ Accepted j.items =
@@ -158,22 +162,22 @@ module _ {p : List ℕ} {t : Header} {s : Sums} (j : Judging p t s t.count) wher
         record { says = (j.items, j.head, f, sym j.many, j.holds.text, j.holds.used, sym all_read, sym j.first ∙ f) }
 
 -- a header's bad line is the file's
-pub bad_header : {p : List ℕ} {l : ℕ} → HeadRead p (BadHead l) → Judged p (No l)
+pub bad_header : {p : List ℕ} {e : Refusal} → HeadRead p (Err e) → Judged p (Err e)
 bad_header r = record { says = r.says }
 
 -- what a verdict says of the answers
-pub lengths_yes : {p : List ℕ} {n m o f : ℕ} → Judged p (Yes n m o f) → Counts n m ≡ lengths_of (read_file p)
+pub lengths_yes : {p : List ℕ} {a : Counted} → Judged p (Ok a) → Ok (record { items = a.items; text = a.text }) ≡ lengths_of (read_file p)
 unfolding lengths_of
 lengths_yes r = rw (r.says.2, r.says.3, r.says.4, texts_length r.says.0)
 
-pub lengths_no : {p : List ℕ} {l : ℕ} → Judged p (No l) → NoFile (BadLine l) ≡ lengths_of (read_file p)
+pub lengths_no : {p : List ℕ} {e : Refusal} → Judged p (Err e) → Err e ≡ lengths_of (read_file p)
 unfolding lengths_of
-lengths_no r = rw r.says
+lengths_no r = rw (r.says.2, r.says.1)
 
-pub believes_yes : {p : List ℕ} {n m o f : ℕ} (k : ℕ) → Judged p (Yes n m o f) → eqb o k ≡ believes (read_file p) k
+pub believes_yes : {p : List ℕ} {a : Counted} (k : ℕ) → Judged p (Ok a) → eqb a.original k ≡ believes (read_file p) k
 unfolding believes
 believes_yes k r = rw (r.says.2, r.says.5)
 
-pub believes_no : {p : List ℕ} {l : ℕ} (k : ℕ) → Judged p (No l) → false ≡ believes (read_file p) k
+pub believes_no : {p : List ℕ} {e : Refusal} (k : ℕ) → Judged p (Err e) → false ≡ believes (read_file p) k
 unfolding believes
-believes_no k r = rw r.says
+believes_no k r = rw r.says.2

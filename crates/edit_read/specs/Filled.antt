@@ -9,7 +9,6 @@ use Rattle.edit_format.specs.Reading.{Kind, State, kind_key, key, gap, item, add
 use Rattle.edit_format.specs.Records.{record_of, records_of, size}
 use Rattle.edit_lines.specs.Scan.{Closes}
 use Rattle.edit_read.specs.declared.Spot.{Spot}
-use Rattle.edit_read.specs.declared.Spot.TheVariants.{Good as GoodSpot, Bad as BadSpot}
 
 -- from a place on, what is left of the bytes is accepted in the state that stands there, with text that fits a room of m
 pub record Accepting (st : Head → List Item → State) (p : List ℕ) (at start m : ℕ) : Type 0 where
@@ -21,16 +20,14 @@ pub record Accepting (st : Head → List Item → State) (p : List ℕ) (at star
   pub text : added items ≤ m
   pub left : found (st head done) (drop at p) ≡ Accepted items
 
--- a line of an accepted file is never bad
+-- the code points of an add line, and where the file goes on
 abbrev pub PointsIn : Head → List Item → List Item → List ℕ → ℕ → List ℕ → List ℕ → Spot → Type 0
-PointsIn h is js p start d d' (GoodSpot e j) =
-    (cs : List ℕ) × (e ≡ start + length cs) × (d' ≡ placed d start cs) × (found (opened h (is ++ Add cs ∷ [])) (drop j p) ≡ Accepted js)
-PointsIn h is js p start d d' BadSpot = ⊥
+PointsIn h is js p start d d' r =
+    (cs : List ℕ) × (r.start ≡ start + length cs) × (d' ≡ placed d start cs) × (found (opened h (is ++ Add cs ∷ [])) (drop r.next p) ≡ Accepted js)
 
 -- the text goes on within its room, no earlier than it began
 abbrev pub SpotIn : ℕ → ℕ → Spot → Type 0
-SpotIn start n (GoodSpot e j) = (start ≤ e) × (e ≤ n)
-SpotIn start n BadSpot = Unit {0}
+SpotIn start n r = (start ≤ r.start) × (r.start ≤ n)
 
 -- the statement of `put_points`: of whatever header and items stand before
 pub record PointsPut (p : List ℕ) (at start : ℕ) (d d' : List ℕ) (r : Spot) : Type 0 where
@@ -46,10 +43,9 @@ pub record Numbered (k : Kind) (p : List ℕ) (at : ℕ) : Type 0 where
 
 -- a keep or a drop uses no text
 abbrev pub NumberIn : Head → List Item → List Item → List ℕ → ℕ → ℕ → List ℤ → List ℤ → Spot → Type 0
-NumberIn h is js p start place d d' (GoodSpot e j) =
-    (x : Item) × (e ≡ start) × (size x ≡ 0) × (texts (x ∷ []) ≡ []) × (d' ≡ placed d place (record_of start x))
-    × (found (opened h (is ++ x ∷ [])) (drop j p) ≡ Accepted js)
-NumberIn h is js p start place d d' BadSpot = ⊥
+NumberIn h is js p start place d d' r =
+    (x : Item) × (r.start ≡ start) × (size x ≡ 0) × (texts (x ∷ []) ≡ []) × (d' ≡ placed d place (record_of start x))
+    × (found (opened h (is ++ x ∷ [])) (drop r.next p) ≡ Accepted js)
 
 -- the statement of a keep or a drop
 pub record NumberPut (p : List ℕ) (k : Kind) (at start place : ℕ) (d d' : List ℤ) (r : Spot) : Type 0 where
@@ -59,10 +55,9 @@ pub record NumberPut (p : List ℕ) (k : Kind) (at start place : ℕ) (d d' : Li
 
 -- one item in both rooms
 abbrev pub ItemIn : Head → List Item → List Item → List ℕ → ℕ → ℕ → List ℤ → List ℤ → List ℕ → List ℕ → Spot → Type 0
-ItemIn h is js p start place d d' e e' (GoodSpot s j) =
-    (x : Item) × (s ≡ start + size x) × (d' ≡ placed d place (record_of start x)) × (e' ≡ placed e start (texts (x ∷ [])))
-    × (found (opened h (is ++ x ∷ [])) (drop j p) ≡ Accepted js)
-ItemIn h is js p start place d d' e e' BadSpot = ⊥
+ItemIn h is js p start place d d' e e' r =
+    (x : Item) × (r.start ≡ start + size x) × (d' ≡ placed d place (record_of start x)) × (e' ≡ placed e start (texts (x ∷ [])))
+    × (found (opened h (is ++ x ∷ [])) (drop r.next p) ≡ Accepted js)
 
 -- the statement of an item
 pub record ItemPut (st : Head → List Item → State) (p : List ℕ) (at start place : ℕ) (d d' : List ℤ) (e e' : List ℕ) (r : Spot) : Type 0 where

@@ -1,45 +1,56 @@
 -- What the reader knows between two lines: the code's numbers, and the items that they stand for. Each record says that what is left of the
 -- bytes still decides what the whole file is found to be. Assumes nothing.
-use Rattle.std.specs.Prelude.{◌≡◌, ℕ, ◌+◌, ◌≤◌, ◌<◌, List, [], ◌∷◌, ◌++◌, length, drop}
+use Rattle.std.specs.Prelude.{◌≡◌, ℕ, ◌+◌, ◌≤◌, ◌<◌, Bool, true, false, ⊤, List, [], ◌∷◌, ◌++◌, length, drop, Option, Some, None, Result, Ok, Err}
+use Rattle.refusal.specs.declared.Refusal.{Refusal}
+use Rattle.refusal.specs.declared.Refusal.TheVariants.{Line}
 use Rattle.edit_format.specs.Items.{Item, Add, kept, dropped, added, ends_keep}
 use Rattle.edit_format.specs.Written.{Head}
-use Rattle.edit_format.specs.Reading.{State, gap, item, adding, opened, Accepted, Refused, found, read_file}
-use Rattle.edit_lines.specs.Scan.{cap}
+use Rattle.edit_format.specs.Reading.{Kind, State, gap, item, keeping, dropping, adding, opened, Accepted, Refused, found, read_file}
+use Rattle.edit_lines.specs.declared.Number.{Number}
+use Rattle.edit_lines.specs.Scan.{cap, line_at}
 use Rattle.edit_read.specs.declared.Header.{Header}
-use Rattle.edit_read.specs.declared.Heading.{Heading}
-use Rattle.edit_read.specs.declared.Heading.TheVariants.{Good as GoodHead, Bad as BadHead}
 use Rattle.edit_read.specs.declared.Points.{Points}
-use Rattle.edit_read.specs.declared.Points.TheVariants.{Good as GoodPoints, Bad as BadPoints}
 use Rattle.edit_read.specs.declared.Sums.{Sums}
-use Rattle.edit_read.specs.declared.Turn.{Turn}
-use Rattle.edit_read.specs.declared.Turn.TheVariants.{Good as GoodItem, Bad as BadItem}
-use Rattle.edit_read.specs.declared.Verdict.{Verdict}
-use Rattle.edit_read.specs.declared.Verdict.TheVariants.{Accepted as Yes, Refused as No}
+use Rattle.edit_read.specs.declared.Accepted.{Accepted as Counted}
+
+-- the number of a line, or the line is refused
+abbrev pub NumberRead : List ℕ → List ℕ → ℕ → ℕ → Result Number Refusal → Type 0
+NumberRead k p at l (Ok n) = line_at k p at ≡ Some n
+NumberRead k p at l (Err e) = (line_at k p at ≡ None) × (e ≡ Line l)
+
+-- a rule of a line holds, or the line is refused
+abbrev pub Ruled : Bool → ℕ → Result ⊤ Refusal → Type 0
+Ruled b l (Ok u) = b ≡ true
+Ruled b l (Err e) = (b ≡ false) × (e ≡ Line l)
+
+-- the refusal of the file's first bad line
+abbrev pub Refuses : List ℕ → Refusal → Type 0
+Refuses p e = (l : ℕ) × (e ≡ Line l) × (read_file p ≡ Refused l)
 
 -- a good header, or its first bad line
-abbrev pub HeadFound : List ℕ → Heading → Type 0
-HeadFound p (GoodHead t) =
+abbrev pub HeadFound : List ℕ → Result Header Refusal → Type 0
+HeadFound p (Ok t) =
     (h : Head) × (t.original ≡ h.original) × (t.result ≡ cap h.result) × (t.count ≡ h.count) × (h.count ≤ 8192) × (t.next ≤ length p)
     × (read_file p ≡ found (opened h []) (drop t.next p))
-HeadFound p (BadHead l) = read_file p ≡ Refused l
+HeadFound p (Err e) = Refuses p e
 
 -- the statement of the header's reader
-pub record HeadRead (p : List ℕ) (r : Heading) : Type 0 where
+pub record HeadRead (p : List ℕ) (r : Result Header Refusal) : Type 0 where
   pub says : HeadFound p r
 
 -- the code points of an add line from place at on, after items whose text is a code points long
-abbrev pub PointsFound : Head → List Item → List ℕ → ℕ → ℕ → Points → Type 0
-PointsFound h is p at a (GoodPoints n j) =
-    (cs : List ℕ) × (length cs ≡ n) × (found (gap (item h is adding) []) (drop at p) ≡ found (opened h (is ++ Add cs ∷ [])) (drop j p))
-PointsFound h is p at a BadPoints = found (gap (item h is adding) []) (drop at p) ≡ Refused (length is + 5)
+abbrev pub PointsFound : Head → List Item → List ℕ → ℕ → ℕ → Option Points → Type 0
+PointsFound h is p at a (Some t) =
+    (cs : List ℕ) × (length cs ≡ t.count) × (found (gap (item h is adding) []) (drop at p) ≡ found (opened h (is ++ Add cs ∷ [])) (drop t.next p))
+PointsFound h is p at a None = found (gap (item h is adding) []) (drop at p) ≡ Refused (length is + 5)
 
 -- their number fits, and the place behind them lies in the bytes
-abbrev pub PointsFit : List ℕ → ℕ → Points → Type 0
-PointsFit p a (GoodPoints n j) = (a + n ≤ 131070) × (j ≤ length p)
-PointsFit p a BadPoints = Unit {0}
+abbrev pub PointsFit : List ℕ → ℕ → Option Points → Type 0
+PointsFit p a (Some t) = (a + t.count ≤ 131070) × (t.next ≤ length p)
+PointsFit p a None = Unit {0}
 
 -- the statement of the reader of code points: of whatever header and items stand before
-pub record PointsRead (p : List ℕ) (at a : ℕ) (r : Points) : Type 0 where
+pub record PointsRead (p : List ℕ) (at a : ℕ) (r : Option Points) : Type 0 where
   pub fit : PointsFit p a r
   pub says : (h : Head) (is : List Item) → added is ≡ a → length is < 8192 → PointsFound h is p at a r
 
@@ -57,14 +68,19 @@ pub record Within (p : List ℕ) (s : Sums) : Type 0 where
   pub keeps : s.kept ≤ s.used
   pub text : s.added ≤ 131070
 
+-- a keep's line, or a drop's
+abbrev pub part_kind : Bool → Kind
+part_kind true = keeping
+part_kind false = dropping
+
 -- one item more, or a bad line
-abbrev pub ItemFound : State → Head → List Item → List ℕ → Sums → Turn → Type 0
-ItemFound st h is p s (GoodItem t) =
+abbrev pub ItemFound : State → Head → List Item → List ℕ → Sums → Option Sums → Type 0
+ItemFound st h is p s (Some t) =
     (x : Item) × Holds t (is ++ x ∷ []) × Within p t × (found st (drop s.next p) ≡ found (opened h (is ++ x ∷ [])) (drop t.next p))
-ItemFound st h is p s BadItem = found st (drop s.next p) ≡ Refused (length is + 5)
+ItemFound st h is p s None = found st (drop s.next p) ≡ Refused (length is + 5)
 
 -- the statement of the reader of an item
-pub record ItemRead (st : Head → List Item → State) (p : List ℕ) (s : Sums) (r : Turn) : Type 0 where
+pub record ItemRead (st : Head → List Item → State) (p : List ℕ) (s : Sums) (r : Option Sums) : Type 0 where
   pub says : (h : Head) (is : List Item) → Holds s is → length is < 8192 → ItemFound (st h is) h is p s r
 
 -- after i of the items that the header t counts
@@ -83,12 +99,12 @@ pub record Judging (p : List ℕ) (t : Header) (s : Sums) (i : ℕ) : Type 0 whe
   pub left : read_file p ≡ found (opened head items) (drop s.next p)
 
 -- what is found in all of the bytes, and where the first item's line begins
-abbrev pub Verdicts : List ℕ → Verdict → Type 0
-Verdicts p (Yes n m o f) =
-    (is : List Item) × (h : Head) × (read_file p ≡ Accepted is) × (n ≡ length is) × (m ≡ added is) × (o ≡ kept is + dropped is)
-    × (h.count ≡ length is) × (found (opened h []) (drop f p) ≡ Accepted is)
-Verdicts p (No l) = read_file p ≡ Refused l
+abbrev pub Verdicts : List ℕ → Result Counted Refusal → Type 0
+Verdicts p (Ok a) =
+    (is : List Item) × (h : Head) × (read_file p ≡ Accepted is) × (a.items ≡ length is) × (a.text ≡ added is) × (a.original ≡ kept is + dropped is)
+    × (h.count ≡ length is) × (found (opened h []) (drop a.first p) ≡ Accepted is)
+Verdicts p (Err e) = Refuses p e
 
 -- the statement of the judge
-pub record Judged (p : List ℕ) (r : Verdict) : Type 0 where
+pub record Judged (p : List ℕ) (r : Result Counted Refusal) : Type 0 where
   pub says : Verdicts p r

@@ -6,20 +6,20 @@ ghost use Rattle.std.specs.Prelude.{◌≡◌, List, [], ◌+◌, ◌*◌, ◌�
 ghost use Rattle.room.specs.Placed.{answered};
 ghost use Rattle.edit_format.specs.Items.{Item};
 ghost use Rattle.edit_format.specs.Written.{Head};
-ghost use Rattle.edit_format.specs.Reading.{key, gap, item, keeping, dropping, adding, open', read_file, believes};
-ghost use Rattle.edit_read.specs.Judged.{HeadRead, PointsRead, Within, ItemRead, Judging, Judged};
+ghost use Rattle.edit_format.specs.Reading.{kind_key, key, gap, item, adding, open', read_file, believes};
+ghost use Rattle.edit_read.specs.Judged.{NumberRead, Ruled, HeadRead, PointsRead, Within, part_kind, ItemRead, Judging, Judged};
 ghost use Rattle.edit_read.specs.Filled.{records_found, text_found, PointsPut, Numbered, NumberPut, ItemPut, Accepting, Fillable};
 ghost use Rattle.edit_read.specs.Answer.{lengths_of, ReadInto};
 
 use edit_lines::{Number, Point};
-use item_records::{dropped_number, plain_number, put_record};
+use item_records::{Counts, dropped_number, plain_number, put_record};
 use refusal::Refusal;
 
 // How many code points an add line has, and the place after it.
 #[derive(Clone, Copy)]
-pub enum Points {
-    Good { count: u32, next: usize },
-    Bad,
+pub struct Points {
+    pub count: u32,
+    pub next: usize,
 }
 
 // What the header says, and the place after it.
@@ -29,13 +29,6 @@ pub struct Header {
     pub result: u32,
     pub count: u32,
     pub next: usize,
-}
-
-#[derive(Clone, Copy)]
-pub enum Heading {
-    Good(Header),
-    // The first bad line.
-    Bad(usize),
 }
 
 // The items so far: what they use of the original, what of it they keep, what they add, whether the last is a keep; and the place after
@@ -49,250 +42,165 @@ pub struct Sums {
     pub joined: bool,
 }
 
-#[derive(Clone, Copy)]
-pub enum Turn {
-    Good(Sums),
-    Bad,
-}
-
 // A file's next place in the text's room, and the place of its next line.
 #[derive(Clone, Copy)]
-pub enum Spot {
-    Good { start: usize, next: usize },
-    Bad,
+pub struct Spot {
+    pub start: usize,
+    pub next: usize,
 }
 
+// How many items, with how many code points; the original's length; the place of the first item's line.
 #[derive(Clone, Copy)]
-pub enum Verdict {
-    // How many items, with how many code points; the original's length; the place of the first item's line.
-    Accepted {
-        items: usize,
-        text: usize,
-        original: usize,
-        first: usize,
-    },
-    Refused {
-        line: usize,
-    },
+pub struct Accepted {
+    pub items: usize,
+    pub text: usize,
+    pub original: usize,
+    pub first: usize,
 }
 
-// How many items and how many code points a file has.
-#[derive(Clone, Copy)]
-pub enum FileRead {
-    Counts { items: usize, text: usize },
-    Refused(Refusal),
+// The number of a line, or the line is bad.
+fn number_in(bytes: &[u8], at: usize, key: &[u8], line: usize) -> Result<Number, Refusal>
+    requires { at ≤ length bytes.now }
+    ensures { NumberRead key.now bytes.now at line result }
+{
+    edit_lines::number_line(bytes, at, key).ok_or(Refusal::Line { line })
+}
+
+// A rule of a line.
+fn check(holds: bool, line: usize) -> Result<(), Refusal>
+    ensures { Ruled holds line result }
+{
+    if holds {
+        Ok(())
+    } else {
+        Err(Refusal::Line { line })
+    }
 }
 
 // The code points of an add line, after items that add so many: the text's size is tested before each.
-fn points_at(bytes: &[u8], at: usize, added: u32) -> Points
+fn points_at(bytes: &[u8], at: usize, added: u32) -> Option<Points>
     requires { (at ≤ length bytes.now) × (added ≤ 131070) }
     ensures { PointsRead bytes.now at added result }
 {
-    let mut count = 0;
     let mut i = at;
-    'points: while added + count < 131070 {
-        match edit_lines::point_at(bytes, i) {
-            Point::More { point: _, next } => {
-                count += 1;
-                i = next;
-            }
+    'points: for count in 0..131070 - added {
+        match edit_lines::point_at(bytes, i)? {
+            Point::More { point: _, next } => i = next,
             Point::Last { point: _, next } => {
-                return Points::Good {
+                return Some(Points {
                     count: count + 1,
                     next,
-                };
-            }
-            Point::Bad => {
-                return Points::Bad;
+                });
             }
         }
     }
-    Points::Bad
+    None
 }
 
-// One item line of each kind, after the items so far.
-fn keep_line(bytes: &[u8], s: Sums) -> Turn
-    requires { Within bytes.now s }
-    ensures { ItemRead (λ (h : Head). λ (is : List Item). key (item h is keeping) 0) bytes.now s result }
+// The key of a keep's line or of a drop's.
+#[tactic(auto, unfolding(crate::specs::Judged::part_kind, edit_format::specs::Reading::kind_key))]
+fn part_key(keep: bool) -> &'static [u8]
+    ensures { result.now ≡ kind_key (part_kind keep) }
 {
-    let at = s.next;
-    let used = s.used;
-    let joined = s.joined;
-    match edit_lines::number_line(bytes, at, b"keep=") {
-        Number::Value { value, next } => {
-            if joined {
-                return Turn::Bad;
-            }
-            if value < 1 {
-                return Turn::Bad;
-            }
-            if 65535 - used < value {
-                return Turn::Bad;
-            }
-            Turn::Good(Sums {
-                next,
-                used: used + value,
-                kept: s.kept + value,
-                added: s.added,
-                joined: true,
-            })
-        }
-        Number::Bad => Turn::Bad,
-    }
+    if keep { b"keep=" } else { b"drop=" }
 }
 
-fn drop_line(bytes: &[u8], s: Sums) -> Turn
+// A line of a keep or a drop, after the items so far. Laid out for each of the two, whose keys are known there.
+#[inline(always)]
+fn part_line(bytes: &[u8], s: Sums, keep: bool) -> Option<Sums>
     requires { Within bytes.now s }
-    ensures { ItemRead (λ (h : Head). λ (is : List Item). key (item h is dropping) 0) bytes.now s result }
+    ensures { ItemRead (λ (h : Head). λ (is : List Item). key (item h is (part_kind keep)) 0) bytes.now s result }
 {
-    let at = s.next;
-    let used = s.used;
-    match edit_lines::number_line(bytes, at, b"drop=") {
-        Number::Value { value, next } => {
-            if value < 1 {
-                return Turn::Bad;
-            }
-            if 65535 - used < value {
-                return Turn::Bad;
-            }
-            Turn::Good(Sums {
-                next,
-                used: used + value,
-                kept: s.kept,
-                added: s.added,
-                joined: false,
-            })
-        }
-        Number::Bad => Turn::Bad,
+    let Number { value, next } = edit_lines::number_line(bytes, s.next, part_key(keep))?;
+    if keep && s.joined {
+        return None;
     }
+    if value < 1 || 65535 - s.used < value {
+        return None;
+    }
+    let kept = if keep { value } else { 0 };
+    Some(Sums {
+        next,
+        used: s.used + value,
+        kept: s.kept + kept,
+        joined: keep,
+        ..s
+    })
 }
 
-fn add_line(bytes: &[u8], s: Sums) -> Turn
+// A line of code points, after the items so far.
+fn add_line(bytes: &[u8], s: Sums) -> Option<Sums>
     requires { Within bytes.now s }
     ensures { ItemRead (λ (h : Head). λ (is : List Item). key (item h is adding) 0) bytes.now s result }
 {
-    let at = s.next;
-    let added = s.added;
-    if edit_lines::has_key(bytes, at, b"add=") {
-        match points_at(bytes, at + 4, added) {
-            Points::Good { count, next } => {
-                return Turn::Good(Sums {
-                    next,
-                    used: s.used,
-                    kept: s.kept,
-                    added: added + count,
-                    joined: false,
-                });
-            }
-            Points::Bad => {
-                return Turn::Bad;
-            }
-        }
+    if !edit_lines::has_key(bytes, s.next, b"add=") {
+        return None;
     }
-    Turn::Bad
+    let Points { count, next } = points_at(bytes, s.next + 4, s.added)?;
+    Some(Sums {
+        next,
+        added: s.added + count,
+        joined: false,
+        ..s
+    })
 }
 
 // The next item line: its first byte says which kind it can be.
-fn item_line(bytes: &[u8], s: Sums) -> Turn
+fn item_line(bytes: &[u8], s: Sums) -> Option<Sums>
     requires { Within bytes.now s }
     ensures { ItemRead open' bytes.now s result }
 {
-    let at = s.next;
-    if bytes.len() <= at {
-        return Turn::Bad;
+    match *bytes.get(s.next)? {
+        b'k' => part_line(bytes, s, true),
+        b'd' => part_line(bytes, s, false),
+        _ => add_line(bytes, s),
     }
-    let b = bytes[at];
-    if b == b'k' {
-        return keep_line(bytes, s);
-    }
-    if b == b'd' {
-        return drop_line(bytes, s);
-    }
-    add_line(bytes, s)
 }
 
 // Lines 1 to 4.
-fn read_header(bytes: &[u8]) -> Heading
+fn read_header(bytes: &[u8]) -> Result<Header, Refusal>
     ensures { HeadRead bytes.now result }
 {
-    let Number::Value {
-        value: form,
-        next: second,
-    } = edit_lines::number_line(bytes, 0, b"form=")
-    else {
-        return Heading::Bad(1);
-    };
-    if form != 1 {
-        return Heading::Bad(1);
-    }
-    let Number::Value {
-        value: original,
-        next: third,
-    } = edit_lines::number_line(bytes, second, b"original=")
-    else {
-        return Heading::Bad(2);
-    };
-    if 65535 < original {
-        return Heading::Bad(2);
-    }
-    let Number::Value {
-        value: result,
-        next: fourth,
-    } = edit_lines::number_line(bytes, third, b"result=")
-    else {
-        return Heading::Bad(3);
-    };
-    let Number::Value { value: count, next } = edit_lines::number_line(bytes, fourth, b"items=")
-    else {
-        return Heading::Bad(4);
-    };
-    if 8192 < count {
-        return Heading::Bad(4);
-    }
-    Heading::Good(Header {
-        original,
-        result,
-        count,
-        next,
+    let form = number_in(bytes, 0, b"form=", 1)?;
+    check(form.value == 1, 1)?;
+    let original = number_in(bytes, form.next, b"original=", 2)?;
+    check(original.value <= 65535, 2)?;
+    let result = number_in(bytes, original.next, b"result=", 3)?;
+    let items = number_in(bytes, result.next, b"items=", 4)?;
+    check(items.value <= 8192, 4)?;
+    Ok(Header {
+        original: original.value,
+        result: result.value,
+        count: items.value,
+        next: items.next,
     })
 }
 
 // The end line after all items, nothing after it, and the sums.
-fn judge_end(bytes: &[u8], h: Header, s: Sums) -> Verdict
+fn judge_end(bytes: &[u8], h: Header, s: Sums) -> Result<Accepted, Refusal>
     requires { Judging bytes.now h s h.count }
     ensures { Judged bytes.now result }
 {
-    let at = s.next;
     let items = h.count as usize;
-    let Number::Value { value, next } = edit_lines::number_line(bytes, at, b"end=") else {
-        return Verdict::Refused { line: items + 5 };
-    };
-    if value != h.count {
-        return Verdict::Refused { line: items + 5 };
-    }
-    if next < bytes.len() {
-        return Verdict::Refused { line: items + 6 };
-    }
-    if s.used != h.original {
-        return Verdict::Refused { line: 2 };
-    }
-    if s.kept + s.added != h.result {
-        return Verdict::Refused { line: 3 };
-    }
-    Verdict::Accepted {
+    let end = number_in(bytes, s.next, b"end=", items + 5)?;
+    check(end.value == h.count, items + 5)?;
+    check(bytes.len() <= end.next, items + 6)?;
+    check(s.used == h.original, 2)?;
+    check(s.kept + s.added == h.result, 3)?;
+    Ok(Accepted {
         items,
         text: s.added as usize,
         original: s.used as usize,
         first: h.next,
-    }
+    })
 }
 
 // The item lines after a good header.
-fn judge_items(bytes: &[u8], h: Header) -> Verdict
-    requires { HeadRead bytes.now (Heading.Good h) }
+#[tactic(auto, using(crate::proofs::Judging::begins, crate::proofs::Judging::goes_on, crate::proofs::Judging::fails, crate::proofs::Judging::whole))]
+fn judge_items(bytes: &[u8], h: Header) -> Result<Accepted, Refusal>
+    requires { HeadRead bytes.now (Ok h) }
     ensures { Judged bytes.now result }
 {
-    let count = h.count as usize;
     let mut s = Sums {
         next: h.next,
         used: 0,
@@ -300,44 +208,29 @@ fn judge_items(bytes: &[u8], h: Header) -> Verdict
         added: 0,
         joined: false,
     };
-    let mut i: usize = 0;
-    'items: while i < count {
-        match item_line(bytes, s) {
-            Turn::Good(t) => {
-                s = t;
-                i += 1;
-            }
-            Turn::Bad => {
-                return Verdict::Refused { line: i + 5 };
-            }
-        }
+    'items: for i in 0..h.count as usize {
+        s = item_line(bytes, s).ok_or(Refusal::Line { line: i + 5 })?;
     }
     judge_end(bytes, h, s)
 }
 
 // What reading all of the bytes finds.
-pub fn judge(bytes: &[u8]) -> Verdict
+#[tactic(auto, using(crate::proofs::Judging::bad_header))]
+pub fn judge(bytes: &[u8]) -> Result<Accepted, Refusal>
     ensures { Judged bytes.now result }
 {
-    match read_header(bytes) {
-        Heading::Good(h) => judge_items(bytes, h),
-        Heading::Bad(line) => Verdict::Refused { line },
-    }
+    judge_items(bytes, read_header(bytes)?)
 }
 
 // How many items and code points a file has: what its reader must be lent.
-pub fn read_lengths(bytes: &[u8]) -> FileRead
+pub fn read_lengths(bytes: &[u8]) -> Result<Counts, Refusal>
     ensures { result ≡ lengths_of (read_file bytes.now) }
 {
-    match judge(bytes) {
-        Verdict::Accepted {
-            items,
-            text,
-            original: _,
-            first: _,
-        } => FileRead::Counts { items, text },
-        Verdict::Refused { line } => FileRead::Refused(Refusal::Line { line }),
-    }
+    let file = judge(bytes)?;
+    Ok(Counts {
+        items: file.items,
+        text: file.text,
+    })
 }
 
 // Whether a file is believed for an original of this length.
@@ -345,161 +238,115 @@ pub fn believed(bytes: &[u8], original: usize) -> bool
     ensures { result ≡ believes (read_file bytes.now) original }
 {
     match judge(bytes) {
-        Verdict::Accepted {
-            items: _,
-            text: _,
-            original: counted,
-            first: _,
-        } => counted == original,
-        Verdict::Refused { line: _ } => false,
+        Ok(file) => file.original == original,
+        Err(_) => false,
     }
 }
 
-// The code points of an add line into the text's room, from a place on. All was judged, so that no digit is tested again.
-fn put_points(bytes: &[u8], at: usize, text: &mut [u32], start: usize) -> Spot
-    requires { (start ≤ length text.old) × Accepting (λ (h : Head). λ (is : List Item). gap (item h is adding) []) bytes.now at start (length text.old) }
-    ensures { PointsPut bytes.now at start text.old text.new result }
+// The code points of an add line into the text's room, from a place on. All was judged, so that no digit is tested again, and neither is
+// the room.
+fn put_points(bytes: &[u8], from: Spot, text: &mut [u32]) -> Spot
+    requires { (from.start ≤ length text.old) × Accepting (λ (h : Head). λ (is : List Item). gap (item h is adding) []) bytes.now from.next from.start (length text.old) }
+    ensures { PointsPut bytes.now from.next from.start text.old text.new result }
 {
-    let mut i = at;
-    let mut place = start;
-    'points: while place < text.len() {
-        match edit_lines::judged_at(bytes, i) {
+    let mut start = from.start;
+    let mut at = from.next;
+    // Kept so: a `for` over the room is no plainer, since the line's end alone ends it and the room's end would need an answer.
+    'points: loop {
+        match edit_lines::judged_at(bytes, at) {
             Point::More { point, next } => {
-                text[place] = point;
-                place += 1;
-                i = next;
+                text[start] = point;
+                start += 1;
+                at = next;
             }
             Point::Last { point, next } => {
-                text[place] = point;
-                return Spot::Good {
-                    start: place + 1,
+                text[start] = point;
+                return Spot {
+                    start: start + 1,
                     next,
                 };
             }
-            Point::Bad => {
-                return Spot::Bad;
-            }
         }
     }
-    Spot::Bad
 }
 
-// One item line of each kind into the rooms. All was judged, so that neither key nor number is tested again.
-fn put_keep(bytes: &[u8], at: usize, items: &mut [i64], place: usize, start: usize) -> Spot
-    requires { (place + 3 ≤ length items.old) × Numbered keeping bytes.now at }
-    ensures { NumberPut bytes.now keeping at start place items.old items.new result }
+// A keep or a drop into the rooms. All was judged, so that neither key nor number is tested again.
+fn put_part(bytes: &[u8], from: Spot, keep: bool, items: &mut [i64], place: usize) -> Spot
+    requires { (place + 3 ≤ length items.old) × Numbered (part_kind keep) bytes.now from.next }
+    ensures { NumberPut bytes.now (part_kind keep) from.next from.start place items.old items.new result }
 {
-    let line = edit_lines::judged_line(bytes, at + 5);
-    let next = line.next;
+    let line = edit_lines::judged_line(bytes, from.next + 5);
     let n = line.value as usize;
-    put_record(items, place, 0, plain_number(n), 0);
-    Spot::Good { start, next }
-}
-
-fn put_drop(bytes: &[u8], at: usize, items: &mut [i64], place: usize, start: usize) -> Spot
-    requires { (place + 3 ≤ length items.old) × Numbered dropping bytes.now at }
-    ensures { NumberPut bytes.now dropping at start place items.old items.new result }
-{
-    let line = edit_lines::judged_line(bytes, at + 5);
-    let next = line.next;
-    let n = line.value as usize;
-    put_record(items, place, 0, dropped_number(n), 0);
-    Spot::Good { start, next }
-}
-
-fn put_add(
-    bytes: &[u8],
-    at: usize,
-    items: &mut [i64],
-    place: usize,
-    text: &mut [u32],
-    start: usize,
-) -> Spot
-    requires { (place + 3 ≤ length items.old) × (start ≤ length text.old) × Accepting (λ (h : Head). λ (is : List Item). key (item h is adding) 0) bytes.now at start (length text.old) }
-    ensures { ItemPut (λ (h : Head). λ (is : List Item). key (item h is adding) 0) bytes.now at start place items.old items.new text.old text.new result }
-{
-    match put_points(bytes, at + 4, text, start) {
-        Spot::Good { start: end, next } => {
-            put_record(
-                items,
-                place,
-                1,
-                plain_number(start),
-                plain_number(end - start),
-            );
-            Spot::Good { start: end, next }
-        }
-        Spot::Bad => Spot::Bad,
+    let number = if keep {
+        plain_number(n)
+    } else {
+        dropped_number(n)
+    };
+    put_record(items, place, 0, number, 0);
+    Spot {
+        next: line.next,
+        ..from
     }
+}
+
+// An add line into the rooms.
+fn put_add(bytes: &[u8], from: Spot, items: &mut [i64], place: usize, text: &mut [u32]) -> Spot
+    requires { (place + 3 ≤ length items.old) × (from.start ≤ length text.old) × Accepting (λ (h : Head). λ (is : List Item). key (item h is adding) 0) bytes.now from.next from.start (length text.old) }
+    ensures { ItemPut (λ (h : Head). λ (is : List Item). key (item h is adding) 0) bytes.now from.next from.start place items.old items.new text.old text.new result }
+{
+    let start = from.start;
+    let behind_key = Spot {
+        next: from.next + 4,
+        ..from
+    };
+    let end = put_points(bytes, behind_key, text);
+    put_record(
+        items,
+        place,
+        1,
+        plain_number(start),
+        plain_number(end.start - start),
+    );
+    end
 }
 
 // The next item line into the rooms: its first byte says its kind.
-fn put_item(
-    bytes: &[u8],
-    at: usize,
-    items: &mut [i64],
-    place: usize,
-    text: &mut [u32],
-    start: usize,
-) -> Spot
-    requires { (place + 3 ≤ length items.old) × (start ≤ length text.old) × Accepting open' bytes.now at start (length text.old) }
-    ensures { ItemPut open' bytes.now at start place items.old items.new text.old text.new result }
+fn put_item(bytes: &[u8], from: Spot, items: &mut [i64], place: usize, text: &mut [u32]) -> Spot
+    requires { (place + 3 ≤ length items.old) × (from.start ≤ length text.old) × Accepting open' bytes.now from.next from.start (length text.old) }
+    ensures { ItemPut open' bytes.now from.next from.start place items.old items.new text.old text.new result }
 {
-    let b = bytes[at];
-    if b == b'k' {
-        return put_keep(bytes, at, items, place, start);
+    match bytes[from.next] {
+        b'k' => put_part(bytes, from, true, items, place),
+        b'd' => put_part(bytes, from, false, items, place),
+        _ => put_add(bytes, from, items, place, text),
     }
-    if b == b'd' {
-        return put_drop(bytes, at, items, place, start);
-    }
-    put_add(bytes, at, items, place, text, start)
 }
 
 // All items of an accepted file.
-fn fill(bytes: &[u8], first: usize, count: usize, items: &mut [i64], text: &mut [u32])
-    requires { Fillable bytes.now first count (length items.old) (length text.old) }
+fn fill(bytes: &[u8], file: Accepted, items: &mut [i64], text: &mut [u32])
+    requires { Fillable bytes.now file.first file.items (length items.old) (length text.old) }
     ensures { (items.new ≡ answered (records_found (read_file bytes.now)) items.old) × (text.new ≡ answered (text_found (read_file bytes.now)) text.old) }
 {
-    let mut at = first;
-    let mut start: usize = 0;
-    let mut i: usize = 0;
-    'items: while i < count {
-        match put_item(bytes, at, items, i * 3, text, start) {
-            Spot::Good { start: end, next } => {
-                start = end;
-                at = next;
-                i += 1;
-            }
-            Spot::Bad => {
-                return;
-            }
-        }
+    let mut spot = Spot {
+        start: 0,
+        next: file.first,
+    };
+    'items: for i in 0..file.items {
+        spot = put_item(bytes, spot, items, i * 3, text);
     }
 }
 
 // An edit file's items and text into the rooms. All is judged first, so a refusal writes nothing, and 8 comes before 7.
-pub fn read(bytes: &[u8], items: &mut [i64], text: &mut [u32]) -> FileRead
+pub fn read(bytes: &[u8], items: &mut [i64], text: &mut [u32]) -> Result<Counts, Refusal>
     ensures { ReadInto (read_file bytes.now) items.old text.old items.new text.new result }
 {
-    match judge(bytes) {
-        Verdict::Accepted {
-            items: count,
-            text: size,
-            original: _,
-            first,
-        } => {
-            if items.len() / 3 < count {
-                return FileRead::Refused(Refusal::Room);
-            }
-            if text.len() < size {
-                return FileRead::Refused(Refusal::Room);
-            }
-            fill(bytes, first, count, items, text);
-            FileRead::Counts {
-                items: count,
-                text: size,
-            }
-        }
-        Verdict::Refused { line } => FileRead::Refused(Refusal::Line { line }),
+    let file = judge(bytes)?;
+    if items.len() / 3 < file.items || text.len() < file.text {
+        return Err(Refusal::Room);
     }
+    fill(bytes, file, items, text);
+    Ok(Counts {
+        items: file.items,
+        text: file.text,
+    })
 }

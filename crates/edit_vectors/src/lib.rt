@@ -2,46 +2,39 @@
 // said in short lines.
 #![tactic(auto)]
 
-ghost use Rattle.edit_vectors.specs.Cases.{Fits};
-
 mod pieces;
 
 use vectors::Due;
 
-// How much of the rooms a case's file, text and items take, what is due, and the offset behind these lines.
+// A case's file, text and items, what is due, and the offset behind these lines.
 #[derive(Clone, Copy)]
-pub struct Case {
-    pub file: usize,
-    pub text: usize,
-    pub items: usize,
+pub struct Case<'a> {
+    pub file: &'a [u8],
+    pub text: &'a [u32],
+    pub items: &'a [i64],
     pub due: Due,
     pub next: usize,
 }
 
 // The four lines that a case begins with: file, answer, text, items.
-pub fn case_at(
+pub fn case_at<'a>(
     bytes: &[u8],
     at: usize,
-    file: &mut [u8],
-    text: &mut [u32],
-    items: &mut [i64],
-) -> Case
-    ensures { Fits file.new text.new items.new result }
-{
+    file: &'a mut [u8],
+    text: &'a mut [u32],
+    items: &'a mut [i64],
+) -> Case<'a> {
     let file_line = pieces::spread_at(bytes, at, items);
-    let file_count = file_line.count;
-    let file_size = pieces::to_u8(&items[..file_count], file);
+    let file = pieces::converted(file_line.numbers, file);
     let answer = vectors::due_at(bytes, file_line.next);
     let text_line = pieces::spread_at(bytes, answer.next, items);
-    let text_count = text_line.count;
-    let text_size = pieces::to_u32(&items[..text_count], text);
+    let text = pieces::converted(text_line.numbers, text);
     let items_line = pieces::spread_at(bytes, text_line.next, items);
-    let due = answer.due;
     Case {
-        file: file_size,
-        text: text_size,
-        items: items_line.count,
-        due,
+        file,
+        text,
+        items: items_line.numbers,
+        due: answer.due,
         next: items_line.next,
     }
 }

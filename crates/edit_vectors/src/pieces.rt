@@ -1,20 +1,16 @@
 // A line of pieces: how often a piece stands, how many numbers it has, and these. The numbers that it says, in full.
 ghost use Rattle.std.specs.Prelude.{◌≤◌, length};
-ghost use Rattle.vectors.specs.Lines.{Read};
 
-use diff::diff::magnitude;
-use vectors::{Line, as_u8, as_u32};
+use vectors::{FromDecimal, Line};
 
 // The line at an offset, its pieces spread out into the room.
-pub fn spread_at(bytes: &[u8], at: usize, room: &mut [i64]) -> Line
-    ensures { Read bytes.now room.new at result }
-{
+pub fn spread_at<'a>(bytes: &[u8], at: usize, room: &'a mut [i64]) -> Line<'a, i64> {
     let mut line = [0i64; 1024];
-    let read = vectors::numbers_i64(bytes, at, &mut line);
-    let n = read.count;
+    let read = vectors::numbers(bytes, at, &mut line);
     let next = read.next;
+    let count = spread(read.numbers, room);
     Line {
-        count: spread(&line[..n], room),
+        numbers: &room[..count],
         next,
     }
 }
@@ -23,34 +19,15 @@ fn spread(line: &[i64], room: &mut [i64]) -> usize
     ensures { result ≤ length room.new }
 {
     let mut n = 0;
-    let mut at = 0;
-    'pieces: while at < line.len() {
-        let rest = line.len() - at;
-        if rest < 2 {
+    let mut rest = line;
+    'pieces: while let [times, size, tail @ ..] = rest {
+        let Some((piece, behind)) = tail.split_at_checked(as_usize(*size)) else {
             return n;
+        };
+        'times: for _ in 0..as_usize(*times) {
+            n = put(piece, room, n);
         }
-        let times = as_usize(line[at]);
-        let size = as_usize(line[at + 1]);
-        if rest - 2 < size {
-            return n;
-        }
-        let start = at + 2;
-        let end = start + size;
-        n = put_times(&line[start..end], times, room, n);
-        at = end;
-    }
-    n
-}
-
-fn put_times(piece: &[i64], times: usize, room: &mut [i64], from: usize) -> usize
-    requires { from ≤ length room.old }
-    ensures { result ≤ length room.new }
-{
-    let mut n = from;
-    let mut i = 0;
-    'times: while i < times {
-        n = put(piece, room, n);
-        i += 1;
+        rest = behind;
     }
     n
 }
@@ -60,48 +37,19 @@ fn put(piece: &[i64], room: &mut [i64], from: usize) -> usize
     requires { from ≤ length room.old }
     ensures { result ≤ length room.new }
 {
-    let mut n = from;
-    let mut i = 0;
-    'numbers: while i < piece.len() {
-        if room.len() <= n {
-            return n;
-        }
-        room[n] = piece[i];
-        n += 1;
-        i += 1;
-    }
-    n
+    let end = from + std::cmp::min(piece.len(), room.len() - from);
+    room[from..end].copy_from_slice(&piece[..end - from]);
+    end
 }
 
 fn as_usize(n: i64) -> usize {
-    magnitude(n) as usize
+    n.unsigned_abs() as usize
 }
 
-// The numbers as bytes, and as code points; how many there are.
-pub fn to_u8(numbers: &[i64], room: &mut [u8]) -> usize
-    ensures { result ≤ length room.new }
-{
-    let mut i = 0;
-    'numbers: while i < numbers.len() {
-        if room.len() <= i {
-            return i;
-        }
-        room[i] = as_u8(magnitude(numbers[i]));
-        i += 1;
+// The numbers as bytes or code points; what the room has no place for is left out.
+pub fn converted<'a, T: FromDecimal>(numbers: &[i64], room: &'a mut [T]) -> &'a [T] {
+    for (out, n) in room.iter_mut().zip(numbers) {
+        *out = T::from_decimal(n.unsigned_abs(), *n < 0);
     }
-    i
-}
-
-pub fn to_u32(numbers: &[i64], room: &mut [u32]) -> usize
-    ensures { result ≤ length room.new }
-{
-    let mut i = 0;
-    'numbers: while i < numbers.len() {
-        if room.len() <= i {
-            return i;
-        }
-        room[i] = as_u32(magnitude(numbers[i]));
-        i += 1;
-    }
-    i
+    &room[..std::cmp::min(numbers.len(), room.len())]
 }

@@ -1,6 +1,6 @@
 -- The file's bytes under the header that the sums make, its six lines and its items put one after the other, and the answers of both calls.
 -- Where the checks are fine the items are good, so the capped length is exact. Assumes nothing.
-use mathlib.Core.Path.{◌≡◌, refl, ap, ◌∙◌}
+use mathlib.Core.Path.{◌≡◌, sym, ap, ◌∙◌}
 use mathlib.Core.List.{List, ◌++◌}
 use Prim.Native.Nat.{ℕ, ◌+◌, ◌/◌, ◌≤◌, ◌<◌, zero-le}
 use native.Mathlib.Omega.{arith}
@@ -11,10 +11,7 @@ use Rattle.room.specs.Placed.{answered, Put}
 use Rattle.room.proofs.Answers.{at_start}
 use Rattle.refusal.specs.declared.Refusal.{Refusal}
 use Rattle.refusal.specs.declared.Refusal.TheVariants.{Room}
-use Rattle.refusal.specs.declared.Counted.TheVariants.{Count, Refused as NoCount}
-use Rattle.verdict.specs.declared.Verdict.{Verdict}
-use Rattle.verdict.specs.declared.Verdict.TheVariants.{Accepted, Refused}
-use Rattle.verdict.specs.Verdicts.{and_then}
+use Rattle.verdict.specs.Verdicts.{Verdict, accepted}
 use Rattle.diff.specs.Checks.{fits}
 use Rattle.edit_format.specs.Items.{Item, kept, dropped, added}
 use Rattle.edit_format.specs.Written.{form_key, original_key, result_key, items_key, end_key, number_line, item_lines, head_lines, head_of, written}
@@ -25,18 +22,17 @@ use Rattle.edit_write.specs.Writing.{length_of, roomed, Wrote}
 use Rattle.writable.specs.Passes.{sums_of, checked_by}
 use Rattle.edit_write.specs.Bytes.{file_bytes}
 use Rattle.writable.specs.declared.Sums.{Sums}
-use Rattle.writable.specs.declared.Checked.TheVariants.{Fine, Refused as No}
+use Rattle.writable.specs.declared.Checked.{Checked}
+use Rattle.diff.proofs.Laws.{refused_by, answered_by}
 use Rattle.writable.proofs.Checking.{file_length}
 use Rattle.edit_write.proofs.Goodness.{writable_good, written_short}
+use Rattle.std.specs.Prelude.{Ok, Err}
 
 -- what the checks found
-pub refused_by : (v : Verdict) (is : List Item) {r : Refusal} → No r ≡ checked_by v is → v ≡ Refused r
-refused_by Accepted is e = let z : ◌≡◌ {A = ℕ} 0 1 = cc in absurd (omega arith)
-refused_by (Refused r) is e = cc
-
-pub fine_by : (v : Verdict) (is : List Item) {s : Sums} {m : ℕ} → Fine s m ≡ checked_by v is → (v ≡ Accepted) × ((s ≡ sums_of is) × (m ≡ cap (length (item_lines is))))
-fine_by Accepted is e = (refl, (cc, cc))
-fine_by (Refused r) is e = let z : ◌≡◌ {A = ℕ} 0 1 = cc in absurd (omega arith)
+pub fine_by : (v : Verdict) (is : List Item) {c : Checked} → Ok c ≡ checked_by v is → (v ≡ accepted) × ((c.sums ≡ sums_of is) × (c.lines ≡ cap (length (item_lines is))))
+fine_by v is {c} e =
+    let w = answered_by v (record { sums = sums_of is; lines = cap (length (item_lines is)) }) c (sym e) in
+    (w.0, (ap (λ (x : Checked). x.sums) (sym w.1), ap (λ (x : Checked). x.lines) (sym w.1)))
 
 module _ (xs : List ℤ) (text : List ℕ) where
   file_written : file_bytes xs text (kept (file_of xs text) + dropped (file_of xs text)) (kept (file_of xs text) + added (file_of xs text)) ≡ written (file_of xs text)
@@ -44,59 +40,62 @@ module _ (xs : List ℤ) (text : List ℕ) where
   file_written = rw (file_length xs text)
 
   -- the sums of what can be written are small
-  pub small : {s : Sums} {m : ℕ} → Fine s m ≡ checked_by (writable (file_of xs text) text) (file_of xs text) → (s.kept ≤ 65535) × (s.added ≤ 131070)
-  small {s} e =
+  pub small : {c : Checked} → Ok c ≡ checked_by (writable (file_of xs text) text) (file_of xs text) → (c.sums.kept ≤ 65535) × (c.sums.added ≤ 131070)
+  small {c} e =
       let f = fine_by (writable (file_of xs text) text) (file_of xs text) e in
       let g = writable_good xs text f.0 in
       (omega (arith, ap (λ (t : Sums). t.kept) f.1.0, g.original), omega (arith, ap (λ (t : Sums). t.added) f.1.0, g.text))
 
-  module _ {s : Sums} {m : ℕ} (e : Fine s m ≡ checked_by (writable (file_of xs text) text) (file_of xs text)) where
-    passed : writable (file_of xs text) text ≡ Accepted
+  module _ {c : Checked} (e : Ok c ≡ checked_by (writable (file_of xs text) text) (file_of xs text)) where
+    passed : writable (file_of xs text) text ≡ accepted
     passed = (fine_by (writable (file_of xs text) text) (file_of xs text) e).0
 
-    bytes : file_bytes xs text s.used (s.kept + s.added) ≡ written (file_of xs text)
+    bytes : file_bytes xs text c.sums.used (c.sums.kept + c.sums.added) ≡ written (file_of xs text)
     bytes = rw (fine_by (writable (file_of xs text) text) (file_of xs text) e).1.0 file_written
 
-    pub lines_are : m ≡ cap (length (item_lines (file_of xs text)))
+    pub lines_are : c.lines ≡ cap (length (item_lines (file_of xs text)))
     lines_are = (fine_by (writable (file_of xs text) text) (file_of xs text) e).1.1
 
-    pub lines_most : m ≤ 1099511627776
+    pub lines_most : c.lines ≤ 1099511627776
     lines_most = omega (arith, lines_are)
 
-    pub exact : {n : ℕ} → n ≡ cap (length (file_bytes xs text s.used (s.kept + s.added))) → n ≡ length (written (file_of xs text))
+    pub exact : {n : ℕ} → n ≡ cap (length (file_bytes xs text c.sums.used (c.sums.kept + c.sums.added))) → n ≡ length (written (file_of xs text))
     exact f = omega (arith, ap length bytes, written_short (file_of xs text) (writable_good xs text passed))
 
-    pub length_fine : {n : ℕ} → n ≡ cap (length (file_bytes xs text s.used (s.kept + s.added))) → Count n ≡ length_of (file_of xs text) text
+    pub length_fine : {n : ℕ} → n ≡ cap (length (file_bytes xs text c.sums.used (c.sums.kept + c.sums.added))) → Ok n ≡ length_of (file_of xs text) text
     unfolding length_of
-    length_fine f = rw passed (ap Count (exact f))
+    length_fine f = rw passed (ap Ok (exact f))
 
-    pub no_room : (out : List ℕ) {n : ℕ} → n ≡ cap (length (file_bytes xs text s.used (s.kept + s.added))) → length out < n → Wrote (file_of xs text) text out out (NoCount Room)
-    unfolding roomed fits and_then
+    pub no_room : (out : List ℕ) {n : ℕ} → n ≡ cap (length (file_bytes xs text c.sums.used (c.sums.kept + c.sums.added))) → length out < n → Wrote (file_of xs text) text out out (Err Room)
+    unfolding roomed fits
     no_room out f h =
         let w : length out < length (written (file_of xs text)) = omega (arith, exact f) in
         record { answer = rw (passed, lt-ltb (length out) (length (written (file_of xs text))) w); room = rw (passed, lt-ltb (length out) (length (written (file_of xs text))) w) }
 
-    pub fits_in : (out : List ℕ) {n : ℕ} → n ≡ cap (length (file_bytes xs text s.used (s.kept + s.added))) → n ≤ length out → length (file_bytes xs text s.used (s.kept + s.added)) ≤ length out
+    pub fits_in : (out : List ℕ) {n : ℕ} → n ≡ cap (length (file_bytes xs text c.sums.used (c.sums.kept + c.sums.added))) → n ≤ length out → length (file_bytes xs text c.sums.used (c.sums.kept + c.sums.added)) ≤ length out
     fits_in out f h = omega (arith, exact f, ap length bytes)
 
-    pub whole : (out : List ℕ) {out' : List ℕ} {n r : ℕ} → n ≡ cap (length (file_bytes xs text s.used (s.kept + s.added))) → n ≤ length out → Put (file_bytes xs text s.used (s.kept + s.added)) out 0 out' r → Wrote (file_of xs text) text out out' (Count r)
-    unfolding roomed fits and_then
+    pub whole : (out : List ℕ) {out' : List ℕ} {n r : ℕ} → n ≡ cap (length (file_bytes xs text c.sums.used (c.sums.kept + c.sums.added))) → n ≤ length out → Put (file_bytes xs text c.sums.used (c.sums.kept + c.sums.added)) out 0 out' r → Wrote (file_of xs text) text out out' (Ok r)
+    unfolding roomed fits
     whole out {out'} {n} {r} f h p =
         let w : length (written (file_of xs text)) ≤ length out = omega (arith, exact f) in
         let q : r ≡ length (written (file_of xs text)) = p.next ∙ omega (arith, ap length bytes) in
         record {
-          answer = rw (passed, le-ltb (length out) (length (written (file_of xs text))) w) (ap Count q);
+          answer = rw (passed, le-ltb (length out) (length (written (file_of xs text))) w) (ap Ok q);
           room = rw (passed, le-ltb (length out) (length (written (file_of xs text))) w) (p.stands ∙ at_start _ out ∙ ap (λ (l : List ℕ). answered l out) bytes);
         }
 
-  module _ {r : Refusal} (e : No r ≡ checked_by (writable (file_of xs text) text) (file_of xs text)) where
-    pub length_refused : NoCount r ≡ length_of (file_of xs text) text
-    unfolding length_of
-    length_refused = rw (refused_by (writable (file_of xs text) text) (file_of xs text) e)
+  module _ {r : Refusal} (e : Err r ≡ checked_by (writable (file_of xs text) text) (file_of xs text)) where
+    stopped : writable (file_of xs text) text ≡ Err r
+    stopped = refused_by (writable (file_of xs text) text) _ r (sym e)
 
-    pub write_refused : (out : List ℕ) → Wrote (file_of xs text) text out out (NoCount r)
-    unfolding roomed and_then
-    write_refused out = record { answer = rw (refused_by (writable (file_of xs text) text) (file_of xs text) e); room = rw (refused_by (writable (file_of xs text) text) (file_of xs text) e) }
+    pub length_refused : Err r ≡ length_of (file_of xs text) text
+    unfolding length_of
+    length_refused = rw stopped
+
+    pub write_refused : (out : List ℕ) → Wrote (file_of xs text) text out out (Err r)
+    unfolding roomed
+    write_refused out = record { answer = rw stopped; room = rw stopped }
 
 sum_of : (s₁ s₂ s₃ s₄ s₅ s₆ d : List ℕ) → length (s₁ ++ s₂ ++ s₃ ++ s₄ ++ s₅ ++ s₆) ≤ length d → length s₁ + length s₂ + length s₃ + length s₄ + length s₅ + length s₆ ≤ length d
 sum_of s₁ s₂ s₃ s₄ s₅ s₆ d h = omega (arith, length-append (s₁ ++ s₂ ++ s₃ ++ s₄ ++ s₅) s₆, length-append (s₁ ++ s₂ ++ s₃ ++ s₄) s₅, length-append (s₁ ++ s₂ ++ s₃) s₄, length-append (s₁ ++ s₂) s₃, length-append s₁ s₂)

@@ -18,9 +18,7 @@ use Rattle.diff.specs.declared.diff.Item.TheVariants.{Retain, Delete, Insert, Ne
 use Rattle.diff.specs.Items.{items_of}
 use Rattle.numbers.specs.Points.{is_point}
 use Rattle.numbers.proofs.Points.{point_most}
-use Rattle.verdict.specs.declared.Verdict.{Verdict}
-use Rattle.verdict.specs.declared.Verdict.TheVariants.{Accepted, Refused}
-use Rattle.verdict.specs.Verdicts.{and_then}
+use Rattle.verdict.specs.Verdicts.{and_then, Verdict, accepted}
 use Rattle.verdict.specs.Points.{points_from}
 use Rattle.verdict.proofs.Chains.{never, went, first_passed, rest_passed}
 use Rattle.diff.specs.Checks.{refuse_if}
@@ -32,12 +30,13 @@ use Rattle.written_lines.proofs.Counting.{line_length, add_length}
 use Rattle.writable.specs.Writable.{file_item, file_items, file_of, sizes, shapes, writable}
 use Rattle.writable.proofs.Counting.{keep_length, drop_length}
 use Rattle.edit_write.proofs.Counting.{head_length}
+use Rattle.std.specs.Prelude.{Err}
 
-not_refused : (t : Bool) (r : Refusal) → refuse_if t r ≡ Accepted → t ≡ false
+not_refused : (t : Bool) (r : Refusal) → refuse_if t r ≡ accepted → t ≡ false
 not_refused true r e = never e
 not_refused false r e = refl
 
-pub all_points_lem : (t : List ℕ) (i : ℕ) → points_from t i ≡ Accepted → all_points t ≡ true
+pub all_points_lem : (t : List ℕ) (i : ℕ) → points_from t i ≡ accepted → all_points t ≡ true
 unfolding points_from all_points
 all_points_lem [] i e = refl
 all_points_lem (c ∷ cs) i e =
@@ -56,11 +55,11 @@ points_take zero t e = refl
 points_take (suc n) [] e = refl
 points_take (suc n) (c ∷ cs) e = rw (and_left (is_point c) (all_points cs) e) (points_take n cs (and_right (is_point c) (all_points cs) e))
 
-picked : (t : Bool) (r : Refusal) (v : Verdict) → pick t v (Refused r) ≡ Accepted → (t ≡ true) × (v ≡ Accepted)
+picked : (t : Bool) (r : Refusal) (v : Verdict) → pick t v (Err r) ≡ accepted → (t ≡ true) × (v ≡ accepted)
 picked true r v e = (refl, e)
 picked false r v e = never e
 
-items_good_lem : (text : List ℕ) → all_points text ≡ true → (k : Bool) (i : ℕ) (ls : List Lent) → shapes k i (file_items text ls) ≡ Accepted → items_good k (file_items text ls) ≡ true
+items_good_lem : (text : List ℕ) → all_points text ≡ true → (k : Bool) (i : ℕ) (ls : List Lent) → shapes k i (file_items text ls) ≡ accepted → items_good k (file_items text ls) ≡ true
 unfolding file_items file_item shapes items_good all_points
 items_good_lem text a k i [] e = refl
 items_good_lem text a k i (Retain n ∷ ls) e = let p = picked (leb 1 n && not k) _ _ e in both_yes _ _ p.0 (items_good_lem text a true (i + 1) ls p.1)
@@ -70,7 +69,7 @@ items_good_lem text a k i (Insert s n ∷ ls) e =
     both_yes _ _ (both_yes _ _ p.0 (points_take n (drop s text) (points_drop s text a))) (items_good_lem text a false (i + 1) ls p.1)
 items_good_lem text a k i (Neither ∷ ls) e = never e
 
-pub writable_good : (xs : List ℤ) (text : List ℕ) → writable (file_of xs text) text ≡ Accepted → Good (file_of xs text)
+pub writable_good : (xs : List ℤ) (text : List ℕ) → writable (file_of xs text) text ≡ accepted → Good (file_of xs text)
 unfolding writable sizes file_of
 writable_good xs text e =
     let is : List Item = file_of xs text in

@@ -14,8 +14,7 @@ use Rattle.diff.specs.declared.diff.Item.{Item as Lent}
 use Rattle.diff.specs.declared.diff.Item.TheVariants.{Retain, Delete, Insert, Neither}
 use Rattle.diff.specs.Items.{items_of, items_from}
 use Rattle.diff.specs.Replay.{edit_of, edits_of, mentioned, left, kept as keptBy, added as addedBy}
-use Rattle.verdict.specs.declared.Verdict.TheVariants.{Accepted as Fine}
-use Rattle.verdict.specs.Verdicts.{and_then}
+use Rattle.verdict.specs.Verdicts.{accepted}
 use Rattle.diff.specs.Checks.{used, sizes, records, covers}
 use Rattle.replay.specs.Answers.{Diff, diff, edits, text_of, plain, covering}
 use Rattle.diff.proofs.Decoding.{items_length}
@@ -55,7 +54,7 @@ adds text (Insert s n ∷ ls) = omega (arith, adds text ls)
 adds text (Neither ∷ ls) = omega (arith, adds text ls)
 
 -- a good file lends no item that is neither
-no_neither : (text : List ℕ) (k : Bool) (i : ℕ) (ls : List Lent) → items_good k (file_items text ls) ≡ true → records i ls ≡ Fine
+no_neither : (text : List ℕ) (k : Bool) (i : ℕ) (ls : List Lent) → items_good k (file_items text ls) ≡ true → records i ls ≡ accepted
 unfolding file_items file_item items_good records
 no_neither text k i [] g = refl
 no_neither text k i (Retain n ∷ ls) g = no_neither text true (i + 1) ls (and_right (leb 1 n && not k) (items_good true (file_items text ls)) g)
@@ -88,14 +87,14 @@ module _ (is : List Item) (g : Good is) (o : List ℕ) (long : length o ≡ kept
   sum : mentioned (edits_of (texts is) ls) ≡ length o
   sum = mentions (texts is) ls ∙ ap (λ (l : List Item). kept l + dropped l) lent ∙ sym long
 
-  plain_fine : plain d ≡ Fine
-  unfolding plain sizes edits d ls and_then
+  plain_fine : plain d ≡ accepted
+  unfolding plain sizes edits d ls
   plain_fine =
       rw (le-ltb 65535 (length o) (omega (arith, long, g.original)), le-ltb 8192 (length ls) (omega (arith, count, g.few)), le-ltb 131070 (length (texts is)) (omega (arith, texts_length is, g.text)), le-ltb 131070 (used ls) (omega (arith, uses, g.text)), points_fine o 0 good, points_fine (texts is) 0 (texts_points false is g.each), no_neither (texts is) false 0 ls (rw lent g.each))
       (enough_numbers 0 (length o) (edits_of (texts is) ls) (omega (arith, sum)))
 
-  pub covers_all : covering (diff o (records_of is) (texts is)) ≡ Fine
-  unfolding covering covers left edits d ls and_then
+  pub covers_all : covering (diff o (records_of is) (texts is)) ≡ accepted
+  unfolding covering covers left edits d ls
   covers_all = let z : length o - mentioned (edits_of (texts is) ls) ≡ 0 = omega (arith, sum) in rw (plain_fine, z)
 
   pub result_long : length (text_of (diff o (records_of is) (texts is))) ≡ kept is + added is
@@ -106,5 +105,5 @@ module _ (is : List Item) (g : Good is) (o : List ℕ) (long : length o ≡ kept
 
 -- law 4
 pub replays : (p : List ℕ) {is : List Item} → read_file p ≡ Accepted is → (o : List ℕ) → length o ≡ kept is + dropped is → all_points o ≡ true
-    → (covering (diff o (records_of is) (texts is)) ≡ Fine) × (length (text_of (diff o (records_of is) (texts is))) ≡ kept is + added is)
+    → (covering (diff o (records_of is) (texts is)) ≡ accepted) × (length (text_of (diff o (records_of is) (texts is))) ≡ kept is + added is)
 replays p {is} e o l a = let g = accepted_good p e in (covers_all is g o l a, result_long is g o l a)

@@ -14,8 +14,7 @@ use Rattle.room.proofs.Bools.{and_left, and_right}
 use Rattle.room.proofs.Choices.{no_way}
 use Rattle.diff.specs.Items.{numbered, ranged, item_of, item_at, items_from, items_of}
 use Rattle.numbers.specs.Points.{is_point}
-use Rattle.verdict.specs.declared.Verdict.TheVariants.{Accepted as Fine}
-use Rattle.verdict.specs.Verdicts.{and_then}
+use Rattle.verdict.specs.Verdicts.{accepted}
 use Rattle.verdict.specs.Points.{points_from}
 use Rattle.edit_format.specs.Items.{Item, Keep, Drop, Add, kept, dropped, added, texts, is_keep, all_points, items_good, Good}
 use Rattle.edit_format.specs.Written.{written}
@@ -30,7 +29,7 @@ use Rattle.writable.specs.Writable.{file_item, file_items, file_of, sizes, shape
 use Rattle.edit_write.proofs.Goodness.{writable_good}
 
 -- law 1: what is written reads back the same items, with their text
-pub reads_back : (xs : List ℤ) (text : List ℕ) → writable (file_of xs text) text ≡ Fine → read_file (written (file_of xs text)) ≡ Accepted (file_of xs text)
+pub reads_back : (xs : List ℤ) (text : List ℕ) → writable (file_of xs text) text ≡ accepted → read_file (written (file_of xs text)) ≡ Accepted (file_of xs text)
 reads_back xs text e = read_back (file_of xs text) (writable_good xs text e)
 
 -- three numbers of a list, where a part of it begins
@@ -75,7 +74,7 @@ same_items is g =
     rw e (decodes false is 0 (texts is) [] 0 g.each refl refl (omega (arith, texts_length is)))
 
 -- good items pass the checks
-pub points_fine : (t : List ℕ) (i : ℕ) → all_points t ≡ true → points_from t i ≡ Fine
+pub points_fine : (t : List ℕ) (i : ℕ) → all_points t ≡ true → points_from t i ≡ accepted
 unfolding points_from all_points
 points_fine [] i e = refl
 points_fine (c ∷ cs) i e = rw (and_left (is_point c) (all_points cs) e, points_from) (points_fine cs (i + 1) (and_right (is_point c) (all_points cs) e))
@@ -94,7 +93,7 @@ texts_points k (Add cs ∷ is) g =
     let a = and_left (leb 1 (length cs) && all_points cs) (items_good false is) g in
     points_append cs (texts is) (and_right (leb 1 (length cs)) (all_points cs) a) (texts_points false is (good_rest k (Add cs) is g))
 
-shapes_fine : (k : Bool) (i : ℕ) (is : List Item) → items_good k is ≡ true → shapes k i is ≡ Fine
+shapes_fine : (k : Bool) (i : ℕ) (is : List Item) → items_good k is ≡ true → shapes k i is ≡ accepted
 unfolding items_good is_keep shapes
 shapes_fine k i [] g = refl
 shapes_fine k i (Keep n ∷ is) g = rw (and_left (leb 1 n && not k) (items_good true is) g) (shapes_fine true (i + 1) is (good_rest k (Keep n) is g))
@@ -103,12 +102,12 @@ shapes_fine k i (Add cs ∷ is) g =
     let a = and_left (leb 1 (length cs) && all_points cs) (items_good false is) g in
     rw (and_left (leb 1 (length cs)) (all_points cs) a) (shapes_fine false (i + 1) is (good_rest k (Add cs) is g))
 
-pub good_writable : (is : List Item) → Good is → writable is (texts is) ≡ Fine
-unfolding writable sizes and_then
+pub good_writable : (is : List Item) → Good is → writable is (texts is) ≡ accepted
+unfolding writable sizes
 good_writable is g =
     rw (le-ltb 8192 (length is) g.few, le-ltb 131070 (length (texts is)) (omega (arith, texts_length is, g.text)), le-ltb 131070 (added is) g.text, le-ltb 65535 (kept is + dropped is) g.original, points_fine (texts is) 0 (texts_points false is g.each))
     (shapes_fine false 0 is g.each)
 
 -- law 2: an accepted file, rewritten from what was read, has the same bytes
-pub rewrites : (p : List ℕ) {is : List Item} → read_file p ≡ Accepted is → (file_of (records_of is) (texts is) ≡ is) × (writable is (texts is) ≡ Fine) × (written is ≡ p)
+pub rewrites : (p : List ℕ) {is : List Item} → read_file p ≡ Accepted is → (file_of (records_of is) (texts is) ≡ is) × (writable is (texts is) ≡ accepted) × (written is ≡ p)
 rewrites p {is} e = let g = accepted_good p e in (same_items is g, good_writable is g, sym (canonical p e))

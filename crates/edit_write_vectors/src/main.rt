@@ -3,8 +3,9 @@
 // text and items are in pieces.
 #![tactic(auto)]
 
-use refusal::Counted;
-use vectors::Due;
+use marked::Mark;
+use refusal::Refusal;
+use vectors::{Case, Due};
 
 fn main() {
     let mut space = [0u8; 262144];
@@ -16,33 +17,17 @@ fn run(bytes: &[u8]) {
     let mut file = [0u8; 327680];
     let mut text = [0u32; 131072];
     let mut items = [0i64; 327680];
-    let mut tally = vectors::no_cases();
-    let mut at = 0;
-    'cases: while at < bytes.len() {
-        let turn = turn_at(bytes, at, &mut file, &mut text, &mut items);
-        tally = tally.with(turn.agrees);
-        if turn.next <= at {
-            break 'cases;
-        }
-        at = turn.next;
-    }
-    vectors::report(b"edit files written", tally);
+    vectors::replay(
+        b"edit files written",
+        bytes.len(),
+        |at| turn_at(bytes, at, &mut file, &mut text, &mut items),
+    );
 }
 
-// Whether the calls give the case's answer, and the offset behind it.
-#[derive(Clone, Copy)]
-struct Turn {
-    agrees: bool,
-    next: usize,
-}
-
-fn turn_at(bytes: &[u8], at: usize, file: &mut [u8], text: &mut [u32], items: &mut [i64]) -> Turn {
+fn turn_at(bytes: &[u8], at: usize, file: &mut [u8], text: &mut [u32], items: &mut [i64]) -> Case {
     let case = edit_vectors::case_at(bytes, at, file, text, items);
-    let f = case.file;
-    let t = case.text;
-    let i = case.items;
-    Turn {
-        agrees: writes(&items[..i], &text[..t], case.due, &file[..f]),
+    Case {
+        agrees: writes(case.items, case.text, case.due, case.file),
         next: case.next,
     }
 }
@@ -50,36 +35,28 @@ fn turn_at(bytes: &[u8], at: usize, file: &mut [u8], text: &mut [u32], items: &m
 // Whether the calls give what is due, in rooms that are longer, just long enough and one short.
 fn writes(items: &[i64], text: &[u32], due: Due, file: &[u8]) -> bool {
     let f = file.len();
-    if !vectors::is_counted(edit_write::write_length(items, text), due) {
+    if Due::from(edit_write::write_length(items, text)) != due
+        || !leaves(items, text, f, due, file)
+        || f > 327680
+        || !leaves(items, text, f + 1, due, file)
+    {
         return false;
     }
-    if !leaves(items, text, f, due, file) {
-        return false;
-    }
-    if f > 327680 {
-        return false;
-    }
-    if !leaves(items, text, f + 1, due, file) {
-        return false;
-    }
-    if f == 0 {
-        return true;
-    }
-    let short = vectors::room_due();
-    leaves(items, text, f - 1, short, &file[..0])
+    let short = Due::from(Refusal::Room);
+    f == 0 || leaves(items, text, f - 1, short, &file[..0])
 }
 
 // Whether writing into a room of this length gives what is due, and leaves this file and nothing else.
 fn leaves(items: &[i64], text: &[u32], lent: usize, due: Due, file: &[u8]) -> bool {
-    let mut room = [marked::MARK_U8; 327688];
+    let mut room = [u8::MARK; 327688];
     let answer = lend(items, text, lent, &mut room);
-    vectors::is_counted(answer, due) && marked::holds_u8(&room, file)
+    Due::from(answer) == due && marked::holds(&room, file)
 }
 
 // Writing into the beginning of a room.
-fn lend(items: &[i64], text: &[u32], lent: usize, room: &mut [u8]) -> Counted {
-    if room.len() < lent {
-        return Counted::Count(0);
+fn lend(items: &[i64], text: &[u32], lent: usize, room: &mut [u8]) -> Result<usize, Refusal> {
+    match room.get_mut(..lent) {
+        Some(out) => edit_write::write(items, text, out),
+        None => Ok(0),
     }
-    edit_write::write(items, text, &mut room[..lent])
 }

@@ -11,7 +11,6 @@ use Rattle.records.specs.Operations.{operations_of, flat_operations}
 use Rattle.records.specs.Cursors.{cursors_of, flat_cursors}
 use Rattle.records.proofs.Operations.{of_answered as operations-back}
 use Rattle.records.proofs.Cursors.{of_answered as cursors-back}
-use Rattle.verdict.specs.declared.Verdict.TheVariants.{Accepted}
 use Rattle.sizes.specs.Sizes.{merging, otherwise}
 use Rattle.shapes.specs.Accepted.{AcceptedList}
 use Rattle.verdict.proofs.Chains.{first_passed}
@@ -20,17 +19,19 @@ use Rattle.merging.specs.Lent.{Lent}
 use Rattle.merging.specs.Operations.{ops_from}
 use Rattle.merging.specs.Tiling.{Merges}
 use Rattle.merging_laws.proofs.Accepted.{merged_accepted, merged_merges}
-use Rattle.edited_text.specs.declared.Answer.{Answer}
-use Rattle.edited_text.specs.declared.Answer.TheVariants as A
+use Rattle.edited_text.specs.declared.Counts.{Counts}
+use Rattle.refusal.specs.declared.Refusal.{Refusal}
 use Rattle.edited_text.specs.Merging.{merge_verdict, verdict_on, merge_on, MergedBy}
+use Rattle.std.specs.Prelude.{Result, Ok}
+use Rattle.verdict.specs.Verdicts.{accepted}
 
 module _ (original text spans keys left right lcs rcs o c w : List ℕ) where
   -- "Any two outcomes it allows are shown equal, or the exception (the work room) is listed"
-  pub only_answer : {o₁ o₂ c₁ c₂ w₁ w₂ : List ℕ} {r₁ r₂ : Answer} → MergedBy original text spans keys left right lcs rcs o o₁ c c₁ w w₁ r₁
+  pub only_answer : {o₁ o₂ c₁ c₂ w₁ w₂ : List ℕ} {r₁ r₂ : Result Counts Refusal} → MergedBy original text spans keys left right lcs rcs o o₁ c c₁ w w₁ r₁
       → MergedBy original text spans keys left right lcs rcs o o₂ c c₂ w w₂ r₂ → (r₁ ≡ r₂) × ((o₁ ≡ o₂) × (c₁ ≡ c₂))
   only_answer a b = (a.answer ∙ sym b.answer, (a.operations ∙ sym b.operations, a.cursors ∙ sym b.cursors))
 
-  module _ (v : verdict_on original text spans keys left right lcs rcs o c w ≡ Accepted) {o' c' w' : List ℕ} {r : Answer}
+  module _ (v : verdict_on original text spans keys left right lcs rcs o c w ≡ accepted) {o' c' w' : List ℕ} {r : Result Counts Refusal}
       (m : MergedBy original text spans keys left right lcs rcs o o' c c' w w' r) where
     left_list : AcceptedList merging original text spans keys (operations_of left) (cursors_of lcs)
     unfolding merge_verdict
@@ -63,7 +64,7 @@ module _ (original text spans keys left right lcs rcs o c w : List ℕ) where
         rw e (cursors-back (merge_on original text spans keys left right lcs rcs).cursors c _ refl)
 
     -- the answer counts them
-    pub counts : r ≡ A.Counts (record { operations = length operations; cursors = length cursors })
+    pub counts : r ≡ Ok (record { operations = length operations; cursors = length cursors })
     counts = rw (operations_are, cursors_are) (rw v at m.answer)
 
     -- demand 3: "The merge's retains and deletes tile the original in order, and a code point is retained exactly if both lists retain it."

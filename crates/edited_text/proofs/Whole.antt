@@ -19,7 +19,7 @@ use Rattle.shapes.specs.Accepted.{AcceptedList}
 use Rattle.shapes.proofs.Accepted.{retained_most}
 use Rattle.merging.specs.declared.Op.{Op}
 use Rattle.merging.specs.declared.Op.TheVariants.{Delete, Insert, Retain}
-use Rattle.merging.specs.declared.Order.{Order}
+use Rattle.std.specs.declared.cmp.Ordering.{Ordering}
 use Rattle.merging.specs.Lent.{Lent, rules_of, lent_of}
 use Rattle.merging.specs.Operations.{records_of}
 use Rattle.merging.specs.OrderRule.{priority_of}
@@ -29,8 +29,7 @@ use Rattle.merging.specs.Tiling.{Inserts}
 use Rattle.merging_laws.proofs.Decoding.{Run as Lends, Listed as Read, tiled, runs, tokens_total, length_total}
 use Rattle.merging_laws.proofs.Encoding.{length_records}
 use Rattle.merging_laws.proofs.Accepted.{merged_operations_most, merged_cursors_all}
-use Rattle.order.specs.Readable.{Run, of_text}
-use Rattle.order.proofs.Lending.{priority_of_lem}
+use Rattle.order.specs.Readable.{Run}
 use Rattle.order_laws.proofs.Accepted.{readable}
 use Rattle.numbers.specs.Sizes.{most}
 use Rattle.merge.specs.declared.Totals.{Totals}
@@ -92,16 +91,15 @@ module _ (original text spans keys : List ℕ) (ops : List ℕ) (cs : List Curso
 
 module _ {original text spans keys left right lcs rcs : List ℕ} {mid half : ℕ} {o c w : List ℕ}
     (K : Mergeable original text spans keys left right lcs rcs mid half o c w) (lefts rights : List ℕ)
-    (el : cursors_of lefts ≡ sorted (cursors_of lcs)) (er : cursors_of rights ≡ sorted (cursors_of rcs)) (priority : Order)
-    (ep : priority ≡ priority_of (of_text text spans keys) (list_of left) (list_of right)) where
+    (el : cursors_of lefts ≡ sorted (cursors_of lcs)) (er : cursors_of rights ≡ sorted (cursors_of rcs)) (priority : Ordering)
+    (ep : priority ≡ priority_of (lent_of original text spans keys) (list_of left) (list_of right)) where
   abbrev L : Lent
   L = lent_of original text spans keys
 
   ends : outcome L priority left right lefts rights ≡ outcome_of (rules_of L) (list_of left) (list_of right) (cursors_of lcs) (cursors_of rcs)
   unfolding outcome_of
   ends =
-      let e : priority ≡ priority_of L (list_of left) (list_of right) = ep ∙ sym (priority_of_lem L (list_of left) (list_of right)) in
-      λ i. run (rules_of L) (e i) (work (list_of left) + work (list_of right)) (record {
+      λ i. run (rules_of L) (ep i) (work (list_of left) + work (list_of right)) (record {
         left = record { next = list_of left; last = nothing; seen = 0; cursors = el i };
         right = record { next = list_of right; last = nothing; seen = 0; cursors = er i };
         merged = 0;

@@ -1,13 +1,11 @@
 -- What the call `merge` answers and leaves in its rooms. Assumes nothing.
-use Rattle.std.specs.Prelude.{ℕ, ◌+◌, ◌*◌, ◌≤◌, ◌≡◌, Bool, ◌&&◌, List, length, leb}
+use Rattle.std.specs.Prelude.{ℕ, ◌+◌, ◌*◌, ◌≤◌, ◌≡◌, Bool, ◌&&◌, List, length, leb, Result, Ok, Err}
 use Rattle.room.specs.Placed.{answered}
 use Rattle.records.specs.declared.Operation.{Operation}
 use Rattle.records.specs.declared.Cursor.{Cursor}
 use Rattle.records.specs.Operations.{operations_of, flat_operations}
 use Rattle.records.specs.Cursors.{cursors_of, flat_cursors}
-use Rattle.verdict.specs.declared.Verdict.{Verdict}
-use Rattle.verdict.specs.declared.Verdict.TheVariants.{Accepted, Refused}
-use Rattle.verdict.specs.Verdicts.{and_then, roomed, leaves}
+use Rattle.verdict.specs.Verdicts.{and_then, roomed, leaves, Verdict}
 use Rattle.sizes.specs.Texts.{total, claimed_by}
 use Rattle.sizes.specs.Sizes.{merging}
 use Rattle.checks.specs.Lists.{lists_verdict}
@@ -15,8 +13,7 @@ use Rattle.shapes.specs.Accepted.{AcceptedList}
 use Rattle.merging.specs.Lent.{lent_of, rules_of}
 use Rattle.merging.specs.Merge.{Merged, merge_of}
 use Rattle.edited_text.specs.declared.Counts.{Counts}
-use Rattle.edited_text.specs.declared.Answer.{Answer}
-use Rattle.edited_text.specs.declared.Answer.TheVariants as A
+use Rattle.refusal.specs.declared.Refusal.{Refusal}
 
 -- "Rooms for a merge: operations, as many as both lists have together; cursors, both counts together; work, twice the insert tokens of
 -- both lists.": the rooms' numbers, o, c and w of them
@@ -36,14 +33,13 @@ merge_on original text spans keys left right lcs rcs =
     merge_of (rules_of (lent_of original text spans keys)) (operations_of left) (operations_of right) (cursors_of lcs) (cursors_of rcs)
 
 -- "its result, numbers of a refusal included": how many operations and cursors, or the refusal
-abbrev pub answer_of : Verdict → Merged → Answer
-answer_of Accepted m = A.Counts (record { operations = length m.operations; cursors = length m.cursors })
-answer_of (Refused r) m = A.Refused r
+abbrev pub answer_of : Verdict → Merged → Result Counts Refusal
+answer_of v m = and_then v (Ok (record { operations = length m.operations; cursors = length m.cursors }))
 
 -- "A refusal writes nothing.", "only the work room is unspecified": all but its length
 abbrev pub WorkLeft : Verdict → List ℕ → List ℕ → Type 0
-WorkLeft Accepted w w' = length w' ≡ length w
-WorkLeft (Refused r) w w' = w' ≡ w
+WorkLeft (Ok u) w w' = length w' ≡ length w
+WorkLeft (Err r) w w' = w' ≡ w
 
 -- "Order for lists: 3, 4, 1, 2, 5, 7": of all that was lent
 abbrev pub verdict_on : List ℕ → List ℕ → List ℕ → List ℕ → List ℕ → List ℕ → List ℕ → List ℕ → List ℕ → List ℕ → List ℕ → Verdict
@@ -51,7 +47,7 @@ verdict_on original text spans keys left right lcs rcs o c w =
     merge_verdict original text spans keys (operations_of left) (operations_of right) (cursors_of lcs) (cursors_of rcs) (length o) (length c) (length w)
 
 -- "A public call's statement covers its result, numbers of a refusal included, and the lent buffers": what `merge` answers and leaves in its rooms
-pub record MergedBy (original text spans keys left right lcs rcs o o' c c' w w' : List ℕ) (r : Answer) : Type 0 where
+pub record MergedBy (original text spans keys left right lcs rcs o o' c c' w w' : List ℕ) (r : Result Counts Refusal) : Type 0 where
   pub answer : r ≡ answer_of (verdict_on original text spans keys left right lcs rcs o c w) (merge_on original text spans keys left right lcs rcs)
   pub operations : o' ≡ leaves (verdict_on original text spans keys left right lcs rcs o c w) (flat_operations (merge_on original text spans keys left right lcs rcs).operations) o
   pub cursors : c' ≡ leaves (verdict_on original text spans keys left right lcs rcs o c w) (flat_cursors (merge_on original text spans keys left right lcs rcs).cursors) c

@@ -2,9 +2,10 @@
 // turns between.
 #![tactic(auto)]
 
-ghost use Rattle.std.specs.Prelude.{◌≡◌, ◌+◌, ◌*◌, ◌&&◌, leb};
+ghost use Rattle.std.specs.Prelude.{◌≡◌, ◌+◌, ◌*◌, ◌/◌, ◌&&◌, leb, length};
 ghost use Rattle.edited_text.specs.Merging.{Mergeable, Merges, MergedBy};
 
+use records::{Lent, List};
 use refusal::Refusal;
 
 // How many operations and cursors a merge gave.
@@ -14,72 +15,56 @@ pub struct Counts {
     pub cursors: usize,
 }
 
-#[derive(Clone, Copy)]
-pub enum Answer {
-    Counts(Counts),
-    Refused(Refusal),
-}
-
-// Whether the rooms are as long as asked: so many operations, cursors, and tokens in each half of the
-// work room.
+// Whether the rooms are as long as asked: so many operations and cursors as both lists have, and so many
+// tokens in each half of the work room.
 fn rooms_fit(
-    operations: usize,
-    cursors: usize,
-    tokens: usize,
-    operation_room: usize,
-    cursor_room: usize,
-    work_room: usize,
+    left: List,
+    right: List,
+    half: usize,
+    operations: &[usize],
+    cursors: &[usize],
+    work: &[u32],
 ) -> bool
-    ensures { result ≡ leb (operations * 6) operation_room && (leb (cursors * 2) cursor_room && leb (tokens * 2) work_room) }
+    ensures { result ≡ leb ((length left.entry.operations.now / 6 + length right.entry.operations.now / 6) * 6) (length operations.now) && (leb ((length left.entry.cursors.now / 2 + length right.entry.cursors.now / 2) * 2) (length cursors.now) && leb (half * 2) (length work.now)) }
 {
-    if operation_room / 6 < operations {
-        return false;
-    }
-    if cursor_room / 2 < cursors {
-        return false;
-    }
-    if work_room / 2 < tokens {
-        return false;
-    }
-    true
+    left.operations.len() / 6 + right.operations.len() / 6 <= operations.len() / 6
+        && left.cursors.len() / 2 + right.cursors.len() / 2 <= cursors.len() / 2
+        && half <= work.len() / 2
 }
 
 // The merge of two accepted lists: mid is the insert tokens of the left one, half those of both.
+// Kept so: rooms apart, since a struct that holds `&mut` wants clauses on which room it still is; that is no plainer.
 fn merge_accepted(
-    original: &[u32],
-    text: &[u32],
-    spans: &[u32],
-    keys: &[u32],
-    left: &[usize],
-    right: &[usize],
-    left_cursors: &[usize],
-    right_cursors: &[usize],
+    lent: Lent,
+    left: List,
+    right: List,
     mid: usize,
     half: usize,
     operations: &mut [usize],
     cursors: &mut [usize],
     work: &mut [u32],
 ) -> Counts
-    requires { Mergeable original.now text.now spans.now keys.now left.now right.now left_cursors.now right_cursors.now mid half operations.old cursors.old work.old }
-    ensures { Merges original.now text.now spans.now keys.now left.now right.now left_cursors.now right_cursors.now operations.old operations.new cursors.old cursors.new result }
+    requires { Mergeable lent.original.now lent.text.now lent.tokens.spans.now lent.tokens.keys.now left.operations.now right.operations.now left.cursors.now right.cursors.now mid half operations.old cursors.old work.old }
+    ensures { Merges lent.entry.original.now lent.entry.text.now lent.entry.tokens.spans.now lent.entry.tokens.keys.now left.entry.operations.now right.entry.operations.now left.entry.cursors.now right.entry.cursors.now operations.old operations.new cursors.old cursors.new result }
 {
     // 256 cursors, and a number behind them that may be lent with them
     let mut lefts = [0usize; 513];
     let mut rights = [0usize; 513];
-    cursors::sort_into(left_cursors, &mut lefts);
-    cursors::sort_into(right_cursors, &mut rights);
-    let left_end = left_cursors.len() / 2 * 2;
-    let right_end = right_cursors.len() / 2 * 2;
-    let priority = order::stream_priority(text, spans, keys, left, right);
+    cursors::sort_into(left.cursors, &mut lefts);
+    cursors::sort_into(right.cursors, &mut rights);
+    let left_end = left.cursors.len() / 2 * 2;
+    let right_end = right.cursors.len() / 2 * 2;
+    let priority = order::stream_priority(lent, left.operations, right.operations);
     let totals = merge::run(
-        original,
-        text,
-        spans,
-        keys,
-        left,
-        right,
-        &lefts[..left_end],
-        &rights[..right_end],
+        lent,
+        List {
+            operations: left.operations,
+            cursors: &lefts[..left_end],
+        },
+        List {
+            operations: right.operations,
+            cursors: &rights[..right_end],
+        },
         priority,
         work,
         mid,
@@ -87,74 +72,39 @@ fn merge_accepted(
         operations,
         cursors,
     );
-    let count = totals.cursors;
-    cursors::sort_room(cursors, count);
+    cursors::sort_room(cursors, totals.cursors);
     Counts {
         operations: totals.operations,
-        cursors: count,
+        cursors: totals.cursors,
     }
 }
 
 // Two lists of edits of one original, with their cursors, merged into the rooms lent.
 pub fn merge(
-    original: &[u32],
-    text: &[u32],
-    spans: &[u32],
-    keys: &[u32],
-    left: &[usize],
-    right: &[usize],
-    left_cursors: &[usize],
-    right_cursors: &[usize],
+    lent: Lent,
+    left: List,
+    right: List,
     operations: &mut [usize],
     cursors: &mut [usize],
     work: &mut [u32],
-) -> Answer
-    ensures { MergedBy original.now text.now spans.now keys.now left.now right.now left_cursors.now right_cursors.now operations.old operations.new cursors.old cursors.new work.old work.new result }
+) -> Result<Counts, Refusal>
+    ensures { MergedBy lent.entry.original.now lent.entry.text.now lent.entry.tokens.spans.now lent.entry.tokens.keys.now left.entry.operations.now right.entry.operations.now left.entry.cursors.now right.entry.cursors.now operations.old operations.new cursors.old cursors.new work.old work.new result }
 {
     let limits = sizes::merging_limits();
-    match checks::sum_lists(
-        limits,
-        original,
-        text,
-        spans,
-        keys,
+    let claims = checks::sum_lists(limits, lent, left, right)?;
+    let half = claims.left + claims.right;
+    if !rooms_fit(left, right, half, operations, cursors, work) {
+        return Err(Refusal::Room);
+    }
+    let counts = merge_accepted(
+        lent,
         left,
         right,
-        left_cursors,
-        right_cursors,
-    ) {
-        checks::Checked::Refused(refusal) => Answer::Refused(refusal),
-        checks::Checked::Sums {
-            first: mid,
-            second: others,
-        } => {
-            let half = mid + others;
-            if !rooms_fit(
-                left.len() / 6 + right.len() / 6,
-                left_cursors.len() / 2 + right_cursors.len() / 2,
-                half,
-                operations.len(),
-                cursors.len(),
-                work.len(),
-            ) {
-                return Answer::Refused(Refusal::Room);
-            }
-            let counts = merge_accepted(
-                original,
-                text,
-                spans,
-                keys,
-                left,
-                right,
-                left_cursors,
-                right_cursors,
-                mid,
-                half,
-                operations,
-                cursors,
-                work,
-            );
-            Answer::Counts(counts)
-        }
-    }
+        claims.left,
+        half,
+        operations,
+        cursors,
+        work,
+    );
+    Ok(counts)
 }

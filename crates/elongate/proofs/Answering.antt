@@ -11,8 +11,6 @@ use borrow.Author.Tests.{le-leb, leb-true}
 use Rattle.refusal.specs.declared.Refusal.{Refusal}
 use Rattle.refusal.specs.declared.Refusal.TheVariants as R
 use Rattle.records.specs.Tokens.{tokens_from}
-use Rattle.verdict.specs.declared.Verdict.{Verdict}
-use Rattle.verdict.specs.declared.Verdict.TheVariants.{Accepted, Refused}
 use Rattle.sizes.specs.Texts.{run_text}
 use Rattle.shapes.proofs.Accepted.{run_length}
 use Rattle.verdict.specs.Points.{points_from}
@@ -25,7 +23,6 @@ use Rattle.raw_lists.specs.Checks.{total, claimed_by, text_by, raw_fits, shapes_
 use Rattle.raw_lists.proofs.Lists.{length_raws}
 use Rattle.raw_lists.proofs.Accepted.{all_good, claimed_all}
 use Rattle.elongate.specs.declared.Written.{Written}
-use Rattle.elongate.specs.declared.Answer.TheVariants as A
 use Rattle.elongate.specs.Elongated.{arranged, joined, elongated, cooked, pieces_length, all_tokens}
 use Rattle.elongate.specs.Currents.{none, cooked_on}
 use Rattle.elongate.specs.Places.{kind_of}
@@ -34,6 +31,8 @@ use Rattle.elongate.specs.Verdicts.{rooms_fit, raw_verdict, Elongates, verdict_o
 use Rattle.elongate.proofs.Lengths.{pieces_length_lem}
 use Rattle.elongate.proofs.Arranging.{total_arranged, counts_total, length_total, lengths_total, good_arranged, runs_arranged}
 use Rattle.elongate.proofs.Joining.{some_runs, cooks_all, tokens_joined, joined_length, cooked_length}
+use Rattle.std.specs.Prelude.{Ok, Err}
+use Rattle.verdict.specs.Verdicts.{Verdict, accepted}
 
 -- the lengths of an accepted list are those that were checked
 
@@ -61,7 +60,7 @@ length_runs spans keys joins (r ∷ rs) = ap suc (length_runs spans keys joins r
 -- the rooms and the sizes, of the list as it is walked
 
 module _ (xs spans keys joins text o s k j : List ℕ) where
-  module _ (v : raw_fits (length text) spans keys joins (raws_of xs) ≡ true) (w : shapes_from (length text) spans keys joins (raws_of xs) 0 ≡ Accepted) where
+  module _ (v : raw_fits (length text) spans keys joins (raws_of xs) ≡ true) (w : shapes_from (length text) spans keys joins (raws_of xs) 0 ≡ accepted) where
     good : AllGood (length text) spans keys joins (raws_of xs)
     good = all_good (length text) spans keys joins (raws_of xs) 0 w
 
@@ -137,7 +136,7 @@ module _ (xs spans keys joins text o s k j : List ℕ) where
 
     pub accepts : (t : ℕ) → t ≡ min 1000000 (total claimed_by (raws_of xs))
         → leb (length xs / 3 * 6) (length o) && (leb (t * 2) (length s) && (leb t (length k) && leb t (length j))) ≡ true
-        → points_from text 0 ≡ Accepted → verdict_on xs spans keys joins text o s k j ≡ Accepted
+        → points_from text 0 ≡ accepted → verdict_on xs spans keys joins text o s k j ≡ accepted
     unfolding raw_verdict
     accepts t e f p =
         let g : rooms_fit (raws_of xs) (length o) (length s) (length k) (length j) ≡ true = rw (length_raws xs, ← claims t e) f in
@@ -145,16 +144,16 @@ module _ (xs spans keys joins text o s k j : List ℕ) where
 
     pub no_room : (t : ℕ) → t ≡ min 1000000 (total claimed_by (raws_of xs))
         → leb (length xs / 3 * 6) (length o) && (leb (t * 2) (length s) && (leb t (length k) && leb t (length j))) ≡ false
-        → points_from text 0 ≡ Accepted → verdict_on xs spans keys joins text o s k j ≡ Refused R.Room
+        → points_from text 0 ≡ accepted → verdict_on xs spans keys joins text o s k j ≡ Err R.Room
     unfolding raw_verdict
     no_room t e f p =
         let g : rooms_fit (raws_of xs) (length o) (length s) (length k) (length j) ≡ false = rw (length_raws xs, ← claims t e) f in
         sym (fits _ _ _ v (goes_on _ _ _ p (sym (lacks_room _ _ w g))))
 
     -- what was written is the answer
-    pub writes : (o' s' k' j' : List ℕ) (r : Written) → verdict_on xs spans keys joins text o s k j ≡ Accepted
+    pub writes : (o' s' k' j' : List ℕ) (r : Written) → verdict_on xs spans keys joins text o s k j ≡ accepted
         → Wrote spans keys joins (arranged kind_of (raws_of xs)) o s k j o' s' k' j' r
-        → Elongates xs spans keys joins text o s k j o' s' k' j' (verdict_on xs spans keys joins text o s k j) (A.Counts r)
+        → Elongates xs spans keys joins text o s k j o' s' k' j' (verdict_on xs spans keys joins text o s k j) (Ok r)
     writes o' s' k' j' r a h =
         let q : r ≡ record { operations = length (elongated (runs_of spans keys joins (raws_of xs))); tokens = counts (raws_of xs) } =
         same_written r (length (elongated (runs_of spans keys joins (raws_of xs)))) (counts (raws_of xs))
@@ -169,7 +168,7 @@ module _ (xs spans keys joins text o s k j : List ℕ) where
         }
 
 -- a refusal leaves the rooms as they were
-pub refuses : (xs spans keys joins text o s k j : List ℕ) (v : Verdict) (r : Refusal) → v ≡ Refused r
-    → Elongates xs spans keys joins text o s k j o s k j v (A.Refused r)
+pub refuses : (xs spans keys joins text o s k j : List ℕ) (v : Verdict) (r : Refusal) → v ≡ Err r
+    → Elongates xs spans keys joins text o s k j o s k j v (Err r)
 refuses xs spans keys joins text o s k j v r e =
     record { answer = rw e; operations = rw e; in_spans = rw e; in_keys = rw e; in_joins = rw e }

@@ -65,7 +65,7 @@ length_tokens spans keys joins [] = refl
 length_tokens spans keys joins (r ∷ rs) =
     rw (length-append (pieces_from spans keys joins r.first r.count) (all_tokens (runs_of spans keys joins rs)), length_pieces, length_tokens spans keys joins rs)
 
-module _ (spans keys joins : List ℕ) (n : ℕ) (rs : List Raw) (o₀ s₀ k₀ j₀ : List ℕ) where
+module _ {spans keys joins : List ℕ} {n : ℕ} {rs : List Raw} {o₀ s₀ k₀ j₀ : List ℕ} where
   pub walk_starts : Ready spans keys joins n rs o₀ s₀ k₀ j₀ → Walking spans keys joins n rs o₀ s₀ k₀ j₀ rs none 0 o₀ s₀ k₀ j₀
   walk_starts h =
       let t = length_tokens spans keys joins rs in
@@ -81,7 +81,7 @@ module _ (spans keys joins : List ℕ) (n : ℕ) (rs : List Raw) (o₀ s₀ k₀
         room_j = room_begins j₀ _ _ refl (omega (arith, h.in_joins, length_joins (all_tokens (runs_of spans keys joins rs))));
       }
 
-  module _ (r : Raw) (ls : List Raw) (c : Current) (w : ℕ) (o s k j : List ℕ) (h : Walking spans keys joins n rs o₀ s₀ k₀ j₀ (r ∷ ls) c w o s k j) where
+  module _ {r : Raw} {ls : List Raw} {c : Current} {w : ℕ} {o s k j : List ℕ} (h : Walking spans keys joins n rs o₀ s₀ k₀ j₀ (r ∷ ls) c w o s k j) where
     ps : List Piece
     ps = pieces_from spans keys joins r.first r.count
 
@@ -126,7 +126,7 @@ module _ (spans keys joins : List ℕ) (n : ℕ) (rs : List Raw) (o₀ s₀ k₀
     pub tokens_most : c.first + c.count + r.count ≤ 900000
     tokens_most = omega (arith, left_over, h.few)
 
-    module _ (len : ℕ) (e : len ≡ min 1000000 (run_text n (tokens_from spans keys r.first r.count))) where
+    module _ {len : ℕ} (e : len ≡ min 1000000 (run_text n (tokens_from spans keys r.first r.count))) where
       exact : len ≡ pieces_length ps
       unfolding ps
       exact = run_sum n spans keys joins r len good_run (omega (arith, sums)) e
@@ -134,7 +134,7 @@ module _ (spans keys joins : List ℕ) (n : ℕ) (rs : List Raw) (o₀ s₀ k₀
       pub sums_most : c.order + c.length + len ≤ 900000
       sums_most = omega (arith, sums, exact)
 
-      module _ (left right : Bool) (el : left ≡ eqb (get_or joins r.first 0 % 2) 1) (er : right ≡ eqb (get_or joins (r.first + r.count - 1) 0 / 2 % 2) 1) where
+      module _ {left right : Bool} (el : left ≡ eqb (get_or joins r.first 0 % 2) 1) (er : right ≡ eqb (get_or joins (r.first + r.count - 1) 0 / 2 % 2) 1) where
         begins_left : first_left ps ≡ left
         unfolding ps
         begins_left = first_left_lem spans keys joins r.first r.count good_run.some ∙ sym el
@@ -149,7 +149,7 @@ module _ (spans keys joins : List ℕ) (n : ℕ) (rs : List Raw) (o₀ s₀ k₀
             in
             ap (λ (m : ℕ). last_right (pieces_from spans keys joins r.first m)) a ∙ (z ∙ sym er)
 
-        module _ (s' k' j' : List ℕ) (a : Appended (pieces_from spans keys joins r.first r.count) (c.first + c.count) s k j s' k' j') where
+        module _ {s' k' j' : List ℕ} (a : Appended (pieces_from spans keys joins r.first r.count) (c.first + c.count) s k j s' k' j') where
           next_s : (b : ℕ) → b ≡ (c.first + c.count + r.count) * 2 → Room s' b (flat_spans rest) (flat_spans (all_tokens (runs_of spans keys joins rs))) s₀
           unfolding ps rest runs_of all_tokens
           next_s b eb =
@@ -169,10 +169,10 @@ module _ (spans keys joins : List ℕ) (n : ℕ) (rs : List Raw) (o₀ s₀ k₀
               (rw (joins_append ps rest) at h.room_j) a.in_joins (omega (arith, length_joins ps, many))
 
           -- the run joins the current operation
-          pub walk_joins : (c' : Current) → (eqb c.kind r.kind && not (eqb c.kind 2)) && (c.right && left) ≡ true → c' ≡ extended c len r.count right
+          pub walk_joins : {c' : Current} → (eqb c.kind r.kind && not (eqb c.kind 2)) && (c.right && left) ≡ true → c' ≡ extended c len r.count right
               → Walking spans keys joins n rs o₀ s₀ k₀ j₀ ls c' w o s' k' j'
           unfolding AllGood rest ps runs_of
-          walk_joins c' t ec =
+          walk_joins {c'} t ec =
               let u : joinable c.kind c.right (run_of spans keys joins r) ≡ true = rw (begins_left) t in
               let v : cooked_on c (runs_of spans keys joins (r ∷ ls)) ≡ cooked_on c' (runs_of spans keys joins ls) =
               cooks_joined c (run_of spans keys joins r) (runs_of spans keys joins ls) u ∙ rw (ec, exact, ends_right, many)
@@ -192,10 +192,10 @@ module _ (spans keys joins : List ℕ) (n : ℕ) (rs : List Raw) (o₀ s₀ k₀
               }
 
           -- the current operation is closed, and the run is the next
-          pub walk_parts : (c' : Current) (w' : ℕ) (o' : List ℕ) → (eqb c.kind r.kind && not (eqb c.kind 2)) && (c.right && left) ≡ false → Closed c w o o' w'
+          pub walk_parts : {c' : Current} {w' : ℕ} {o' : List ℕ} → (eqb c.kind r.kind && not (eqb c.kind 2)) && (c.right && left) ≡ false → Closed c w o o' w'
               → c' ≡ fresh c r.kind len r.count right → Walking spans keys joins n rs o₀ s₀ k₀ j₀ ls c' w' o' s' k' j'
           unfolding AllGood rest ps runs_of
-          walk_parts c' w' o' t q ec =
+          walk_parts {c'} {w'} {o'} t q ec =
               let u : joinable c.kind c.right (run_of spans keys joins r) ≡ false = rw (begins_left) t in
               let v : cooked_on c (runs_of spans keys joins (r ∷ ls)) ≡ closed c ++ cooked_on c' (runs_of spans keys joins ls) =
               cooks_apart c (run_of spans keys joins r) (runs_of spans keys joins ls) u ∙ rw (ec, exact, ends_right, many)
@@ -228,18 +228,15 @@ module _ (spans keys joins : List ℕ) (n : ℕ) (rs : List Raw) (o₀ s₀ k₀
             let f = rw v at h.room_o.fits in
             omega (arith, f, O.length_flat (closed c ++ more), length-append (closed c) more)
 
-  module _ (c : Current) (w : ℕ) (o s k j : List ℕ) (h : Walking spans keys joins n rs o₀ s₀ k₀ j₀ [] c w o s k j) where
+  module _ {c : Current} {w : ℕ} {o s k j : List ℕ} (h : Walking spans keys joins n rs o₀ s₀ k₀ j₀ [] c w o s k j) where
     pub ends_fits : (w + length (closed c)) * 6 ≤ length o
     unfolding cooked_on runs_of
     ends_fits = omega (arith, h.room_o.fits, O.length_flat (closed c))
 
-    pub ends_most : c.first + c.count ≤ 900000
-    ends_most = omega (arith, h.taken, h.few)
-
-    pub walk_ends : (w' : ℕ) (o' : List ℕ) → Closed c w o o' w'
+    pub walk_ends : {w' : ℕ} {o' : List ℕ} → Closed c w o o' w'
         → Wrote spans keys joins rs o₀ s₀ k₀ j₀ o' s k j (record { operations = w'; tokens = c.first + c.count })
     unfolding cooked_on runs_of all_tokens flat_spans flat_keys flat_joins counts
-    walk_ends w' o' q =
+    walk_ends q =
         record {
           operations = q.next ∙ h.written;
           tokens = omega (arith, h.taken);

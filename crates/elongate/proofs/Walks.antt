@@ -1,7 +1,7 @@
 -- The steps of the walk: each gives the first of what is left, or leaves it.
 -- By the kind of the operation at the place. Assumes nothing.
 use Prim.Native.Nat.{ℕ, zero, suc, ◌+◌, ◌-◌, ◌/◌, ◌≤◌, ◌<◌}
-use mathlib.Core.Path.{◌≡◌, refl, sym, ◌∙◌, ap}
+use mathlib.Core.Path.{◌≡◌, refl, ◌∙◌, ap}
 use mathlib.Core.List.{List, [], ◌∷◌, ◌++◌, append_assoc, append-nil}
 use native.Mathlib.Omega.{arith}
 use native.Mathlib.Nat.{sub-zero}
@@ -93,12 +93,12 @@ module _ (xs : List ℕ) (start at : ℕ) (lies : start ≤ at) where
           );
         }
 
-    pub takes_delete : r.kind ≡ 0 → Stepped xs (Deletes start at) (Take at (Deletes start (at + 1)))
+    pub takes_delete : r.kind ≡ 0 → Stepped xs (Deletes start at) (Take r (Deletes start (at + 1)))
     unfolding left rest inserts_of
     takes_delete k =
         let z : inserts_of (raw_at xs at ∷ []) ≡ [] = rw (← e) (inserts_skip r [] k) in
         let q : inserts_of (raws_from xs start (at + 1 - start)) ≡ inserts_of (raws_from xs start (at - start)) = over ∙ rw (z, append-nil) in
-        record { gives = (h, (rw (here, parts_delete r rest k, q, e), (omega arith, (omega arith, omega arith)))) }
+        record { gives = (rw (here, parts_delete r rest k, q), (omega arith, (omega arith, omega arith))) }
 
     pub skips_insert : (r.kind ≡ 2 → ⊥) → (r.kind ≡ 0 → ⊥) → Stepped xs (Deletes start at) (Skip (Deletes start (at + 1)))
     unfolding left rest inserts_of
@@ -115,21 +115,18 @@ module _ (xs : List ℕ) (at end : ℕ) (l : end ≤ length xs / 3) where
     unfolding left
     skips_delete k = record { gives = (rw (now, inserts_skip r (raws_from xs (at + 1) (end - (at + 1))) k), (omega arith, (omega arith, l))) }
 
-    pub takes_insert : (r.kind ≡ 0 → ⊥) → Stepped xs (Inserts at end) (Take at (Inserts (at + 1) end))
+    pub takes_insert : (r.kind ≡ 0 → ⊥) → Stepped xs (Inserts at end) (Take r (Inserts (at + 1) end))
     unfolding left
     takes_insert k =
-        record { gives = (omega arith, (rw (now, inserts_take r (raws_from xs (at + 1) (end - (at + 1))) k, e), (omega arith, (omega arith, l)))) }
+        record { gives = (rw (now, inserts_take r (raws_from xs (at + 1) (end - (at + 1))) k), (omega arith, (omega arith, l))) }
 
-  pub takes_retain : end ≤ at → at ≤ end → end < length xs / 3 → Stepped xs (Inserts at end) (Take end (Deletes (end + 1) (end + 1)))
+  pub takes_retain : (r : Raw) → end ≤ at → at ≤ end → end < length xs / 3 → r ≡ raw_at xs end → Stepped xs (Inserts at end) (Take r (Deletes (end + 1) (end + 1)))
   unfolding left behind inserts_of
-  takes_retain h g w =
+  takes_retain r h g w e =
       record {
         gives = (
-          w,
-          (
-            rw (from_none xs at end h, lt-ltb end (length xs / 3) w, behind, from_none xs (end + 1) (end + 1) (omega arith)),
-            (omega arith, (omega arith, omega arith)),
-          ),
+          rw (from_none xs at end h, lt-ltb end (length xs / 3) w, behind, from_none xs (end + 1) (end + 1) (omega arith), e),
+          (omega arith, (omega arith, omega arith)),
         );
       }
 
@@ -145,15 +142,8 @@ walk_begins xs = rw (from_none xs 0 0 (omega arith), sub-zero)
 -- what a step that was taken, or not, says
 
 module _ {xs : List ℕ} {p : Place} {s : Step} (h : Stepped xs p s) where
-  pub took : {i : ℕ} {q : Place} → s ≡ Take i q
-      → (i < length xs / 3) × ((left xs p ≡ raw_at xs i ∷ left xs q) × ((work (length xs / 3) q < work (length xs / 3) p) × Lies (length xs / 3) q))
+  pub took : {r : Raw} {q : Place} → s ≡ Take r q → (left xs p ≡ r ∷ left xs q) × ((work (length xs / 3) q < work (length xs / 3) p) × Lies (length xs / 3) q)
   took e = (rw e at h).gives
-
-  pub took_run : {i : ℕ} {q : Place} {r : Raw} → s ≡ Take i q → r ≡ raw_at xs i → left xs p ≡ r ∷ left xs q
-  took_run {q = q} e f = (took e).1.0 ∙ ap (λ (z : Raw). z ∷ left xs q) (sym f)
-
-  pub skipped : {q : Place} → s ≡ Skip q → (left xs p ≡ left xs q) × ((work (length xs / 3) q < work (length xs / 3) p) × Lies (length xs / 3) q)
-  skipped e = (rw e at h).gives
 
   pub ended : s ≡ End → left xs p ≡ []
   ended e = (rw e at h).gives

@@ -44,7 +44,7 @@ Lies n (Inserts at end) = (at ≤ end) × (end ≤ n)
 
 -- what a step gives: an operation and the place behind it; a place only; or nothing is left
 abbrev pub Gives : List ℕ → Place → Step → Type 0
-Gives xs p (Take i q) = (i < length xs / 3) × ((left xs p ≡ raw_at xs i ∷ left xs q) × ((work (length xs / 3) q < work (length xs / 3) p) × Lies (length xs / 3) q))
+Gives xs p (Take r q) = (left xs p ≡ r ∷ left xs q) × ((work (length xs / 3) q < work (length xs / 3) p) × Lies (length xs / 3) q)
 Gives xs p (Skip q) = (left xs p ≡ left xs q) × ((work (length xs / 3) q < work (length xs / 3) p) × Lies (length xs / 3) q)
 Gives xs p End = left xs p ≡ []
 

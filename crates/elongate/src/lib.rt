@@ -3,7 +3,7 @@
 // tokens in their room.
 #![tactic(auto)]
 
-ghost use Rattle.std.specs.Prelude.{◌≡◌, ◌+◌, ◌*◌, ◌/◌, ◌%◌, ◌<◌, ◌≤◌, ◌&&◌, not, length, get_or, eqb, leb};
+ghost use Rattle.std.specs.Prelude.{◌≡◌, ◌+◌, ◌*◌, ◌/◌, ◌≤◌, ◌&&◌, not, length, eqb, leb};
 ghost use Rattle.raw_lists.specs.Raws.{raws_of, pieces_from};
 ghost use Rattle.elongate.specs.Elongated.{arranged, consumes};
 ghost use Rattle.elongate.specs.Currents.{extended, fresh, closed};
@@ -12,12 +12,8 @@ ghost use Rattle.elongate.specs.Writes.{Fits, Appended, Closed, Ready, Wrote};
 ghost use Rattle.elongate.specs.Places.{kind_of, Lies, Stepped};
 ghost use Rattle.elongate.specs.declared.Place.TheVariants.{Deletes, Inserts};
 
-// How many operations and tokens elongating gave, or why none.
-#[derive(Clone, Copy)]
-pub enum Answer {
-    Counts(Written),
-    Refused(refusal::Refusal),
-}
+use raw_lists::{Raw, RawTokens};
+use refusal::Refusal;
 
 // A place in the walk through a raw list. Each stretch is walked twice: for its deletes, up to its
 // end, and for its inserts, which the retain at its end follows.
@@ -27,66 +23,69 @@ pub enum Place {
     Inserts { at: usize, end: usize },
 }
 
-// A step of the walk: an operation to take, by its index; or none at this place.
+// A step of the walk: an operation to take; or none at this place.
 #[derive(Clone, Copy)]
 pub enum Step {
-    Take(usize, Place),
+    Take(Raw, Place),
     Skip(Place),
     End,
 }
 
-fn step_deletes(raw: &[usize], start: usize, at: usize) -> Step
-    requires { (start ≤ at) × (at ≤ length raw.now / 3) }
-    ensures { Stepped raw.now (Deletes start at) result }
-{
-    if raw.len() / 3 <= at {
-        return Step::Skip(Place::Inserts { at: start, end: at });
-    }
-    let r = raw_lists::raw_at(raw, at);
-    if r.kind == 2 {
-        return Step::Skip(Place::Inserts { at: start, end: at });
-    }
-    if r.kind == 0 {
-        return Step::Take(at, Place::Deletes { start, at: at + 1 });
-    }
-    Step::Skip(Place::Deletes { start, at: at + 1 })
-}
-
-fn step_inserts(raw: &[usize], at: usize, end: usize) -> Step
-    requires { (at ≤ end) × (end ≤ length raw.now / 3) }
-    ensures { Stepped raw.now (Inserts at end) result }
-{
-    if at < end {
-        let r = raw_lists::raw_at(raw, at);
-        if r.kind == 0 {
-            return Step::Skip(Place::Inserts { at: at + 1, end });
+impl Place {
+    #[tactic(auto, using(crate::proofs::Walks::ends_stretch, crate::proofs::Walks::meets_retain, crate::proofs::Walks::takes_delete, crate::proofs::Walks::skips_insert))]
+    fn step_deletes(raw: &[usize], start: usize, at: usize) -> Step
+        requires { (start ≤ at) × (at ≤ length raw.now / 3) }
+        ensures { Stepped raw.now (Deletes start at) result }
+    {
+        if raw.len() / 3 <= at {
+            return Step::Skip(Place::Inserts { at: start, end: at });
         }
-        return Step::Take(at, Place::Inserts { at: at + 1, end });
+        let r = raw_lists::raw_at(raw, at);
+        match r.kind {
+            2 => Step::Skip(Place::Inserts { at: start, end: at }),
+            0 => Step::Take(r, Place::Deletes { start, at: at + 1 }),
+            _ => Step::Skip(Place::Deletes { start, at: at + 1 }),
+        }
     }
-    if end < raw.len() / 3 {
-        return Step::Take(
-            end,
-            Place::Deletes {
-                start: end + 1,
-                at: end + 1,
-            },
-        );
-    }
-    Step::End
-}
 
-fn advance(raw: &[usize], place: Place) -> Step
-    requires { Lies (length raw.now / 3) place }
-    ensures { Stepped raw.now place result }
-{
-    match place {
-        Place::Deletes { start, at } => step_deletes(raw, start, at),
-        Place::Inserts { at, end } => step_inserts(raw, at, end),
+    #[tactic(auto, using(crate::proofs::Walks::skips_delete, crate::proofs::Walks::takes_insert, crate::proofs::Walks::takes_retain, crate::proofs::Walks::gives_none))]
+    fn step_inserts(raw: &[usize], at: usize, end: usize) -> Step
+        requires { (at ≤ end) × (end ≤ length raw.now / 3) }
+        ensures { Stepped raw.now (Inserts at end) result }
+    {
+        if at < end {
+            let r = raw_lists::raw_at(raw, at);
+            let next = Place::Inserts { at: at + 1, end };
+            if r.kind == 0 {
+                Step::Skip(next)
+            } else {
+                Step::Take(r, next)
+            }
+        } else if end < raw.len() / 3 {
+            let start = end + 1;
+            Step::Take(
+                raw_lists::raw_at(raw, end),
+                Place::Deletes { start, at: start },
+            )
+        } else {
+            Step::End
+        }
+    }
+
+    fn step(self, raw: &[usize]) -> Step
+        requires { Lies (length raw.now / 3) self }
+        ensures { Stepped raw.now self result }
+    {
+        match self {
+            Place::Deletes { start, at } => Place::step_deletes(raw, start, at),
+            Place::Inserts { at, end } => Place::step_inserts(raw, at, end),
+        }
     }
 }
 
 // The operation that is being joined: what is known of it, and whether its last token is right
 // joinable. With no tokens it is none.
+// Kept so: with an Option, each sum over what went before would have to match it; here none has zeros.
 #[derive(Clone, Copy)]
 pub struct Current {
     pub kind: usize,
@@ -97,113 +96,89 @@ pub struct Current {
     pub right: bool,
 }
 
-fn left_joinable(joins: &[u8], at: usize) -> bool
-    requires { at < length joins.now }
-    ensures { result ≡ eqb (get_or joins.now at 0 % 2) 1 }
-{
-    joins[at] % 2 == 1
-}
-
-fn right_joinable(joins: &[u8], at: usize) -> bool
-    requires { at < length joins.now }
-    ensures { result ≡ eqb (get_or joins.now at 0 / 2 % 2) 1 }
-{
-    joins[at] / 2 % 2 == 1
-}
-
-// Whether the run behind the current operation joins it.
-fn joins_run(current: Current, kind: usize, left: bool) -> bool
-    ensures { result ≡ (eqb current.kind kind && not (eqb current.kind 2)) && (current.right && left) }
-{
-    if current.kind != kind {
-        return false;
+impl Current {
+    // Whether the run behind it joins it.
+    fn joins(self, kind: usize, left: bool) -> bool
+        ensures { result ≡ (eqb self.kind kind && not (eqb self.kind 2)) && (self.right && left) }
+    {
+        self.kind == kind && self.kind != 2 && self.right && left
     }
-    if current.kind == 2 {
-        return false;
-    }
-    if current.right {
-        return left;
-    }
-    false
-}
 
-fn extend(current: Current, length: usize, count: usize, right: bool) -> Current
-    requires { (current.length + length ≤ 1000000) × (current.count + count ≤ 1000000) }
-    ensures { result ≡ extended current length count right }
-{
-    Current {
-        kind: current.kind,
-        order: current.order,
-        length: current.length + length,
-        first: current.first,
-        count: current.count + count,
-        right,
+    // With one run more.
+    fn extended(self, length: usize, count: usize, right: bool) -> Current
+        requires { (self.length + length ≤ 1000000) × (self.count + count ≤ 1000000) }
+        ensures { result ≡ extended self length count right }
+    {
+        Current {
+            length: self.length + length,
+            count: self.count + count,
+            right,
+            ..self
+        }
     }
-}
 
-// What an operation consumes of the original.
-fn consumed(kind: usize, length: usize) -> usize
-    ensures { result ≡ consumes kind length }
-{
-    if kind == 1 { 0 } else { length }
-}
-
-fn renew(current: Current, kind: usize, length: usize, count: usize, right: bool) -> Current
-    requires { (current.order + current.length ≤ 1000000) × (current.first + current.count ≤ 1000000) }
-    ensures { result ≡ fresh current kind length count right }
-{
-    let gone = consumed(current.kind, current.length);
-    Current {
-        kind,
-        order: current.order + gone,
-        length,
-        first: current.first + current.count,
-        count,
-        right,
+    // What it consumes of the original.
+    fn consumed(self) -> usize
+        ensures { result ≡ consumes self.kind self.length }
+    {
+        if self.kind == 1 { 0 } else { self.length }
     }
-}
 
-// The current operation into its room, where there is one.
-fn close(current: Current, operations: &mut [usize], at: usize) -> usize
-    requires { (at + length (closed current)) * 6 ≤ length operations.old }
-    ensures { Closed current at operations.old operations.new result }
-{
-    if current.count == 0 {
-        return at;
+    // The run behind it, which does not join it.
+    fn next(self, kind: usize, length: usize, count: usize, right: bool) -> Current
+        requires { (self.order + self.length ≤ 1000000) × (self.first + self.count ≤ 1000000) }
+        ensures { result ≡ fresh self kind length count right }
+    {
+        Current {
+            kind,
+            order: self.order + self.consumed(),
+            length,
+            first: self.first + self.count,
+            count,
+            right,
+        }
     }
-    let operation = records::Operation {
-        kind: current.kind,
-        order: current.order,
-        length: current.length,
-        side: 0,
-        first: current.first,
-        count: current.count,
-    };
-    records::put_operation(operations, at, operation);
-    at + 1
+
+    // It, into its room, where there is one.
+    #[tactic(auto, using(crate::proofs::Cooking::closes_none, crate::proofs::Cooking::closes_some, crate::proofs::Cooking::closes_fits))]
+    fn close(self, operations: &mut [usize], at: usize) -> usize
+        requires { (at + length (closed self)) * 6 ≤ length operations.old }
+        ensures { Closed self at operations.old operations.new result }
+    {
+        if self.count == 0 {
+            return at;
+        }
+        let operation = records::Operation {
+            kind: self.kind,
+            order: self.order,
+            length: self.length,
+            side: 0,
+            first: self.first,
+            count: self.count,
+        };
+        records::put_operation(operations, at, operation);
+        at + 1
+    }
 }
 
 // The tokens of a raw operation into their rooms.
+// Kept so: a struct of the three rooms needs a clause for each that it is still the same room.
 fn append(
-    spans: &[u32],
-    keys: &[u32],
-    joins: &[u8],
-    r: raw_lists::Raw,
+    lent: RawTokens,
+    r: Raw,
     spanned: &mut [u32],
     keyed: &mut [u32],
     joined: &mut [u8],
     at: usize,
 )
-    requires { Fits spans.now keys.now joins.now r spanned.old keyed.old joined.old at }
-    ensures { Appended (pieces_from spans.now keys.now joins.now r.first r.count) at spanned.old keyed.old joined.old spanned.new keyed.new joined.new }
+    requires { Fits lent.tokens.spans.now lent.tokens.keys.now lent.joins.now r spanned.old keyed.old joined.old at }
+    ensures { Appended (pieces_from lent.entry.tokens.spans.now lent.entry.tokens.keys.now lent.entry.joins.now r.first r.count) at spanned.old keyed.old joined.old spanned.new keyed.new joined.new }
 {
     let first = r.first;
     let end = first + r.count;
-    let low = first * 2;
-    let high = end * 2;
-    room::put_u32(&spans[low..high], spanned, at * 2);
-    room::put_u32(&keys[first..end], keyed, at);
-    room::put_u8(&joins[first..end], joined, at);
+    room::put(&lent.tokens.spans[first * 2..end * 2], spanned, at * 2);
+    room::put(&lent.tokens.keys[first..end], keyed, at);
+    room::put(&lent.joins[first..end], joined, at);
 }
 
 // How many operations and tokens were written.
@@ -216,17 +191,15 @@ pub struct Written {
 // All operations, elongated and cooked, and their tokens, into their rooms.
 fn write(
     raw: &[usize],
-    spans: &[u32],
-    keys: &[u32],
-    joins: &[u8],
+    lent: RawTokens,
     n: usize,
     operations: &mut [usize],
     spanned: &mut [u32],
     keyed: &mut [u32],
     joined: &mut [u8],
 ) -> Written
-    requires { Ready spans.now keys.now joins.now n (arranged kind_of (raws_of raw.now)) operations.old spanned.old keyed.old joined.old }
-    ensures { Wrote spans.now keys.now joins.now (arranged kind_of (raws_of raw.now)) operations.old spanned.old keyed.old joined.old operations.new spanned.new keyed.new joined.new result }
+    requires { Ready lent.tokens.spans.now lent.tokens.keys.now lent.joins.now n (arranged kind_of (raws_of raw.now)) operations.old spanned.old keyed.old joined.old }
+    ensures { Wrote lent.entry.tokens.spans.now lent.entry.tokens.keys.now lent.entry.joins.now (arranged kind_of (raws_of raw.now)) operations.old spanned.old keyed.old joined.old operations.new spanned.new keyed.new joined.new result }
 {
     let mut place = Place::Deletes { start: 0, at: 0 };
     let mut current = Current {
@@ -238,10 +211,11 @@ fn write(
         right: false,
     };
     let mut written = 0;
+    // Kept so: a `loop`, since a stretch is walked twice; no range counts the places.
     'walk: loop {
-        match advance(raw, place) {
+        match place.step(raw) {
             Step::End => {
-                let count = close(current, operations, written);
+                let count = current.close(operations, written);
                 return Written {
                     operations: count,
                     tokens: current.first + current.count,
@@ -250,22 +224,20 @@ fn write(
             Step::Skip(next) => {
                 place = next;
             }
-            Step::Take(i, next) => {
-                let r = raw_lists::raw_at(raw, i);
+            Step::Take(r, next) => {
                 let at = current.first + current.count;
-                append(spans, keys, joins, r, spanned, keyed, joined, at);
-                let length = sizes::run_text(spans, keys, n, r.first, r.count);
-                let left = left_joinable(joins, r.first);
+                append(lent, r, spanned, keyed, joined, at);
+                let length = sizes::run_text(lent.tokens, n, r.first, r.count);
+                let left = lent.joins[r.first] % 2 == 1;
                 let last = r.first + r.count - 1;
-                let right = right_joinable(joins, last);
-                if joins_run(current, r.kind, left) {
-                    current = extend(current, length, r.count, right);
-                    place = next;
+                let right = lent.joins[last] / 2 % 2 == 1;
+                if current.joins(r.kind, left) {
+                    current = current.extended(length, r.count, right);
                 } else {
-                    written = close(current, operations, written);
-                    current = renew(current, r.kind, length, r.count, right);
-                    place = next;
+                    written = current.close(operations, written);
+                    current = current.next(r.kind, length, r.count, right);
                 }
+                place = next;
             }
         }
     }
@@ -282,57 +254,37 @@ fn rooms_fit(
 ) -> bool
     ensures { result ≡ leb (count * 6) operations && (leb (tokens * 2) spanned && (leb tokens keyed && leb tokens joined)) }
 {
-    if operations / 6 < count {
-        return false;
-    }
-    if spanned / 2 < tokens {
-        return false;
-    }
-    if keyed < tokens {
-        return false;
-    }
-    tokens <= joined
+    count <= operations / 6 && tokens <= spanned / 2 && tokens <= keyed && tokens <= joined
 }
 
 // Raw operations, elongated and cooked, into a room, and their tokens into three.
 pub fn elongate(
     raw: &[usize],
-    spans: &[u32],
-    keys: &[u32],
-    joins: &[u8],
+    lent: RawTokens,
     text: &[u32],
     operations: &mut [usize],
     spanned: &mut [u32],
     keyed: &mut [u32],
     joined: &mut [u8],
-) -> Answer
-    ensures { Elongates raw.now spans.now keys.now joins.now text.now operations.old spanned.old keyed.old joined.old operations.new spanned.new keyed.new joined.new (verdict_on raw.now spans.now keys.now joins.now text.now operations.old spanned.old keyed.old joined.old) result }
+) -> Result<Written, Refusal>
+    ensures { Elongates raw.now lent.entry.tokens.spans.now lent.entry.tokens.keys.now lent.entry.joins.now text.now operations.old spanned.old keyed.old joined.old operations.new spanned.new keyed.new joined.new (verdict_on raw.now lent.entry.tokens.spans.now lent.entry.tokens.keys.now lent.entry.joins.now text.now operations.old spanned.old keyed.old joined.old) result }
 {
     let n = text.len();
-    if !raw_lists::raw_fits(raw, spans, keys, joins, n) {
-        return Answer::Refused(refusal::Refusal::Size);
+    if !raw_lists::raw_fits(raw, lent, n) {
+        return Err(Refusal::Size);
     }
-    match verdict::check_text(text) {
-        verdict::Verdict::Refused(refusal) => Answer::Refused(refusal),
-        verdict::Verdict::Accepted => match raw_lists::check_raws(raw, spans, keys, joins, n) {
-            verdict::Verdict::Refused(refusal) => Answer::Refused(refusal),
-            verdict::Verdict::Accepted => {
-                let tokens = raw_lists::claimed(raw);
-                if !rooms_fit(
-                    raw.len() / 3,
-                    tokens,
-                    operations.len(),
-                    spanned.len(),
-                    keyed.len(),
-                    joined.len(),
-                ) {
-                    return Answer::Refused(refusal::Refusal::Room);
-                }
-                let written = write(
-                    raw, spans, keys, joins, n, operations, spanned, keyed, joined,
-                );
-                Answer::Counts(written)
-            }
-        },
+    verdict::check_text(text)?;
+    raw_lists::check_raws(raw, lent, n)?;
+    let tokens = raw_lists::claimed(raw);
+    if !rooms_fit(
+        raw.len() / 3,
+        tokens,
+        operations.len(),
+        spanned.len(),
+        keyed.len(),
+        joined.len(),
+    ) {
+        return Err(Refusal::Room);
     }
+    Ok(write(raw, lent, n, operations, spanned, keyed, joined))
 }

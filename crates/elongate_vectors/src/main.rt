@@ -4,7 +4,11 @@
 // refusal's number and values. Past what is due a room keeps its marks.
 #![tactic(auto)]
 
-use vectors::Due;
+use marked::Mark;
+use raw_lists::RawTokens;
+use records::Tokens;
+use refusal::Refusal;
+use vectors::{Case, Due};
 
 fn main() {
     let mut space = [0u8; 131072];
@@ -13,24 +17,25 @@ fn main() {
 }
 
 fn replay(name: &[u8], bytes: &[u8]) {
-    let mut tally = vectors::no_cases();
-    let mut at = 0;
-    'cases: while at < bytes.len() {
-        let case = case_at(bytes, at);
-        tally = tally.with(case.agrees);
-        if case.next <= at {
-            break 'cases;
-        }
-        at = case.next;
-    }
-    vectors::report(name, tally);
+    vectors::replay(name, bytes.len(), |at| case_at(bytes, at));
 }
 
-// Whether the call gives the case's answer, and the offset behind the case.
+// What a case lends.
 #[derive(Clone, Copy)]
-struct Case {
-    agrees: bool,
-    next: usize,
+struct Lent<'a> {
+    raw: &'a [usize],
+    tokens: RawTokens<'a>,
+    text: &'a [u32],
+}
+
+// The answer that is due, and what the rooms then begin with.
+#[derive(Clone, Copy)]
+struct Expected<'a> {
+    due: Due,
+    operations: &'a [usize],
+    spans: &'a [u32],
+    keys: &'a [u32],
+    joins: &'a [u8],
 }
 
 // The lengths of the rooms that are lent.
@@ -42,142 +47,81 @@ struct Rooms {
     joins: usize,
 }
 
+// As long as the longest that a case asks, and more.
+const AMPLE: Rooms = Rooms {
+    operations: 2048,
+    spans: 2048,
+    keys: 1024,
+    joins: 1024,
+};
+
 fn case_at(bytes: &[u8], at: usize) -> Case {
     let mut raw = [0usize; 1024];
     let mut spans = [0u32; 1024];
     let mut keys = [0u32; 1024];
     let mut joins = [0u8; 1024];
     let mut text = [0u32; 1024];
-    let raw_line = vectors::numbers_usize(bytes, at, &mut raw);
-    let spans_line = vectors::numbers_u32(bytes, raw_line.next, &mut spans);
-    let keys_line = vectors::numbers_u32(bytes, spans_line.next, &mut keys);
-    let joins_line = vectors::numbers_u8(bytes, keys_line.next, &mut joins);
-    let text_line = vectors::numbers_u32(bytes, joins_line.next, &mut text);
-    let r = raw_line.count;
-    let s = spans_line.count;
-    let k = keys_line.count;
-    let j = joins_line.count;
-    let t = text_line.count;
-    answer_at(
-        bytes,
-        text_line.next,
-        &raw[..r],
-        &spans[..s],
-        &keys[..k],
-        &joins[..j],
-        &text[..t],
-    )
+    let raw = vectors::numbers(bytes, at, &mut raw);
+    let spans = vectors::numbers(bytes, raw.next, &mut spans);
+    let keys = vectors::numbers(bytes, spans.next, &mut keys);
+    let joins = vectors::numbers(bytes, keys.next, &mut joins);
+    let text = vectors::numbers(bytes, joins.next, &mut text);
+    let lent = Lent {
+        raw: raw.numbers,
+        tokens: RawTokens {
+            tokens: Tokens {
+                spans: spans.numbers,
+                keys: keys.numbers,
+            },
+            joins: joins.numbers,
+        },
+        text: text.numbers,
+    };
+    answer_at(bytes, text.next, lent)
 }
 
-fn answer_at(
-    bytes: &[u8],
-    at: usize,
-    raw: &[usize],
-    spans: &[u32],
-    keys: &[u32],
-    joins: &[u8],
-    text: &[u32],
-) -> Case {
-    let mut operations_due = [0usize; 1024];
-    let mut spans_due = [0u32; 1024];
-    let mut keys_due = [0u32; 1024];
-    let mut joins_due = [0u8; 1024];
+fn answer_at(bytes: &[u8], at: usize, lent: Lent) -> Case {
+    let mut operations = [0usize; 1024];
+    let mut spans = [0u32; 1024];
+    let mut keys = [0u32; 1024];
+    let mut joins = [0u8; 1024];
     let answer = vectors::due_at(bytes, at);
-    let operations_line = vectors::numbers_usize(bytes, answer.next, &mut operations_due);
-    let spans_line = vectors::numbers_u32(bytes, operations_line.next, &mut spans_due);
-    let keys_line = vectors::numbers_u32(bytes, spans_line.next, &mut keys_due);
-    let joins_line = vectors::numbers_u8(bytes, keys_line.next, &mut joins_due);
-    let o = operations_line.count;
-    let s = spans_line.count;
-    let k = keys_line.count;
-    let j = joins_line.count;
-    let agrees = agrees(
-        raw,
-        spans,
-        keys,
-        joins,
-        text,
-        answer.due,
-        &operations_due[..o],
-        &spans_due[..s],
-        &keys_due[..k],
-        &joins_due[..j],
-    );
+    let operations = vectors::numbers(bytes, answer.next, &mut operations);
+    let spans = vectors::numbers(bytes, operations.next, &mut spans);
+    let keys = vectors::numbers(bytes, spans.next, &mut keys);
+    let joins = vectors::numbers(bytes, keys.next, &mut joins);
+    let expected = Expected {
+        due: answer.due,
+        operations: operations.numbers,
+        spans: spans.numbers,
+        keys: keys.numbers,
+        joins: joins.numbers,
+    };
     Case {
-        agrees,
-        next: joins_line.next,
+        agrees: agrees(lent, expected),
+        next: joins.next,
     }
 }
 
 // Refusals 3, 4 and 1 come with rooms of any length, refusal 7 with a room that is one number too
 // short, and rooms of the length asked are enough.
-fn agrees(
-    raw: &[usize],
-    spans: &[u32],
-    keys: &[u32],
-    joins: &[u8],
-    text: &[u32],
-    due: Due,
-    operations_due: &[usize],
-    spans_due: &[u32],
-    keys_due: &[u32],
-    joins_due: &[u8],
-) -> bool {
-    let ample = Rooms {
-        operations: 2048,
-        spans: 2048,
-        keys: 1024,
-        joins: 1024,
-    };
-    if !gives(
-        raw,
-        spans,
-        keys,
-        joins,
-        text,
-        ample,
-        due,
-        operations_due,
-        spans_due,
-        keys_due,
-        joins_due,
-    ) {
-        return false;
-    }
-    let asked = asked_by(raw, due);
-    if !gives(
-        raw,
-        spans,
-        keys,
-        joins,
-        text,
-        asked,
-        due,
-        operations_due,
-        spans_due,
-        keys_due,
-        joins_due,
-    ) {
-        return false;
-    }
-    if due.number != 0 {
-        return true;
-    }
-    refuses_short(raw, spans, keys, joins, text, asked)
+fn agrees(lent: Lent, expected: Expected) -> bool {
+    let asked = asked_by(lent.raw, expected.due);
+    gives(lent, AMPLE, expected)
+        && gives(lent, asked, expected)
+        && (expected.due.is_refusal() || refuses_short(lent, asked))
 }
 
 // The rooms that an accepted raw list asks; for a refused one, none.
 fn asked_by(raw: &[usize], due: Due) -> Rooms {
-    if due.number != 0 {
-        return Rooms {
-            operations: 0,
-            spans: 0,
-            keys: 0,
-            joins: 0,
-        };
-    }
-    let operations = marked::at_most(raw.len() / 3, 341);
-    let tokens = marked::at_most(due.second, 1024);
+    let (operations, tokens) = if due.is_refusal() {
+        (0, 0)
+    } else {
+        (
+            std::cmp::min(raw.len() / 3, 341),
+            std::cmp::min(due.values.second, 1024) as usize,
+        )
+    };
     Rooms {
         operations: operations * 6,
         spans: tokens * 2,
@@ -187,165 +131,78 @@ fn asked_by(raw: &[usize], due: Due) -> Rooms {
 }
 
 // Whether refusal 7 comes with each room in turn one number shorter than asked.
-fn refuses_short(
-    raw: &[usize],
-    spans: &[u32],
-    keys: &[u32],
-    joins: &[u8],
-    text: &[u32],
-    asked: Rooms,
-) -> bool {
-    if asked.operations == 0 {
-        return true;
-    }
-    refuses(
-        raw,
-        spans,
-        keys,
-        joins,
-        text,
+fn refuses_short(lent: Lent, asked: Rooms) -> bool {
+    let refused = Expected {
+        due: Due::from(Refusal::Room),
+        operations: &[],
+        spans: &[],
+        keys: &[],
+        joins: &[],
+    };
+    let short = [
         Rooms {
-            operations: marked::one_less(asked.operations),
-            spans: asked.spans,
-            keys: asked.keys,
-            joins: asked.joins,
+            operations: asked.operations.saturating_sub(1),
+            ..asked
         },
-    ) && refuses(
-        raw,
-        spans,
-        keys,
-        joins,
-        text,
         Rooms {
-            operations: asked.operations,
-            spans: marked::one_less(asked.spans),
-            keys: asked.keys,
-            joins: asked.joins,
+            spans: asked.spans.saturating_sub(1),
+            ..asked
         },
-    ) && refuses(
-        raw,
-        spans,
-        keys,
-        joins,
-        text,
         Rooms {
-            operations: asked.operations,
-            spans: asked.spans,
-            keys: marked::one_less(asked.keys),
-            joins: asked.joins,
+            keys: asked.keys.saturating_sub(1),
+            ..asked
         },
-    ) && refuses(
-        raw,
-        spans,
-        keys,
-        joins,
-        text,
         Rooms {
-            operations: asked.operations,
-            spans: asked.spans,
-            keys: asked.keys,
-            joins: marked::one_less(asked.joins),
+            joins: asked.joins.saturating_sub(1),
+            ..asked
         },
-    )
-}
-
-fn refuses(
-    raw: &[usize],
-    spans: &[u32],
-    keys: &[u32],
-    joins: &[u8],
-    text: &[u32],
-    rooms: Rooms,
-) -> bool {
-    let operations_due = [0usize; 0];
-    let tokens_due = [0u32; 0];
-    let joins_due = [0u8; 0];
-    gives(
-        raw,
-        spans,
-        keys,
-        joins,
-        text,
-        rooms,
-        vectors::room_due(),
-        &operations_due,
-        &tokens_due,
-        &tokens_due,
-        &joins_due,
-    )
+    ];
+    asked.operations == 0 || short.iter().all(|rooms| gives(lent, *rooms, refused))
 }
 
 // Whether the call in rooms of these lengths gives what is due.
-fn gives(
-    raw: &[usize],
-    spans: &[u32],
-    keys: &[u32],
-    joins: &[u8],
-    text: &[u32],
-    rooms: Rooms,
-    due: Due,
-    operations_due: &[usize],
-    spans_due: &[u32],
-    keys_due: &[u32],
-    joins_due: &[u8],
-) -> bool {
-    let mut operations = [marked::MARK_USIZE; 2048];
-    let mut spanned = [marked::MARK_U32; 2048];
-    let mut keyed = [marked::MARK_U32; 1024];
-    let mut joined = [marked::MARK_U8; 1024];
-    let o = marked::at_most(rooms.operations, 2048);
-    let s = marked::at_most(rooms.spans, 2048);
-    let k = marked::at_most(rooms.keys, 1024);
-    let j = marked::at_most(rooms.joins, 1024);
+fn gives(lent: Lent, rooms: Rooms, expected: Expected) -> bool {
+    let mut operations = [usize::MARK; 2048];
+    let mut spans = [u32::MARK; 2048];
+    let mut keys = [u32::MARK; 1024];
+    let mut joins = [u8::MARK; 1024];
+    let o = std::cmp::min(rooms.operations, 2048);
+    let s = std::cmp::min(rooms.spans, 2048);
+    let k = std::cmp::min(rooms.keys, 1024);
+    let j = std::cmp::min(rooms.joins, 1024);
     gives_in(
-        raw,
-        spans,
-        keys,
-        joins,
-        text,
-        due,
-        operations_due,
-        spans_due,
-        keys_due,
-        joins_due,
+        lent,
+        expected,
         &mut operations[..o],
-        &mut spanned[..s],
-        &mut keyed[..k],
-        &mut joined[..j],
+        &mut spans[..s],
+        &mut keys[..k],
+        &mut joins[..j],
     )
 }
 
 fn gives_in(
-    raw: &[usize],
-    spans: &[u32],
-    keys: &[u32],
-    joins: &[u8],
-    text: &[u32],
-    due: Due,
-    operations_due: &[usize],
-    spans_due: &[u32],
-    keys_due: &[u32],
-    joins_due: &[u8],
+    lent: Lent,
+    expected: Expected,
     operations: &mut [usize],
-    spanned: &mut [u32],
-    keyed: &mut [u32],
-    joined: &mut [u8],
+    spans: &mut [u32],
+    keys: &mut [u32],
+    joins: &mut [u8],
 ) -> bool {
     let answer = elongate::elongate(
-        raw, spans, keys, joins, text, operations, spanned, keyed, joined,
+        lent.raw,
+        lent.tokens,
+        lent.text,
+        operations,
+        spans,
+        keys,
+        joins,
     );
-    is_due(answer, due)
-        && marked::holds_usize(operations, operations_due)
-        && marked::holds_u32(spanned, spans_due)
-        && marked::holds_u32(keyed, keys_due)
-        && marked::holds_u8(joined, joins_due)
-}
-
-fn is_due(answer: elongate::Answer, due: Due) -> bool {
-    match answer {
-        elongate::Answer::Counts(written) => {
-            due.number == 0 && due.first == written.operations && due.second == written.tokens
-        }
-        elongate::Answer::Refused(why) => vectors::is_refusal(why, due),
-    }
+    let counts = answer.map_or_else(Due::from, |written| {
+        Due::counts(written.operations, written.tokens, 0)
+    });
+    counts == expected.due
+        && marked::holds(operations, expected.operations)
+        && marked::holds(spans, expected.spans)
+        && marked::holds(keys, expected.keys)
+        && marked::holds(joins, expected.joins)
 }

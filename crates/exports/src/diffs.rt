@@ -1,13 +1,14 @@
 // The diff of a list, and diffs replayed over an original.
+// Kept so: what is lent stands slice by slice, as the C interface lends it.
 ghost use Rattle.answer.specs.Tellings.{ToldBy, tell_count, tell_diff};
 ghost use Rattle.replay.specs.Answers.{Replayed, covering, diff, length_of, plain};
 ghost use Rattle.records.specs.Operations.{operations_of};
-ghost use Rattle.refusal.specs.declared.Counted.{Counted};
+ghost use Rattle.refusal.specs.declared.Refusal.{Refusal};
 ghost use Rattle.to_diff.specs.Answers.{Diffs, lengths_of};
 ghost use Rattle.merging.specs.Lent.{lent_of};
-ghost use Rattle.std.specs.Prelude.{◌≡◌};
+ghost use Rattle.std.specs.Prelude.{ℕ, Result, ◌≡◌};
 
-use answer::Answer;
+use answer::{Answer, Tell};
 
 // How many items and code points the diff of a list has: what `to_diff` must be lent.
 #[unsafe(no_mangle)]
@@ -20,7 +21,7 @@ pub extern "C" fn fleecelatch_to_diff_lengths(
 ) -> Answer
     ensures { result ≡ tell_diff (lengths_of (lent_of original.now text.now spans.now keys.now) (operations_of operations.now)) }
 {
-    answer::tell_diff(reconcile::diffs::to_diff_lengths(original, text, spans, keys, operations))
+    reconcile::diffs::to_diff_lengths(original, text, spans, keys, operations).tell()
 }
 
 // The diff of a list: its items into one room, their text into another.
@@ -36,7 +37,7 @@ pub extern "C" fn fleecelatch_to_diff(
 ) -> Answer
     ensures { ToldBy tell_diff (Diffs (lent_of original.now text.now spans.now keys.now) (operations_of operations.now) room.old out.old room.new out.new) result }
 {
-    answer::tell_diff(reconcile::diffs::to_diff(original, text, spans, keys, operations, room, out))
+    reconcile::diffs::to_diff(original, text, spans, keys, operations, room, out).tell()
 }
 
 // The length of the replayed text, plain.
@@ -48,7 +49,7 @@ pub extern "C" fn fleecelatch_from_diff_length(
 ) -> Answer
     ensures { result ≡ tell_count (length_of plain (diff original.now items.now text.now)) }
 {
-    answer::tell_count(reconcile::diffs::from_diff_length(original, items, text))
+    reconcile::diffs::from_diff_length(original, items, text).tell()
 }
 
 // The replayed text, plain: what the diff leaves unmentioned is dropped.
@@ -59,9 +60,9 @@ pub extern "C" fn fleecelatch_from_diff(
     text: &[u32],
     out: &mut [u32],
 ) -> Answer
-    ensures { ToldBy tell_count (λ (a : Counted). Replayed plain (diff original.now items.now text.now) out.old a out.new) result }
+    ensures { ToldBy tell_count (λ (a : Result ℕ Refusal). Replayed plain (diff original.now items.now text.now) out.old a out.new) result }
 {
-    answer::tell_count(reconcile::diffs::from_diff(original, items, text, out))
+    reconcile::diffs::from_diff(original, items, text, out).tell()
 }
 
 // The length of the replayed text, covering.
@@ -73,7 +74,7 @@ pub extern "C" fn fleecelatch_from_covering_diff_length(
 ) -> Answer
     ensures { result ≡ tell_count (length_of covering (diff original.now items.now text.now)) }
 {
-    answer::tell_count(reconcile::diffs::from_covering_diff_length(original, items, text))
+    reconcile::diffs::from_covering_diff_length(original, items, text).tell()
 }
 
 // The replayed text, covering: a diff that leaves some of the original unmentioned is refused.
@@ -84,7 +85,7 @@ pub extern "C" fn fleecelatch_from_covering_diff(
     text: &[u32],
     out: &mut [u32],
 ) -> Answer
-    ensures { ToldBy tell_count (λ (a : Counted). Replayed covering (diff original.now items.now text.now) out.old a out.new) result }
+    ensures { ToldBy tell_count (λ (a : Result ℕ Refusal). Replayed covering (diff original.now items.now text.now) out.old a out.new) result }
 {
-    answer::tell_count(reconcile::diffs::from_covering_diff(original, items, text, out))
+    reconcile::diffs::from_covering_diff(original, items, text, out).tell()
 }

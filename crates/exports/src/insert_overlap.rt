@@ -2,7 +2,7 @@
 ghost use Rattle.answer.specs.Tellings.{ToldBy, tell_range};
 ghost use Rattle.overlap.specs.Overlap.{Answered};
 
-use answer::Answer;
+use answer::{Answer, Tell};
 
 // The longest beginning of new that occurs in old, at its first occurrence; 0..0 if there is none.
 // The fallback table is made at the start of work.
@@ -14,7 +14,5 @@ pub extern "C" fn fleecelatch_find_longest_prefix_contained_within(
 ) -> Answer
     ensures { ToldBy tell_range (Answered old.now new.now work.old work.new) result }
 {
-    answer::tell_range(
-        reconcile::insert_overlap::find_longest_prefix_contained_within(old, new, work),
-    )
+    reconcile::insert_overlap::find_longest_prefix_contained_within(old, new, work).tell()
 }

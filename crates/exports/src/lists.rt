@@ -1,9 +1,10 @@
 // Raw lists elongated, and two lists merged.
+// Kept so: what is lent stands slice by slice, as the C interface lends it.
 ghost use Rattle.answer.specs.Tellings.{ToldBy, tell_elongated, tell_merged};
 ghost use Rattle.edited_text.specs.Merging.{MergedBy};
 ghost use Rattle.elongate.specs.Verdicts.{Elongates, verdict_on};
 
-use answer::Answer;
+use answer::{Answer, Tell};
 
 // Raw operations, elongated and cooked, into a room, and their tokens into three.
 #[unsafe(no_mangle)]
@@ -20,9 +21,10 @@ pub extern "C" fn fleecelatch_elongate(
 ) -> Answer
     ensures { ToldBy tell_elongated (Elongates raw.now spans.now keys.now joins.now text.now operations.old spanned.old keyed.old joined.old operations.new spanned.new keyed.new joined.new (verdict_on raw.now spans.now keys.now joins.now text.now operations.old spanned.old keyed.old joined.old)) result }
 {
-    answer::tell_elongated(reconcile::lists::elongate(
+    reconcile::lists::elongate(
         raw, spans, keys, joins, text, operations, spanned, keyed, joined,
-    ))
+    )
+    .tell()
 }
 
 // Two lists of edits of one original, with their cursors, merged into the rooms lent.
@@ -42,7 +44,7 @@ pub extern "C" fn fleecelatch_merge(
 ) -> Answer
     ensures { ToldBy tell_merged (MergedBy original.now text.now spans.now keys.now left.now right.now left_cursors.now right_cursors.now operations.old operations.new cursors.old cursors.new work.old work.new) result }
 {
-    answer::tell_merged(reconcile::lists::merge(
+    reconcile::lists::merge(
         original,
         text,
         spans,
@@ -54,5 +56,6 @@ pub extern "C" fn fleecelatch_merge(
         operations,
         cursors,
         work,
-    ))
+    )
+    .tell()
 }

@@ -2,7 +2,7 @@
 ghost use Rattle.answer.specs.Tellings.{ToldBy, tell_outcome};
 ghost use Rattle.merge_files.specs.Program.{Written, result_of};
 
-use answer::Answer;
+use answer::{Answer, Tell};
 
 // What the program writes for three files: a merged edit file, or the line of a refusal.
 #[unsafe(no_mangle)]
@@ -14,5 +14,5 @@ pub extern "C" fn fleecelatch_merge_files(
 ) -> Answer
     ensures { ToldBy tell_outcome (Written (result_of original.now left.now right.now) out.old out.new) result }
 {
-    answer::tell_outcome(merge_files::merge_files(original, left, right, out))
+    merge_files::merge_files(original, left, right, out).tell()
 }

@@ -1,4 +1,5 @@
 // Text and history of a list.
+// Kept so: what is lent stands slice by slice, as the C interface lends it.
 ghost use Rattle.answer.specs.Tellings.{ToldBy, tell_all, tell_applied, tell_history};
 ghost use Rattle.apply.specs.Answers.{Applies, AppliesAll, Tells, applied, history_on, text_on, told, told_all, verdict_on};
 ghost use Rattle.merging.specs.Lent.{lent_of};
@@ -8,7 +9,7 @@ ghost use Rattle.records.specs.Cursors.{cursors_of};
 ghost use Rattle.records.specs.Operations.{operations_of};
 ghost use Rattle.std.specs.Prelude.{length, [], ◌≡◌};
 
-use answer::Answer;
+use answer::{Answer, Tell};
 
 // The code points and cursors that `apply` writes.
 #[unsafe(no_mangle)]
@@ -22,9 +23,7 @@ pub extern "C" fn fleecelatch_apply_lengths(
 ) -> Answer
     ensures { result ≡ tell_applied (applied (verdict_on (lent_of original.now text.now spans.now keys.now) (operations_of operations.now) (cursors_of cursors.now)) (length (text_on (lent_of original.now text.now spans.now keys.now) (operations_of operations.now))) (length (sorted (cursors_of cursors.now)))) }
 {
-    answer::tell_applied(reconcile::views::apply_lengths(
-        original, text, spans, keys, operations, cursors,
-    ))
+    reconcile::views::apply_lengths(original, text, spans, keys, operations, cursors).tell()
 }
 
 // A list's text into a room, and its cursors, sorted, into another.
@@ -41,9 +40,7 @@ pub extern "C" fn fleecelatch_apply(
 ) -> Answer
     ensures { ToldBy tell_applied (Applies (lent_of original.now text.now spans.now keys.now) (operations_of operations.now) (cursors_of cursors.now) out.old moved.old out.new moved.new) result }
 {
-    answer::tell_applied(reconcile::views::apply(
-        original, text, spans, keys, operations, cursors, out, moved,
-    ))
+    reconcile::views::apply(original, text, spans, keys, operations, cursors, out, moved).tell()
 }
 
 // The spans and the code points that `apply_with_history` writes.
@@ -57,9 +54,7 @@ pub extern "C" fn fleecelatch_apply_with_history_lengths(
 ) -> Answer
     ensures { result ≡ tell_history (told (verdict_on (lent_of original.now text.now spans.now keys.now) (operations_of operations.now) []) (length (history_on (lent_of original.now text.now spans.now keys.now) (operations_of operations.now))) (length (history_text (history_on (lent_of original.now text.now spans.now keys.now) (operations_of operations.now))))) }
 {
-    answer::tell_history(reconcile::views::apply_with_history_lengths(
-        original, text, spans, keys, operations,
-    ))
+    reconcile::views::apply_with_history_lengths(original, text, spans, keys, operations).tell()
 }
 
 // A list's history: its spans into a room, their text into another.
@@ -75,9 +70,9 @@ pub extern "C" fn fleecelatch_apply_with_history(
 ) -> Answer
     ensures { ToldBy tell_history (Tells (lent_of original.now text.now spans.now keys.now) (operations_of operations.now) history.old out.old history.new out.new) result }
 {
-    answer::tell_history(reconcile::views::apply_with_history(
+    reconcile::views::apply_with_history(
         original, text, spans, keys, operations, history, out,
-    ))
+    ).tell()
 }
 
 // What `apply_with_all` writes: what both write.
@@ -92,9 +87,9 @@ pub extern "C" fn fleecelatch_apply_with_all_lengths(
 ) -> Answer
     ensures { result ≡ tell_all (told_all (verdict_on (lent_of original.now text.now spans.now keys.now) (operations_of operations.now) (cursors_of cursors.now)) (length (text_on (lent_of original.now text.now spans.now keys.now) (operations_of operations.now))) (length (sorted (cursors_of cursors.now))) (length (history_on (lent_of original.now text.now spans.now keys.now) (operations_of operations.now))) (length (history_text (history_on (lent_of original.now text.now spans.now keys.now) (operations_of operations.now))))) }
 {
-    answer::tell_all(reconcile::views::apply_with_all_lengths(
+    reconcile::views::apply_with_all_lengths(
         original, text, spans, keys, operations, cursors,
-    ))
+    ).tell()
 }
 
 // Text, cursors and history of a list, in one pass over its operations.
@@ -113,7 +108,7 @@ pub extern "C" fn fleecelatch_apply_with_all(
 ) -> Answer
     ensures { ToldBy tell_all (AppliesAll (lent_of original.now text.now spans.now keys.now) (operations_of operations.now) (cursors_of cursors.now) out.old moved.old history.old history_text.old out.new moved.new history.new history_text.new) result }
 {
-    answer::tell_all(reconcile::views::apply_with_all(
+    reconcile::views::apply_with_all(
         original,
         text,
         spans,
@@ -124,5 +119,6 @@ pub extern "C" fn fleecelatch_apply_with_all(
         moved,
         history,
         history_text,
-    ))
+    )
+    .tell()
 }

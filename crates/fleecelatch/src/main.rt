@@ -3,6 +3,7 @@
 // three files that can be read is proved of `merge_files`; here they are only read and handed on.
 #![tactic(auto)]
 
+ghost use Rattle.std.specs.Prelude.{ℕ, IfSome};
 ghost use Rattle.io.specs.Counts.{IsPrefixLen};
 
 use merge_files::Outcome;
@@ -12,71 +13,32 @@ use std::io::Read;
 
 const STDOUT: i32 = 1;
 
-// How many bytes of a file stand in a buffer, and whether that is all that the buffer holds of it.
-#[derive(Clone, Copy)]
-struct Found {
-    whole: bool,
-    count: usize,
-}
-
-// Reads until the buffer is full or the file ends. A read that fails is no end: what stands in the buffer then may be
-// cut short, and does not count as whole.
-fn read_all(file: &mut File, bytes: &mut [u8]) -> Found
-    ensures { IsPrefixLen result.count bytes.new }
+// Reads until the buffer is full or the file ends, and says how many bytes stand in the buffer. A read that fails is no end: what stands
+// in the buffer then may be cut short, and is not handed on.
+fn read_all(file: &mut File, bytes: &mut [u8]) -> Option<usize>
+    ensures { IfSome result (λ (n : ℕ). IsPrefixLen n bytes.new) }
 {
     let mut count = 0;
+    // Kept so: a `while`, since a read gives as much as it likes; no range counts that.
     'read: while count < bytes.len() {
-        match file.read(&mut bytes[count..]) {
-            Ok(n) => {
-                if n == 0 {
-                    return Found { whole: true, count };
-                }
-                count += n;
-            }
-            Err(_) => {
-                return Found {
-                    whole: false,
-                    count,
-                };
-            }
+        let n = file.read(&mut bytes[count..]).ok()?;
+        if n == 0 {
+            break 'read;
         }
+        count += n;
     }
-    Found { whole: true, count }
-}
-
-fn read_file(rt: &HostRuntime, name: &str, bytes: &mut [u8]) -> Found
-    ensures { IsPrefixLen result.count bytes.new }
-{
-    match File::open(rt, name) {
-        Ok(file) => {
-            let mut file = file;
-            read_all(&mut file, bytes)
-        }
-        Err(_) => Found {
-            whole: false,
-            count: 0,
-        },
-    }
+    Some(count)
 }
 
 // The file that argument i names. A name is text: the library opens no other.
-fn read_named(rt: &HostRuntime, i: usize, bytes: &mut [u8]) -> Found
-    ensures { IsPrefixLen result.count bytes.new }
+fn read_named(rt: &HostRuntime, i: usize, bytes: &mut [u8]) -> Option<usize>
+    ensures { IfSome result (λ (n : ℕ). IsPrefixLen n bytes.new) }
 {
     let mut name = io::buffer();
-    match rt.arg(i, &mut name) {
-        Ok(length) => match std::str::from_utf8(&name[..length]) {
-            Ok(name) => read_file(rt, name, bytes),
-            Err(_) => Found {
-                whole: false,
-                count: 0,
-            },
-        },
-        Err(_) => Found {
-            whole: false,
-            count: 0,
-        },
-    }
+    let length = rt.arg(i, &mut name).ok()?;
+    let name = std::str::from_utf8(&name[..length]).ok()?;
+    let mut file = File::open(rt, name).ok()?;
+    read_all(&mut file, bytes)
 }
 
 // The room of 65,536 bytes is long enough for any three files: what is written has at most 14,393
@@ -105,9 +67,10 @@ fn main(rt: HostRuntime) {
     let o = read_named(&rt, 1, &mut original);
     let l = read_named(&rt, 2, &mut left);
     let r = read_named(&rt, 3, &mut right);
-    if !o.whole || !l.whole || !r.whole {
-        io::write_all(STDOUT, b"unreadable\n");
-        return;
+    match (o, l, r) {
+        (Some(o), Some(l), Some(r)) => merge(&original[..o], &left[..l], &right[..r]),
+        _ => {
+            io::write_all(STDOUT, b"unreadable\n");
+        }
     }
-    merge(&original[..o.count], &left[..l.count], &right[..r.count]);
 }

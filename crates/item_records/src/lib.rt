@@ -4,6 +4,13 @@
 ghost use Rattle.std.specs.Prelude.{◌≡◌, [], ◌∷◌, ◌+◌, ◌<◌, ◌≤◌, length, pos, neg_ℤ};
 ghost use Rattle.room.specs.Placed.{placed};
 
+// How many items and how many code points of text a diff has.
+#[derive(Clone, Copy)]
+pub struct Counts {
+    pub items: usize,
+    pub text: usize,
+}
+
 // A retain's number, a place or a length.
 pub fn plain_number(n: usize) -> i64
     requires { n < 9223372036854775808 }
@@ -25,7 +32,5 @@ pub fn put_record(items: &mut [i64], at: usize, kind: i64, number: i64, size: i6
     requires { at + 3 ≤ length items.old }
     ensures { items.new ≡ placed items.old at (kind ∷ number ∷ size ∷ []) }
 {
-    items[at] = kind;
-    items[at + 1] = number;
-    items[at + 2] = size;
+    room::put(&[kind, number, size], items, at);
 }

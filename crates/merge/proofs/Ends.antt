@@ -1,5 +1,6 @@
 -- The loop's first state, the side that is chosen, and what the rooms hold when both sides are done.
 -- By the invariant of Running, and by cases on what is next. Assumes nothing.
+use Rattle.std.specs.Prelude.{Option, Some, None}
 use Prim.Native.Nat.{ℕ, suc, ◌+◌, ◌-◌, ◌/◌, ◌≤◌}
 use mathlib.Core.Path.{◌≡◌, refl, sym, ap, ◌∙◌, subst}
 use mathlib.Core.Bool.{Bool, true, false}
@@ -12,36 +13,34 @@ use Rattle.records.specs.Cursors.{cursors_from, cursors_of, flat_cursors}
 use Rattle.records.specs.Operations.{operations_from, operations_of, flat_operations}
 use Rattle.merging.specs.declared.Op.{Op}
 use Rattle.merging.specs.declared.Op.TheVariants.{Delete, Insert, Retain}
-use Rattle.merging.specs.declared.Order.{Order}
+use Rattle.std.specs.declared.cmp.Ordering.{Ordering}
 use Rattle.merging.specs.Lent.{Lent, rules_of, lent_of}
 use Rattle.merging.specs.Operations.{Out, ops_from, records_of}
-use Rattle.merging.specs.OrderRule.{goes_left, order_rule, then_by, is_less}
+use Rattle.merging.specs.OrderRule.{goes_left, order_rule}
 use Rattle.merging.specs.Cursors.{ended}
 use Rattle.merging.specs.Turn.{State, Taken, none, from_left, from_right, taken_of}
 use Rattle.merging.specs.Merge.{Outcome, leftovers, work}
 use Rattle.merging.specs.Tiling.{Tiled, Inserts, tokens_of}
 use Rattle.merging.proofs.Turns.{run_none, fuel}
 use Rattle.merging.proofs.Sound.{Sound, next_within, sound_start}
-use Rattle.operation.specs.declared.Next.{Next}
-use Rattle.operation.specs.declared.Next.TheVariants.{Here, Done}
-use Rattle.operation.specs.declared.Last.TheVariants.{Nothing}
 use Rattle.operation.specs.Views.{heads}
 use Rattle.turns.specs.declared.Ahead.{Ahead}
 use Rattle.turns.specs.Looking.{list_from, ahead_of, FirstFits, Looks}
-use Rattle.order.specs.Readable.{Run, of_text}
-use Rattle.order.proofs.Lending.{order_of}
+use Rattle.order.specs.Readable.{Run}
 use Rattle.merge.specs.declared.Side.{Side}
 use Rattle.merge.specs.declared.Totals.{Totals}
+use Rattle.merge.specs.declared.Which.{Which}
+use Rattle.merge.specs.declared.Which.TheVariants.{Left, Right}
 use Rattle.merge.specs.declared.Choice.{Choice}
-use Rattle.merge.specs.declared.Choice.TheVariants.{Nothing as Neither, Left, Right}
 use Rattle.merge.specs.Choosing.{NextReadable, choice_of}
-use Rattle.merge.specs.Running.{list_of, begin, outcome, Runnable, Ran}
+use Rattle.merge.specs.Running.{starting, list_of, begin, outcome, Runnable, Ran}
 use Rattle.cursor_position.specs.declared.Progress.{Progress}
 use Rattle.cursor_position.specs.Moves.{Went}
 use Rattle.merge.specs.Turning.{cursors_left}
 use Rattle.merge.proofs.OneTurn.{state_of}
-use Rattle.merge.proofs.Sides.{SideFits}
+use Rattle.merge.proofs.SideLaws.{SideFits}
 use Rattle.merge.proofs.Running.{rest, frame, ready, Going}
+use Rattle.std.specs.Ordering.{ordering_then, is_lt}
 
 -- all of a list, from its first record on
 pub list_all : (ops : List ℕ) → list_from ops 0 0 ≡ list_of ops
@@ -60,50 +59,48 @@ pub first_fits : (ops : List ℕ) (n : ℕ) → n ≤ 65535 → Tiled (list_of o
 first_fits ops n small t = subst (FirstFits 0) (sym (list_all ops)) (first_of_lem (list_of ops) n small t)
 
 -- what is next may be read
-pub next_readable : (text spans keys : List ℕ) (x : Next) (xs : List Op) → Inserts (Run text spans keys) (heads x xs) → NextReadable text spans keys x
+pub next_readable : (text spans keys : List ℕ) (x : Option Op) (xs : List Op) → Inserts (Run text spans keys) (heads x xs) → NextReadable text spans keys x
 unfolding Inserts
-next_readable text spans keys Done xs i = tt
-next_readable text spans keys (Here (Delete o l)) xs i = tt
-next_readable text spans keys (Here (Insert o f n)) xs i = i.0
-next_readable text spans keys (Here (Retain o l)) xs i = tt
+next_readable text spans keys None xs i = tt
+next_readable text spans keys (Some (Delete o l)) xs i = tt
+next_readable text spans keys (Some (Insert o f n)) xs i = i.0
+next_readable text spans keys (Some (Retain o l)) xs i = tt
 
 -- what a choice says of the definition's
-abbrev pub Chosen : Choice → Taken → Next → Next → List Op → List Op → Type 0
-Chosen Neither t l r xs ys = t ≡ none
-Chosen (Left a) t l r xs ys = (l ≡ Here a) × (t ≡ from_left a xs)
-Chosen (Right b) t l r xs ys = (r ≡ Here b) × (t ≡ from_right b ys)
+abbrev pub ChosenOf : Which → Op → Taken → Option Op → Option Op → List Op → List Op → Type 0
+ChosenOf Left a t l r xs ys = (l ≡ Some a) × (t ≡ from_left a xs)
+ChosenOf Right b t l r xs ys = (r ≡ Some b) × (t ≡ from_right b ys)
 
-pub chosen : (lent : Lent) (priority : Order) (l r : Next) (xs ys : List Op) → (l ≡ Done → xs ≡ []) → (r ≡ Done → ys ≡ [])
-    → Chosen (choice_of (of_text lent.inserted lent.spans lent.keys) priority l r) (taken_of lent priority (heads l xs) (heads r ys)) l r xs ys
+abbrev pub Chosen : Option Choice → Taken → Option Op → Option Op → List Op → List Op → Type 0
+Chosen None t l r xs ys = t ≡ none
+Chosen (Some x) t l r xs ys = ChosenOf x.side x.op t l r xs ys
+
+pub chosen : (lent : Lent) (priority : Ordering) (l r : Option Op) (xs ys : List Op) → (l ≡ None → xs ≡ []) → (r ≡ None → ys ≡ [])
+    → Chosen (choice_of lent priority l r) (taken_of lent priority (heads l xs) (heads r ys)) l r xs ys
 unfolding choice_of taken_of goes_left
-chosen lent priority Done Done xs ys hx hy = ap (λ (zs : List Op). taken_of lent priority zs ys) (hx refl) ∙ ap (taken_of lent priority []) (hy refl)
-chosen lent priority Done (Here b) xs ys hx hy = (refl, ap (λ (zs : List Op). taken_of lent priority zs (b ∷ ys)) (hx refl))
-chosen lent priority (Here a) Done xs ys hx hy = (refl, ap (taken_of lent priority (a ∷ xs)) (hy refl))
-chosen lent priority (Here a) (Here b) xs ys hx hy =
-    subst (λ (o : Order). Chosen (elim (is_less (then_by o priority)) [ true ↦ Left a | false ↦ Right b ]) (taken_of lent priority (a ∷ xs) (b ∷ ys)) (Here a) (Here b) xs ys)
-    (order_of lent a b)
-    (go (is_less (then_by (order_rule lent a b) priority)))
+chosen lent priority None None xs ys hx hy = ap (λ (zs : List Op). taken_of lent priority zs ys) (hx refl) ∙ ap (taken_of lent priority []) (hy refl)
+chosen lent priority None (Some b) xs ys hx hy = (refl, ap (λ (zs : List Op). taken_of lent priority zs (b ∷ ys)) (hx refl))
+chosen lent priority (Some a) None xs ys hx hy = (refl, ap (taken_of lent priority (a ∷ xs)) (hy refl))
+chosen lent priority (Some a) (Some b) xs ys hx hy =
+    go (is_lt (ordering_then (order_rule lent a b) priority))
   where
     go : (t : Bool)
-        → Chosen (elim t [ true ↦ Left a | false ↦ Right b ]) (elim t [ true ↦ from_left a xs | false ↦ from_right b ys ]) (Here a) (Here b) xs ys
+        → Chosen (elim t [ true ↦ Some (record { side = Left; op = a }) | false ↦ Some (record { side = Right; op = b }) ]) (elim t [ true ↦ from_left a xs | false ↦ from_right b ys ]) (Some a) (Some b) xs ys
     go true = (refl, refl)
     go false = (refl, refl)
 
-module _ {original text spans keys lops rops lcs rcs : List ℕ} {priority : Order} {mid half : ℕ} {w out moved : List ℕ}
+module _ {original text spans keys lops rops lcs rcs : List ℕ} {priority : Ordering} {mid half : ℕ} {w out moved : List ℕ}
     (K : Runnable original text spans keys lops rops lcs rcs priority w mid half out moved) where
   abbrev L : Lent
   L = lent_of original text spans keys
 
-  abbrev side_at : Ahead → ℕ → Side
-  side_at h fill = record { ahead = h; memory = record { last = Nothing; fill = fill }; seen = 0; cursor = 0 }
-
   abbrev zero_totals : Totals
   zero_totals = record { merged = 0; consumed = 0; operations = 0; cursors = 0 }
 
-  side_starts : (ops : List ℕ) (h : Ahead) (base top fill : ℕ) → Looks ops Done 0 0 h → base ≤ fill → fill + tokens_of (list_of ops) ≤ top → SideFits ops base top 0 (side_at h fill)
+  side_starts : (ops : List ℕ) (h : Ahead) (base top fill : ℕ) → Looks ops None 0 0 h → base ≤ fill → fill + tokens_of (list_of ops) ≤ top → SideFits ops base top 0 (starting h fill)
   side_starts ops h base top fill k b t =
       record {
-        ends = λ d. ap (λ (x : Next). heads x (list_from ops h.behind h.at)) (sym d) ∙ k.ends d;
+        ends = λ d. ap (λ (x : Option Op). heads x (list_from ops h.behind h.at)) (sym d) ∙ k.ends d;
         fits = tt;
         since = tt;
         low = b;
@@ -111,11 +108,11 @@ module _ {original text spans keys lops rops lcs rcs : List ℕ} {priority : Ord
         at = k.from 0 (omega arith);
       }
 
-  pub started : (h k : Ahead) → Looks lops Done 0 0 h → Looks rops Done 0 0 k
-      → Going (frame original text spans keys lops rops lcs rcs priority mid half w out moved) w out moved (side_at h 0) (side_at k mid) zero_totals
+  pub started : (h k : Ahead) → Looks lops None 0 0 h → Looks rops None 0 0 k
+      → Going (frame original text spans keys lops rops lcs rcs priority mid half w out moved) w out moved (starting h 0) (starting k mid) zero_totals
   unfolding records_of flat_operations flat_cursors
   started h k lh lk =
-      let es : state_of lops rops lcs rcs w half (side_at h 0) (side_at k mid) zero_totals ≡ begin lops rops lcs rcs =
+      let es : state_of lops rops lcs rcs w half (starting h 0) (starting k mid) zero_totals ≡ begin lops rops lcs rcs =
       (λ i. record {
         left = record { next = (lh.view ∙ list_all lops) i; last = (begin lops rops lcs rcs).left.last; seen = 0; cursors = cursors_all lcs i };
         right = record { next = (lk.view ∙ list_all rops) i; last = (begin lops rops lcs rcs).right.last; seen = 0; cursors = cursors_all rcs i };
@@ -146,7 +143,7 @@ module _ {original text spans keys lops rops lcs rcs : List ℕ} {priority : Ord
       }
 
 -- with no turn left, the leftovers are all that comes
-pub rest_none : (lent : Lent) (priority : Order) (s : State) → taken_of lent priority s.left.next s.right.next ≡ none
+pub rest_none : (lent : Lent) (priority : Ordering) (s : State) → taken_of lent priority s.left.next s.right.next ≡ none
     → rest (rules_of lent) priority s ≡ record { outs = []; cursors = leftovers s }
 rest_none lent priority s e =
     let k = work s.left.next + work s.right.next in
@@ -154,7 +151,7 @@ rest_none lent priority s e =
 
 -- what the rooms hold when both sides are done: "Leftovers go to the end, left before right."
 pub finished :
-    {original text spans keys lops rops lcs rcs : List ℕ} {priority : Order} {mid half : ℕ} {w₀ out₀ moved₀ w out moved moved₁ moved₂ : List ℕ} {left right : Side} {totals : Totals}
+    {original text spans keys lops rops lcs rcs : List ℕ} {priority : Ordering} {mid half : ℕ} {w₀ out₀ moved₀ w out moved moved₁ moved₂ : List ℕ} {left right : Side} {totals : Totals}
     {p₁ p₂ : Progress}
     → Going (frame original text spans keys lops rops lcs rcs priority mid half w₀ out₀ moved₀) w out moved left right totals
     → taken_of (lent_of original text spans keys) priority (ahead_of lops left.ahead) (ahead_of rops right.ahead) ≡ none

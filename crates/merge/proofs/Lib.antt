@@ -1,8 +1,7 @@
 pub mod Meetings
 pub mod Turning
-pub mod Choosing
 pub mod OneTurn
-pub mod Sides
+pub mod SideLaws
 pub mod Running
 pub mod Ends
 pub mod Taking

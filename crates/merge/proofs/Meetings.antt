@@ -8,7 +8,6 @@ use mathlib.Core.Logic.{inr}
 use native.Mathlib.Omega.{arith}
 use native.Mathlib.Decide.{dec_lt}
 use lib.Dec.{eqb}
-use lib.ListN.{length}
 use lib.Seq.{slice, length-slice}
 use Rattle.room.specs.Choice.{pick}
 use Rattle.overlap.specs.Overlap.{overlap_of}
@@ -39,9 +38,9 @@ place_low w half fill (Insert o f n) Nothing m merged = omega arith
 place_low w half fill (Insert o f n) (Deleted o' l') m merged = omega arith
 place_low w half fill (Insert o f n) (Retained o' l') m merged = omega arith
 place_low w half fill (Insert o f n) (Inserted o' from) m merged =
-    elim (dec_lt m.start m.end) [
-      | yes h ↦ subst (λ (p : Place). p.start ≤ merged) (sym (place_some m.start m.end _ merged h)) (omega arith)
-      | no h ↦ subst (λ (p : Place). p.start ≤ merged) (sym (place_none m.start m.end _ merged (omega arith))) (omega arith)
+    elim (dec_lt m.overlap.start m.overlap.end) [
+      | yes h ↦ subst (λ (p : Place). p.start ≤ merged) (sym (place_some m.overlap _ merged h)) (omega arith)
+      | no h ↦ subst (λ (p : Place). p.start ≤ merged) (sym (place_none m.overlap _ merged (omega arith))) (omega arith)
     ]
 place_low w half fill (Retain o l) Nothing m merged = omega arith
 place_low w half fill (Retain o l) (Deleted o' l') m merged = omega arith
@@ -73,7 +72,7 @@ used_fits fill (Insert o f n) (Deleted o' l') m h = h
 used_fits fill (Insert o f n) (Retained o' l') m h = h
 used_fits fill (Insert o f n) (Inserted o' from) m h = go (eqb m.lost n)
   where
-    go : (t : Bool) → LastFits (elim t [ true ↦ Inserted o' (from + m.end) | false ↦ Inserted o' fill ])
+    go : (t : Bool) → LastFits (elim t [ true ↦ Inserted o' (from + m.overlap.end) | false ↦ Inserted o' fill ])
     go true = tt
     go false = tt
 used_fits fill (Retain o l) v m h = h
@@ -86,7 +85,7 @@ used_since fill (Insert o f n) (Deleted o' l') m base r h = h
 used_since fill (Insert o f n) (Retained o' l') m base r h = h
 used_since fill (Insert o f n) (Inserted o' from) m base r h = go (eqb m.lost n)
   where
-    go : (t : Bool) → Since (elim t [ true ↦ Inserted o' (from + m.end) | false ↦ Inserted o' fill ]) base fill
+    go : (t : Bool) → Since (elim t [ true ↦ Inserted o' (from + m.overlap.end) | false ↦ Inserted o' fill ]) base fill
     go true = (omega (arith, h.0), r.0)
     go false = (omega (arith, h.0, h.1), omega arith)
 used_since fill (Retain o l) v m base r h = h

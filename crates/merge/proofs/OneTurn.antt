@@ -1,5 +1,6 @@
 -- A turn of the code is a turn of the definition: the state after it, what it emits and the cursors it moves.
 -- What is next on the other side counts by its first operation alone; the rest is what `turn` ensures, field by field. Assumes nothing.
+use Rattle.std.specs.Prelude.{Option, Some, None}
 use Prim.Native.Nat.{ℕ, ◌+◌}
 use mathlib.Core.Path.{◌≡◌, refl, sym, ap, ◌∙◌}
 use mathlib.Core.List.{List, []}
@@ -10,30 +11,28 @@ use Rattle.merging.specs.Operations.{length_of, span_of}
 use Rattle.merging.specs.Meeting.{kept_length, front_of, tail_of, met_of, other_of, remember_of}
 use Rattle.merging.specs.Cursors.{shift_of, moved_by, behind_of}
 use Rattle.merging.specs.Turn.{Stream, State, Turned, emitted, turn_left, turn_with}
-use Rattle.operation.specs.declared.Next.{Next}
-use Rattle.operation.specs.declared.Next.TheVariants.{Here, Done}
 use Rattle.operation.specs.Views.{heads}
 use Rattle.operation.proofs.Meeting.{tail_next}
 use Rattle.turns.specs.Looking.{list_from, ahead_of}
 use Rattle.merge.specs.declared.Side.{Side}
 use Rattle.merge.specs.declared.Totals.{Totals}
-use Rattle.merge.specs.declared.Turned.{Turned as Result}
+use Rattle.merge.specs.declared.Sides.{Sides}
 use Rattle.merge.specs.Turning.{memory_of, cursors_left, taken, result, shift_by, Turns}
 
 -- the cut looks at the next operation alone
-pub front_heads : (a : Op) (x : Next) (ys : List Op) → (x ≡ Done → ys ≡ []) → front_of a (heads x []) ≡ front_of a (heads x ys)
+pub front_heads : (a : Op) (x : Option Op) (ys : List Op) → (x ≡ None → ys ≡ []) → front_of a (heads x []) ≡ front_of a (heads x ys)
 unfolding kept_length
 front_heads (Delete o l) x ys h = refl
 front_heads (Insert o f n) x ys h = refl
-front_heads (Retain o l) (Here y) ys h = refl
-front_heads (Retain o l) Done ys h = ap (λ (zs : List Op). Retain o (kept_length o l zs)) (sym (h refl))
+front_heads (Retain o l) (Some y) ys h = refl
+front_heads (Retain o l) None ys h = ap (λ (zs : List Op). Retain o (kept_length o l zs)) (sym (h refl))
 
-pub tail_heads : (a : Op) (x : Next) (ys xs : List Op) → (x ≡ Done → ys ≡ []) → tail_of a (heads x []) xs ≡ tail_of a (heads x ys) xs
+pub tail_heads : (a : Op) (x : Option Op) (ys xs : List Op) → (x ≡ None → ys ≡ []) → tail_of a (heads x []) xs ≡ tail_of a (heads x ys) xs
 unfolding kept_length
 tail_heads (Delete o l) x ys xs h = refl
 tail_heads (Insert o f n) x ys xs h = refl
-tail_heads (Retain o l) (Here y) ys xs h = refl
-tail_heads (Retain o l) Done ys xs h = ap (λ (zs : List Op). tail_of (Retain o l) zs xs) (sym (h refl))
+tail_heads (Retain o l) (Some y) ys xs h = refl
+tail_heads (Retain o l) None ys xs h = ap (λ (zs : List Op). tail_of (Retain o l) zs xs) (sym (h refl))
 
 -- a side of the code, as a stream of the definition
 abbrev pub stream_of : List ℕ → List ℕ → List ℕ → ℕ → Side → Stream
@@ -56,7 +55,7 @@ turn_of lent ops ops' cs cs' w half a own other totals number =
 
 -- what a turn of the side `own`, which takes a, emits and moves, as the definition has it
 module _ (lent : Lent) (ops ops' cs cs' w : List ℕ) (half : ℕ) (a : Op) (own other : Side) (totals : Totals) (number : ℕ)
-    (ends : other.ahead.next ≡ Done → list_from ops' other.ahead.behind other.ahead.at ≡ []) where
+    (ends : other.ahead.next ≡ None → list_from ops' other.ahead.behind other.ahead.at ≡ []) where
   pub same_front : taken a other ≡ front_of a (ahead_of ops' other.ahead)
   same_front = front_heads a other.ahead.next (list_from ops' other.ahead.behind other.ahead.at) ends
 
@@ -72,7 +71,7 @@ module _ (lent : Lent) (ops ops' cs cs' w : List ℕ) (half : ℕ) (a : Op) (own
 
   -- and the state after it
   pub turned-state :
-      {spans keys w' out out' moved moved' : List ℕ} {r : Result} → lent.spans ≡ spans → lent.keys ≡ keys
+      {spans keys w' out out' moved moved' : List ℕ} {r : Sides} → lent.spans ≡ spans → lent.keys ≡ keys
       → Turns spans keys ops cs w w' half a own other totals number out out' moved moved' r
       → state_of ops ops' cs cs' w' half r.own r.other r.totals ≡ (turn_of lent ops ops' cs cs' w half a own other totals number).state
   unfolding turn_left turn_with

@@ -1,5 +1,6 @@
 -- The run of all turns: an invariant of the code's loop that each turn of either side keeps.
 -- It is seen from the side that takes its turn: the right sees it with the sides exchanged. The definition's invariant, Sound, gives what a turn asks. Assumes nothing.
+use Rattle.std.specs.Prelude.{Option, Some}
 use Prim.Native.Nat.{ℕ, suc, ◌+◌, ◌-◌, ◌*◌, ◌/◌, ◌≤◌, ◌<◌}
 use mathlib.Core.Path.{◌≡◌, refl, sym, ap, ◌∙◌, subst}
 use mathlib.Core.List.{List, ◌∷◌, ◌++◌, append_assoc}
@@ -11,7 +12,7 @@ use Rattle.records.specs.declared.Cursor.{Cursor}
 use Rattle.records.specs.Cursors.{flat_cursors}
 use Rattle.records.specs.Operations.{flat_operations}
 use Rattle.merging.specs.declared.Op.{Op}
-use Rattle.merging.specs.declared.Order.{Order}
+use Rattle.std.specs.declared.cmp.Ordering.{Ordering}
 use Rattle.merging.specs.Lent.{Lent, Rules, rules_of, lent_of}
 use Rattle.merging.specs.Operations.{Out, order_of, length_of, span_of, records_of}
 use Rattle.merging.specs.Meeting.{shortened, met_of}
@@ -22,8 +23,6 @@ use Rattle.merging.proofs.OneTurn.{place_after, tiled_le, starts}
 use Rattle.merging.proofs.Turns.{Turning, left_less, right_less, run_left, run_right, fuel, taken_is}
 use Rattle.merging.proofs.Sound.{Sound, text_of_all, next_within, sound_turned, sound_next}
 use Rattle.merging.proofs.Lawful.{lawful}
-use Rattle.operation.specs.declared.Next.{Next}
-use Rattle.operation.specs.declared.Next.TheVariants.{Here}
 use Rattle.numbers.specs.Sizes.{most}
 use Rattle.operation.specs.Views.{tokens, of_spans}
 use Rattle.operation.proofs.Meeting.{length_is}
@@ -31,17 +30,17 @@ use Rattle.turns.specs.Looking.{list_from, ahead_of, span_next}
 use Rattle.order.specs.Readable.{Run}
 use Rattle.merge.specs.declared.Side.{Side}
 use Rattle.merge.specs.declared.Totals.{Totals}
-use Rattle.merge.specs.declared.Turned.{Turned as Result}
+use Rattle.merge.specs.declared.Sides.{Sides}
 use Rattle.merge.specs.Turning.{memory_of, taken, result, Turnable, Turns}
 use Rattle.merge.specs.Running.{list_of, outcome, Listed, Runnable}
 use Rattle.merge.proofs.OneTurn.{state_of, same_front, turned_out, turned_cursors, turned-state}
-use Rattle.merge.proofs.Sides.{SideFits, own_fits, other_fits, fine, next_fits, tokens_first, began_of, away_from, first_fits, lost_keys, text_first}
+use Rattle.merge.proofs.SideLaws.{SideFits, own_fits, other_fits, fine, next_fits, tokens_first, began_of, away_from, first_fits, lost_keys, text_first}
 
 -- what the turns from a state on give
-abbrev pub rest : Rules → Order → State → Outcome
+abbrev pub rest : Rules → Ordering → State → Outcome
 rest R priority s = run R priority (work s.left.next + work s.right.next) s
 
-module _ (R : Rules) (priority : Order) (s : State) where
+module _ (R : Rules) (priority : Ordering) (s : State) where
   abbrev left_over : ℕ
   left_over = work s.left.next + work s.right.next
 
@@ -86,7 +85,7 @@ pub record Frame : Type 0 where
   pub rest : State → Outcome
 
 -- as the left sees it, and as the other side does
-abbrev pub frame : List ℕ → List ℕ → List ℕ → List ℕ → List ℕ → List ℕ → List ℕ → List ℕ → Order → ℕ → ℕ → List ℕ → List ℕ → List ℕ → Frame
+abbrev pub frame : List ℕ → List ℕ → List ℕ → List ℕ → List ℕ → List ℕ → List ℕ → List ℕ → Ordering → ℕ → ℕ → List ℕ → List ℕ → List ℕ → Frame
 frame original text spans keys lops rops lcs rcs priority mid half w out moved =
     record {
       lent = lent_of original text spans keys;
@@ -128,7 +127,7 @@ pub record Ready (F : Frame) : Type 0 where
   pub space : (length F.own.cs / 2 + length F.other.cs / 2) * 2 ≤ length F.moved
   pub spans_fit : length F.lent.spans / 2 ≤ most
 
-pub ready : {original text spans keys lops rops lcs rcs : List ℕ} {priority : Order} {mid half : ℕ} {w out moved : List ℕ}
+pub ready : {original text spans keys lops rops lcs rcs : List ℕ} {priority : Ordering} {mid half : ℕ} {w out moved : List ℕ}
     → Runnable original text spans keys lops rops lcs rcs priority w mid half out moved → Ready (frame original text spans keys lops rops lcs rcs priority mid half w out moved)
 ready K =
     record {
@@ -210,7 +209,7 @@ exchange G =
 
 -- the side `own` takes a
 pub record Taking (F : Frame) (w : List ℕ) (own other : Side) (totals : Totals) (p q number : ℕ) (a : Op) : Type 0 where
-  pub next : own.ahead.next ≡ Here a
+  pub next : own.ahead.next ≡ Some a
   pub turning : Turning (state_in F w own other totals) a (list_from F.own.ops own.ahead.behind own.ahead.at) p q (length F.lent.original)
   pub goes : F.rest (state_in F w own other totals)
       ≡ before (turn_left (rules_of F.lent) number a (list_from F.own.ops own.ahead.behind own.ahead.at) (state_in F w own other totals))
@@ -280,7 +279,7 @@ module _ {F : Frame} {w out moved : List ℕ} {own other : Side} {totals : Total
               starts a xs G.p n tiled,
               tiled_le (ahead_of F.other.ops other.ahead) G.q n tn.good.tiled_r,
             );
-        first = first_fits a xs G.p n own.ahead.at K.original_most tiled (subst (λ (x : Next). G.p + span_next x ≡ own.ahead.at) t.next G.owns.at);
+        first = first_fits a xs G.p n own.ahead.at K.original_most tiled (subst (λ (x : Option Op). G.p + span_next x ≡ own.ahead.at) t.next G.owns.at);
         space = omega (arith, G.space, K.space, G.moved_same);
         room = λ lent' es ek.
             let s : result lent' w F.half a other ≡ result L w F.half a other =
@@ -300,7 +299,7 @@ module _ {F : Frame} {w out moved : List ℕ} {own other : Side} {totals : Total
             );
       }
 
-  module _ {w' out' moved' : List ℕ} {r : Result} (T : Turns L.spans L.keys F.own.ops F.own.cs w w' F.half a own other totals number out out' moved moved' r) where
+  module _ {w' out' moved' : List ℕ} {r : Sides} (T : Turns L.spans L.keys F.own.ops F.own.cs w w' F.half a own other totals number out out' moved moved' r) where
     -- the state after the turn is the definition's
     es : state_in F w' r.own r.other r.totals ≡ D.state
     es = turned-state L F.own.ops F.other.ops F.own.cs F.other.cs w F.half a own other totals number G.others.ends refl refl T

@@ -1,5 +1,6 @@
 -- A turn from its parts: the front of an operation asks no more than the operation, what is written in the work room is off what is remembered, and the values that the functions called give are the definition's.
 -- By cases on the operation taken, and by what the functions called ensure, field by field. Assumes nothing.
+use Rattle.std.specs.Prelude.{Option}
 use Prim.Native.Nat.{ℕ, ◌+◌, ◌-◌, ◌*◌, ◌≤◌}
 use mathlib.Core.Path.{◌≡◌, refl, sym, ap, ap₂, ◌∙◌, subst}
 use mathlib.Core.Bool.{Bool, true, false}
@@ -21,7 +22,6 @@ use Rattle.merging.specs.Cursors.{shift_of, removed_of, moved_by, behind_of}
 use Rattle.merging.specs.Turn.{emitted}
 use Rattle.merging.proofs.OneTurn.{keep_less}
 use Rattle.merging.proofs.Sums.{lengths_split}
-use Rattle.operation.specs.declared.Next.{Next}
 use Rattle.operation.specs.declared.Last.{Last}
 use Rattle.operation.specs.declared.Last.TheVariants.{Nothing, Deleted, Retained, Inserted}
 use Rattle.numbers.specs.Sizes.{most}
@@ -30,7 +30,7 @@ use Rattle.operation.specs.Meets.{tail_by}
 use Rattle.operation.proofs.Scratch.{untouched}
 use Rattle.operation.proofs.Meeting.{length_is}
 use Rattle.turns.specs.declared.Ahead.{Ahead}
-use Rattle.turns.specs.declared.Memory.{Memory}
+use Rattle.operation.specs.declared.Memory.{Memory}
 use Rattle.turns.specs.Looking.{Looks}
 use Rattle.turns.specs.Remembering.{Began, Since, Kept, Rememberable, Remembers}
 use Rattle.turns.specs.Emitting.{Emits}
@@ -40,7 +40,7 @@ use Rattle.cursor_position.proofs.Waiting.{none_moves, all_stay}
 use Rattle.merge.specs.declared.Meeting.{Meeting}
 use Rattle.merge.specs.declared.Side.{Side}
 use Rattle.merge.specs.declared.Totals.{Totals}
-use Rattle.merge.specs.declared.Turned.{Turned}
+use Rattle.merge.specs.declared.Sides.{Sides}
 use Rattle.merge.specs.Meetings.{placed_if, Facing, Meets}
 use Rattle.merge.specs.Turning.{Sound, memory_of, cursors_left, taken, result, shift_by, Turnable, Made, Turns}
 
@@ -147,7 +147,7 @@ seen_of spans keys = record { original = []; inserted = []; spans = spans; keys 
 
 -- what the functions that a turn calls ensure, b being what is taken
 pub record Parts (spans keys ops cs w w₁ w₂ : List ℕ) (half : ℕ) (own other : Side) (totals : Totals) (number : ℕ) (out out' moved moved' : List ℕ)
-    (b : Op) (tail : Next) (awaited : Bool) (r : Meeting) (p : Progress) (m : Op) (kept : Memory) (place span : ℕ) (coming : Ahead) : Type 0 where
+    (b : Op) (tail : Option Op) (awaited : Bool) (r : Meeting) (p : Progress) (m : Op) (kept : Memory) (place span : ℕ) (coming : Ahead) : Type 0 where
   pub awaits : awaited ≡ waits (own.seen + length_of (of_spans spans) b) (cursors_left cs own.cursor)
   pub meets : Meets spans keys w w₁ half other.memory.fill own.memory.fill b other.memory.last awaited own.seen totals.merged r
   pub went : Went cs (moved_by b r.shift (cursors_left cs own.cursor)) (behind_of b r.shift (cursors_left cs own.cursor)) moved moved'
@@ -159,7 +159,7 @@ pub record Parts (spans keys ops cs w w₁ w₂ : List ℕ) (half : ℕ) (own ot
   pub spans_is : span ≡ span_of m
 
 -- what the code makes of them
-abbrev resulting : Side → Side → Totals → Meeting → Progress → Memory → ℕ → ℕ → Ahead → Turned
+abbrev resulting : Side → Side → Totals → Meeting → Progress → Memory → ℕ → ℕ → Ahead → Sides
 resulting own other totals r p kept place span coming =
     record {
       own = record { ahead = coming; memory = kept; seen = own.seen + r.shift.length; cursor = p.next };
@@ -285,14 +285,14 @@ module _ {spans keys ops cs w : List ℕ} {half : ℕ} {a : Op} {own other : Sid
 
   -- the turn, from its parts
   pub assembled :
-      {w₁ w₂ out' moved' : List ℕ} {tail : Next} {awaited : Bool} {r : Meeting} {p : Progress} {m : Op} {kept : Memory} {place span : ℕ} {coming : Ahead}
+      {w₁ w₂ out' moved' : List ℕ} {tail : Option Op} {awaited : Bool} {r : Meeting} {p : Progress} {m : Op} {kept : Memory} {place span : ℕ} {coming : Ahead}
       → Parts spans keys ops cs w w₁ w₂ half own other totals number out out' moved moved' (taken a other) tail awaited r p m kept place span coming
       → tail ≡ tail_by a (heads other.ahead.next [])
       → Turns spans keys ops cs w w₂ half a own other totals number out out' moved moved'
       (resulting own other totals r p kept place span coming)
   assembled {w₁} {w₂} {out'} {moved'} {tail} {awaited} {r} {p} {m} {kept} {place} {span} {coming} P et =
       record {
-        looks = subst (λ (x : Next). Looks ops x own.ahead.behind own.ahead.at coming) et P.looks;
+        looks = subst (λ (x : Option Op). Looks ops x own.ahead.behind own.ahead.at coming) et P.looks;
         made = λ lent es ek. made lent es ek;
         ahead = refl;
         waited = refl;

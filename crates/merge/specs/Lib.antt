@@ -2,4 +2,3 @@ pub mod Meetings
 pub mod Turning
 pub mod Choosing
 pub mod Running
-pub mod Sides

@@ -14,12 +14,12 @@ use Rattle.merging.specs.Turn.{emitted}
 use Rattle.numbers.specs.Sizes.{most}
 use Rattle.operation.specs.Views.{heads, last_of, reach, tokens, of_spans, NextFits, LastFits, Lies, Keyed, Away}
 use Rattle.operation.specs.Meets.{tail_by}
-use Rattle.turns.specs.declared.Memory.{Memory}
+use Rattle.operation.specs.declared.Memory.{Memory}
 use Rattle.turns.specs.Looking.{list_from, FirstFits, Looks}
 use Rattle.turns.specs.Remembering.{Began, Since}
 use Rattle.merge.specs.declared.Side.{Side}
 use Rattle.merge.specs.declared.Totals.{Totals}
-use Rattle.merge.specs.declared.Turned.{Turned}
+use Rattle.merge.specs.declared.Sides.{Sides}
 
 -- the tokens of an operation are lent, and its numbers do not wrap
 pub record Sound (spans keys : List ℕ) (a : Op) : Type 0 where
@@ -68,7 +68,7 @@ pub record Turnable (spans keys ops cs w : List ℕ) (half : ℕ) (a : Op) (own 
       → (totals.operations + length (emitted number totals.consumed (result lent w half a other))) * 6 ≤ length out
 
 -- what a turn of the side `own` makes: each value is the definition's, whatever else was lent
-pub record Made (lent : Lent) (cs w w' : List ℕ) (half : ℕ) (a : Op) (own other : Side) (totals : Totals) (number : ℕ) (out out' moved moved' : List ℕ) (r : Turned) : Type 0 where
+pub record Made (lent : Lent) (cs w w' : List ℕ) (half : ℕ) (a : Op) (own other : Side) (totals : Totals) (number : ℕ) (out out' moved moved' : List ℕ) (r : Sides) : Type 0 where
   pub last : memory_of w' half r.own.memory ≡ remember_of lent (memory_of w half own.memory) (result lent w half a other)
   pub heard : memory_of w' half r.other.memory ≡ other_of (rules_of lent) (taken a other) (memory_of w half other.memory)
   pub seen : r.own.seen ≡ own.seen + length_of lent (taken a other)
@@ -83,7 +83,7 @@ pub record Made (lent : Lent) (cs w w' : List ℕ) (half : ℕ) (a : Op) (own ot
       → moved' ≡ answered (flat_cursors (ms ++ moved_by (taken a other) (shift_by lent w half a own other totals.merged) (cursors_left cs own.cursor))) d
 
 -- the statement of a turn: what is made, what is next, and the bounds that the next turn needs
-pub record Turns (spans keys ops cs w w' : List ℕ) (half : ℕ) (a : Op) (own other : Side) (totals : Totals) (number : ℕ) (out out' moved moved' : List ℕ) (r : Turned) : Type 0 where
+pub record Turns (spans keys ops cs w w' : List ℕ) (half : ℕ) (a : Op) (own other : Side) (totals : Totals) (number : ℕ) (out out' moved moved' : List ℕ) (r : Sides) : Type 0 where
   pub looks : Looks ops (tail_by a (heads other.ahead.next [])) own.ahead.behind own.ahead.at r.own.ahead
   pub made : (lent : Lent) → lent.spans ≡ spans → lent.keys ≡ keys → Made lent cs w w' half a own other totals number out out' moved moved' r
   pub ahead : r.other.ahead ≡ other.ahead

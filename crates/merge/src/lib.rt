@@ -1,62 +1,65 @@
 // The turns of a merge.
 #![tactic(auto)]
 
-ghost use Rattle.std.specs.Prelude.{◌≡◌, ◌+◌, ◌≤◌, length};
-ghost use Rattle.operation.specs.Views.{Lies, Placeable, size, of_spans};
+ghost use Rattle.std.specs.Prelude.{◌≡◌, ◌+◌, ◌≤◌};
+ghost use Rattle.merging.specs.Lent.{lent_in};
 ghost use Rattle.merging.specs.Operations.{length_of};
-ghost use Rattle.merge.specs.Meetings.{Shifted, Facing, Meets};
-ghost use Rattle.order.specs.Readable.{of_text};
-ghost use Rattle.merge.specs.Turning.{Turnable, Turns};
-ghost use Rattle.merge.specs.Choosing.{NextReadable, choice_of, is_none, taken_by, of_side};
-ghost use Rattle.merge.specs.Sides.{of_number};
 ghost use Rattle.merging.specs.Cursors.{moved_by, behind_of};
+ghost use Rattle.operation.specs.Views.{Lies, Placeable, size, of_spans};
 ghost use Rattle.cursor_position.specs.Moves.{Fits, left_of, waits, Spacious, Went};
 ghost use Rattle.turns.specs.Looking.{list_from, FirstFits, Looks};
-ghost use Rattle.merge.specs.Running.{Runnable, Ran};
+ghost use Rattle.merge.specs.Meetings.{Shifted, Facing, Meets};
+ghost use Rattle.merge.specs.Turning.{Turnable, Turns};
+ghost use Rattle.merge.specs.Choosing.{NextReadable, choice_of, of_which, number_of};
+ghost use Rattle.merge.specs.Running.{starting, Runnable, Ran};
 
-use cursor_position::Progress;
-use merging::{Op, Order, Shift};
-use operation::{Last, Met, Next};
-use turns::{Ahead, Memory};
+use cursor_position::{Progress, end_cursors};
+use merging::{Op, Shift};
+use operation::{Last, Memory, Met, Place};
+use records::{Lent, List, Tokens};
+use std::cmp::Ordering;
+use turns::Ahead;
 
-// What a turn does to the cursors of its side: a is taken, of this length, last is remembered of the
-// other side, which has filled the work room up to fill. The place of an overlap is a sum over what is
-// remembered, so it is left out where no cursor waits for it.
+// An operation that is taken, its retain already cut: its text of this length stands in its side's own
+// text behind what was seen; whether a cursor of the side waits for it; and the merged text's length.
+#[derive(Clone, Copy)]
+pub struct Taken {
+    pub op: Op,
+    pub seen: usize,
+    pub length: usize,
+    pub awaited: bool,
+    pub merged: usize,
+}
+
+// What a turn does to the cursors of its side, memory being the other side's. The place of an overlap
+// is a sum over what is remembered, so it is left out where no cursor waits for it.
 pub fn shift_of(
     spans: &[u32],
-    a: Op,
-    last: Last,
-    fill: usize,
+    a: Taken,
     met: Met,
-    awaited: bool,
-    seen: usize,
-    length: usize,
-    merged: usize,
+    memory: Memory,
     work: &[u32],
     half: usize,
 ) -> Shift
-    requires { Lies spans.now a × (met.lost ≤ size a) × Placeable work.now half fill last met }
-    ensures { Shifted spans.now work.now half fill a last met awaited seen length merged result }
+    requires { Lies spans.now a.op × (met.lost ≤ size a.op) × Placeable work.now half memory.fill memory.last met }
+    ensures { Shifted spans.now work.now half memory.fill a.op memory.last met a.awaited a.seen a.length a.merged result }
 {
-    let removed = operation::removed_of(spans, a, met.lost);
-    if awaited {
-        let place = operation::place_of(a, last, met, fill, work, half, merged);
-        return Shift {
-            seen,
-            length,
-            removed,
-            start: place.start,
-            shared: place.shared,
-            merged,
-        };
-    }
+    let removed = operation::removed_of(spans, a.op, met.lost);
+    let place = if a.awaited {
+        operation::place_of(a.op, met, memory, work, half, a.merged)
+    } else {
+        Place {
+            start: a.merged,
+            shared: 0,
+        }
+    };
     Shift {
-        seen,
-        length,
+        seen: a.seen,
+        length: a.length,
         removed,
-        start: merged,
-        shared: 0,
-        merged,
+        start: place.start,
+        shared: place.shared,
+        merged: a.merged,
     }
 }
 
@@ -69,34 +72,23 @@ pub struct Meeting {
     pub last: Last,
 }
 
-// The side that takes a has filled the work room up to table; what is remembered of the other side
-// stands in it up to fill.
+// The side that takes a has filled the work room up to table; memory is the other side's.
 pub fn meet(
-    spans: &[u32],
-    keys: &[u32],
-    a: Op,
-    last: Last,
-    fill: usize,
-    awaited: bool,
-    seen: usize,
-    length: usize,
-    merged: usize,
+    tokens: Tokens,
+    a: Taken,
+    memory: Memory,
     work: &mut [u32],
     half: usize,
     table: usize,
 ) -> Meeting
-    requires { Facing spans.now keys.now work.old half fill table a last × (length ≡ length_of (of_spans spans.now) a) }
-    ensures { Meets spans.now keys.now work.old work.new half fill table a last awaited seen merged result }
+    requires { Facing tokens.spans.now tokens.keys.now work.old half memory.fill table a.op memory.last × (a.length ≡ length_of (of_spans tokens.spans.now) a.op) }
+    ensures { Meets tokens.entry.spans.now tokens.entry.keys.now work.old work.new half memory.fill table a.op memory.last a.awaited a.seen a.merged result }
 {
-    let met = operation::merge_operations_consuming_insert(keys, a, last, fill, work, table);
-    let shift = shift_of(
-        spans, a, last, fill, met, awaited, seen, length, merged, work, half,
-    );
-    let left = operation::used_up(a, last, met, fill);
+    let met = operation::merge_operations_consuming_insert(tokens.keys, a.op, memory, work, table);
     Meeting {
         lost: met.lost,
-        shift,
-        last: left,
+        shift: shift_of(tokens.spans, a, met, memory, work, half),
+        last: operation::used_up(a.op, met, memory),
     }
 }
 
@@ -120,26 +112,71 @@ pub struct Totals {
     pub cursors: usize,
 }
 
+// A merge between two turns, as the side that takes sees it.
 #[derive(Clone, Copy)]
-pub struct Turned {
+pub struct Sides {
     pub own: Side,
     pub other: Side,
     pub totals: Totals,
 }
 
-// Whether a cursor of the side of a number waits for an operation that ends there.
-fn is_side_awaited(number: usize, left: &[usize], right: &[usize], p: Progress, end: usize) -> bool
-    ensures { result ≡ waits end (left_of (of_number number left.now right.now) p) }
-{
-    if number == 0 {
-        return cursor_position::is_awaited(left, p, end);
-    }
-    cursor_position::is_awaited(right, p, end)
+// Which of the two sides.
+#[derive(Clone, Copy)]
+pub enum Which {
+    Left,
+    Right,
 }
 
-// The cursors of the side of a number move with an operation, if one waits for it.
+impl Which {
+    // The side's number in a record.
+    pub fn number(self) -> usize
+        ensures { result ≡ number_of self }
+    {
+        match self {
+            Which::Left => 0,
+            Which::Right => 1,
+        }
+    }
+}
+
+// The side of a turn, with the operation that it takes.
+#[derive(Clone, Copy)]
+pub struct Choice {
+    pub side: Which,
+    pub op: Op,
+}
+
+// Whether a cursor of a side waits for an operation that ends there.
+fn is_side_awaited(side: Which, left: &[usize], right: &[usize], p: Progress, end: usize) -> bool
+    ensures { result ≡ waits end (left_of (of_which side left.now right.now) p) }
+{
+    match side {
+        Which::Left => cursor_position::is_awaited(left, p, end),
+        Which::Right => cursor_position::is_awaited(right, p, end),
+    }
+}
+
+// What is next on a side.
+fn advance_side(
+    side: Which,
+    left: &[usize],
+    right: &[usize],
+    tail: Option<Op>,
+    behind: usize,
+    at: usize,
+) -> Ahead
+    requires { FirstFits at (list_from (of_which side left.now right.now) behind at) }
+    ensures { Looks (of_which side left.now right.now) tail behind at result }
+{
+    match side {
+        Which::Left => turns::advance(left, tail, behind, at),
+        Which::Right => turns::advance(right, tail, behind, at),
+    }
+}
+
+// The cursors of a side move with an operation, if one waits for it.
 fn move_side(
-    number: usize,
+    side: Which,
     a: Op,
     left: &[usize],
     right: &[usize],
@@ -148,102 +185,71 @@ fn move_side(
     t: Shift,
     out: &mut [usize],
 ) -> Progress
-    requires { Fits t × Spacious (of_number number left.now right.now) p out.old × (awaited ≡ waits (t.seen + t.length) (left_of (of_number number left.now right.now) p)) }
-    ensures { Went (of_number number left.now right.now) (moved_by a t (left_of (of_number number left.now right.now) p)) (behind_of a t (left_of (of_number number left.now right.now) p)) out.old out.new p result }
+    requires { Fits t × Spacious (of_which side left.now right.now) p out.old × (awaited ≡ waits (t.seen + t.length) (left_of (of_which side left.now right.now) p)) }
+    ensures { Went (of_which side left.now right.now) (moved_by a t (left_of (of_which side left.now right.now) p)) (behind_of a t (left_of (of_which side left.now right.now) p)) out.old out.new p result }
 {
     if awaited {
-        if number == 0 {
-            return cursor_position::move_with(a, left, p, t, out);
-        }
-        return cursor_position::move_with(a, right, p, t, out);
+        return match side {
+            Which::Left => cursor_position::move_with(a, left, p, t, out),
+            Which::Right => cursor_position::move_with(a, right, p, t, out),
+        };
     }
     p
 }
 
-// What is next on the side of a number.
-fn advance_side(
-    number: usize,
-    left: &[usize],
-    right: &[usize],
-    tail: Next,
-    behind: usize,
-    at: usize,
-) -> Ahead
-    requires { FirstFits at (list_from (of_number number left.now right.now) behind at) }
-    ensures { Looks (of_number number left.now right.now) tail behind at result }
-{
-    if number == 0 {
-        return turns::advance(left, tail, behind, at);
-    }
-    turns::advance(right, tail, behind, at)
-}
-
-// A turn of the side `own`, whose number is `number`: it takes a. Lists and cursors are those of both
-// sides.
+// A turn of the side `own`, as it was chosen; the lists are those of both sides. Kept so: tried, and slower: a
+// list of one side, picked at each turn, is held on the stack.
 pub fn turn(
-    spans: &[u32],
-    keys: &[u32],
-    left_operations: &[usize],
-    right_operations: &[usize],
-    left_cursors: &[usize],
-    right_cursors: &[usize],
-    a: Op,
-    own: Side,
-    other: Side,
-    totals: Totals,
-    number: usize,
+    tokens: Tokens,
+    left: List,
+    right: List,
+    choice: Choice,
+    sides: Sides,
     work: &mut [u32],
     half: usize,
     out: &mut [usize],
     moved: &mut [usize],
-) -> Turned
-    requires { Turnable spans.now keys.now (of_number number left_operations.now right_operations.now) (of_number number left_cursors.now right_cursors.now) work.old half a own other totals number out.old moved.old }
-    ensures { Turns spans.now keys.now (of_number number left_operations.now right_operations.now) (of_number number left_cursors.now right_cursors.now) work.old work.new half a own other totals number out.old out.new moved.old moved.new result }
+) -> Sides
+    requires { Turnable tokens.spans.now tokens.keys.now (of_which choice.side left.operations.now right.operations.now) (of_which choice.side left.cursors.now right.cursors.now) work.old half choice.op sides.own sides.other sides.totals (number_of choice.side) out.old moved.old }
+    ensures { Turns tokens.entry.spans.now tokens.entry.keys.now (of_which choice.side left.entry.operations.now right.entry.operations.now) (of_which choice.side left.entry.cursors.now right.entry.cursors.now) work.old work.new half choice.op sides.own sides.other sides.totals (number_of choice.side) out.old out.new moved.old moved.new result }
 {
-    let ahead = own.ahead;
-    let memory = own.memory;
-    let facing = other.ahead;
-    let next = facing.next;
-    let heard = other.memory;
-    let last = heard.last;
-    let split = operation::split_retain_before(a, next);
-    let b = split.front;
-    let tail = split.tail;
-    let length = operation::length_of(spans, b);
+    let Sides { own, other, totals } = sides;
+    let split = operation::split_retain_before(choice.op, other.ahead.next);
+    let length = operation::length_of(tokens.spans, split.front);
     let p = Progress {
         next: own.cursor,
         count: totals.cursors,
     };
-    let awaited = is_side_awaited(number, left_cursors, right_cursors, p, own.seen + length);
-    let meeting = meet(
-        spans,
-        keys,
-        b,
-        last,
-        heard.fill,
-        awaited,
-        own.seen,
-        length,
-        totals.merged,
-        work,
-        half,
-        memory.fill,
+    let awaited = is_side_awaited(
+        choice.side,
+        left.cursors,
+        right.cursors,
+        p,
+        own.seen + length,
     );
+    let taken = Taken {
+        op: split.front,
+        seen: own.seen,
+        length,
+        awaited,
+        merged: totals.merged,
+    };
+    let meeting = meet(tokens, taken, other.memory, work, half, own.memory.fill);
     let shift = meeting.shift;
-    let left = meeting.last;
     let progress = move_side(
-        number,
-        b,
-        left_cursors,
-        right_cursors,
+        choice.side,
+        split.front,
+        left.cursors,
+        right.cursors,
         awaited,
         p,
         shift,
         moved,
     );
-    let result = operation::shortened(b, meeting.lost);
-    let kept = turns::remember_operation(spans, keys, result, memory, work, half);
+    let result = operation::shortened(split.front, meeting.lost);
+    let kept = turns::remember_operation(tokens, result, own.memory, work, half);
     let text = shift.length - shift.removed;
+    let number = choice.side.number();
     let place = turns::emit(
         out,
         totals.operations,
@@ -253,14 +259,14 @@ pub fn turn(
         text,
     );
     let coming = advance_side(
-        number,
-        left_operations,
-        right_operations,
-        tail,
-        ahead.behind,
-        ahead.at,
+        choice.side,
+        left.operations,
+        right.operations,
+        split.tail,
+        own.ahead.behind,
+        own.ahead.at,
     );
-    Turned {
+    Sides {
         own: Side {
             ahead: coming,
             memory: kept,
@@ -268,128 +274,79 @@ pub fn turn(
             cursor: progress.next,
         },
         other: Side {
-            ahead: facing,
+            ahead: other.ahead,
             memory: Memory {
-                last: left,
-                fill: heard.fill,
+                last: meeting.last,
+                fill: other.memory.fill,
             },
             seen: other.seen,
             cursor: other.cursor,
         },
         totals: Totals {
             merged: totals.merged + text,
-            consumed: totals.consumed + merging::span_of(result),
+            consumed: totals.consumed + result.span(),
             operations: place,
             cursors: progress.count,
         },
     }
 }
 
-// The side of a turn, with the operation that it takes.
-#[derive(Clone, Copy)]
-pub enum Choice {
-    Nothing,
-    Left(Op),
-    Right(Op),
-}
-
 // The smaller of the two next operations; ties use the priority of the streams, and what is not less
 // goes right.
-pub fn choose(
-    text: &[u32],
-    spans: &[u32],
-    keys: &[u32],
-    left: Next,
-    right: Next,
-    priority: Order,
-) -> Choice
-    requires { NextReadable text.now spans.now keys.now left × NextReadable text.now spans.now keys.now right }
-    ensures { result ≡ choice_of (of_text text.now spans.now keys.now) priority left right }
+#[tactic(auto, unfolding(crate::specs::Choosing::choice_of, merging::specs::OrderRule::goes_left))]
+pub fn choose(lent: Lent, left: Option<Op>, right: Option<Op>, priority: Ordering) -> Option<Choice>
+    requires { NextReadable lent.text.now lent.tokens.spans.now lent.tokens.keys.now left × NextReadable lent.text.now lent.tokens.spans.now lent.tokens.keys.now right }
+    ensures { result ≡ choice_of (lent_in lent.entry) priority left right }
 {
-    match left {
-        Next::Done => match right {
-            Next::Done => Choice::Nothing,
-            Next::Here(b) => Choice::Right(b),
-        },
-        Next::Here(a) => match right {
-            Next::Done => Choice::Left(a),
-            Next::Here(b) => {
-                let rule = order::cmp_priority(text, spans, keys, a, b);
-                let first = rule.then(priority);
-                match first {
-                    Order::Less => Choice::Left(a),
-                    Order::Equal => Choice::Right(b),
-                    Order::Greater => Choice::Right(b),
-                }
-            }
+    match (left, right) {
+        (None, None) => None,
+        (Some(op), None) => Some(Choice {
+            side: Which::Left,
+            op,
+        }),
+        (None, Some(op)) => Some(Choice {
+            side: Which::Right,
+            op,
+        }),
+        (Some(a), Some(b)) => match order::cmp_priority(lent, a, b).then(priority) {
+            Ordering::Less => Some(Choice {
+                side: Which::Left,
+                op: a,
+            }),
+            Ordering::Equal | Ordering::Greater => Some(Choice {
+                side: Which::Right,
+                op: b,
+            }),
         },
     }
 }
 
-// Whether a choice takes nothing.
-fn is_none(choice: Choice) -> bool
-    ensures { result ≡ is_none choice }
+// Of two sides this one.
+fn side_of(which: Which, left: Side, right: Side) -> Side
+    ensures { result ≡ of_which which left right }
 {
-    match choice {
-        Choice::Nothing => true,
-        Choice::Left(a) => false,
-        Choice::Right(b) => false,
-    }
-}
-
-// The operation that a choice takes.
-fn taken_of(choice: Choice) -> Op
-    ensures { result ≡ taken_by choice }
-{
-    match choice {
-        Choice::Nothing => Op::Delete {
-            order: 0,
-            length: 0,
-        },
-        Choice::Left(a) => a,
-        Choice::Right(b) => b,
-    }
-}
-
-// The number of the side that a choice takes.
-fn number_of(choice: Choice) -> usize
-    ensures { result ≡ of_side choice 0 1 }
-{
-    match choice {
-        Choice::Nothing => 0,
-        Choice::Left(a) => 0,
-        Choice::Right(b) => 1,
-    }
-}
-
-// Of two sides the one that a choice takes.
-fn side_of(choice: Choice, left: Side, right: Side) -> Side
-    ensures { result ≡ of_side choice left right }
-{
-    match choice {
-        Choice::Nothing => fresh(left),
-        Choice::Left(a) => fresh(left),
-        Choice::Right(b) => fresh(right),
+    match which {
+        Which::Left => fresh(left),
+        Which::Right => fresh(right),
     }
 }
 
 // The same side, taken apart and made again. A copy of an enum takes the unused bytes behind its tag
 // along, and one that goes round the loop keeps them, and so the side, out of the registers.
+// Kept so: tried, and slower: what the derived copy costs is said above.
 fn fresh(side: Side) -> Side
     ensures { result ≡ side }
 {
     let ahead = side.ahead;
-    let next = ahead.next;
     let memory = side.memory;
-    let last = memory.last;
     Side {
         ahead: Ahead {
-            next: fresh_next(next),
+            next: fresh_next(ahead.next),
             behind: ahead.behind,
             at: ahead.at,
         },
         memory: Memory {
-            last: fresh_last(last),
+            last: fresh_last(memory.last),
             fill: memory.fill,
         },
         seen: side.seen,
@@ -397,12 +354,12 @@ fn fresh(side: Side) -> Side
     }
 }
 
-fn fresh_next(next: Next) -> Next
+fn fresh_next(next: Option<Op>) -> Option<Op>
     ensures { result ≡ next }
 {
     match next {
-        Next::Here(a) => Next::Here(fresh_op(a)),
-        Next::Done => Next::Done,
+        Some(a) => Some(fresh_op(a)),
+        None => None,
     }
 }
 
@@ -435,110 +392,96 @@ fn fresh_last(last: Last) -> Last
     }
 }
 
+// A side before the first turn, which fills the work room from a place on.
+fn start(ahead: Ahead, fill: usize) -> Side
+    ensures { result ≡ starting ahead fill }
+{
+    Side {
+        ahead,
+        memory: Memory {
+            last: Last::Nothing,
+            fill,
+        },
+        seen: 0,
+        cursor: 0,
+    }
+}
+
 // Turns until both sides are done; what is left of the cursors goes to the end, left before right.
 // The left side's part of the work room ends at mid. Both sides go through one call of `turn`, which
 // halves the time: it is made part of the loop then, and the sides stay in registers.
+// Kept so, here and above: rooms apart, since a struct that holds `&mut` wants clauses on which room it still is; that is no plainer.
 pub fn run(
-    original: &[u32],
-    text: &[u32],
-    spans: &[u32],
-    keys: &[u32],
-    left_operations: &[usize],
-    right_operations: &[usize],
-    left_cursors: &[usize],
-    right_cursors: &[usize],
-    priority: Order,
+    lent: Lent,
+    left: List,
+    right: List,
+    priority: Ordering,
     work: &mut [u32],
     mid: usize,
     half: usize,
     out: &mut [usize],
     moved: &mut [usize],
 ) -> Totals
-    requires { Runnable original.now text.now spans.now keys.now left_operations.now right_operations.now left_cursors.now right_cursors.now priority work.old mid half out.old moved.old }
-    ensures { Ran original.now text.now spans.now keys.now left_operations.now right_operations.now left_cursors.now right_cursors.now priority out.old out.new moved.old moved.new result }
+    requires { Runnable lent.original.now lent.text.now lent.tokens.spans.now lent.tokens.keys.now left.operations.now right.operations.now left.cursors.now right.cursors.now priority work.old mid half out.old moved.old }
+    ensures { Ran lent.entry.original.now lent.entry.text.now lent.entry.tokens.spans.now lent.entry.tokens.keys.now left.entry.operations.now right.entry.operations.now left.entry.cursors.now right.entry.cursors.now priority out.old out.new moved.old moved.new result }
 {
-    let mut left = Side {
-        ahead: turns::ahead_of(left_operations, 0, 0),
-        memory: Memory {
-            last: Last::Nothing,
-            fill: 0,
-        },
-        seen: 0,
-        cursor: 0,
-    };
-    let mut right = Side {
-        ahead: turns::ahead_of(right_operations, 0, 0),
-        memory: Memory {
-            last: Last::Nothing,
-            fill: mid,
-        },
-        seen: 0,
-        cursor: 0,
-    };
+    let mut left_side = start(turns::ahead_of(left.operations, 0, 0), 0);
+    let mut right_side = start(turns::ahead_of(right.operations, 0, 0), mid);
     let mut totals = Totals {
         merged: 0,
         consumed: 0,
         operations: 0,
         cursors: 0,
     };
-    'turns: loop {
-        let facing = left.ahead;
-        let faced = right.ahead;
-        let next = facing.next;
-        let other = faced.next;
-        let choice = choose(text, spans, keys, next, other, priority);
-        if is_none(choice) {
-            let first = cursor_position::end_cursors(
-                left_cursors,
-                Progress {
-                    next: left.cursor,
-                    count: totals.cursors,
-                },
-                totals.merged,
-                moved,
-            );
-            let second = cursor_position::end_cursors(
-                right_cursors,
-                Progress {
-                    next: right.cursor,
-                    count: first.count,
-                },
-                totals.merged,
-                moved,
-            );
-            return Totals {
-                merged: totals.merged,
-                consumed: totals.consumed,
-                operations: totals.operations,
-                cursors: second.count,
-            };
-        }
-        let a = taken_of(choice);
-        let taking = side_of(choice, left, right);
-        let heard = side_of(choice, right, left);
-        let number = number_of(choice);
-        let t = turn(
-            spans,
-            keys,
-            left_operations,
-            right_operations,
-            left_cursors,
-            right_cursors,
-            a,
-            taking,
-            heard,
+    'turns: while let Some(choice) = choose(
+        lent,
+        left_side.ahead.next,
+        right_side.ahead.next,
+        priority,
+    ) {
+        let side = choice.side;
+        let sides = Sides {
+            own: side_of(side, left_side, right_side),
+            other: side_of(side, right_side, left_side),
             totals,
-            number,
+        };
+        let t = turn(
+            lent.tokens,
+            left,
+            right,
+            choice,
+            sides,
             work,
             half,
             out,
             moved,
         );
-        let own = t.own;
-        let waiting = t.other;
-        let sums = t.totals;
-        left = side_of(choice, own, waiting);
-        right = side_of(choice, waiting, own);
-        totals = sums;
+        left_side = side_of(side, t.own, t.other);
+        right_side = side_of(side, t.other, t.own);
+        totals = t.totals;
+    }
+    let first = end_cursors(
+        left.cursors,
+        Progress {
+            next: left_side.cursor,
+            count: totals.cursors,
+        },
+        totals.merged,
+        moved,
+    );
+    let second = end_cursors(
+        right.cursors,
+        Progress {
+            next: right_side.cursor,
+            count: first.count,
+        },
+        totals.merged,
+        moved,
+    );
+    Totals {
+        merged: totals.merged,
+        consumed: totals.consumed,
+        operations: totals.operations,
+        cursors: second.count,
     }
 }

@@ -9,8 +9,6 @@ use lib.ListN.{length}
 use borrow.Author.Tests.{eq-eqb}
 use Rattle.room.specs.Choice.{pick}
 use Rattle.records.specs.declared.Operation.{Operation}
-use Rattle.verdict.specs.declared.Verdict.{Verdict}
-use Rattle.verdict.specs.declared.Verdict.TheVariants as W
 use Rattle.utf8_read.specs.Reading.{points}
 use Rattle.edit_format.specs.Reading.{Found, Accepted, Refused, read_file, believes}
 use Rattle.edit_format.proofs.ReadBack.{read_back}
@@ -18,16 +16,18 @@ use Rattle.merging.specs.Lent.{Lent, rules_of}
 use Rattle.merging.specs.Merge.{merge_of}
 use Rattle.to_diff.specs.Items.{diff_of}
 use Rattle.outputs.proofs.GoodItems.{accepts, diff_good, diff_original}
-use Rattle.merge_files.specs.Program.{Result, merged, refused, padding, lent_of, left_of, right_of, verdict_of, file_of, judged, merged_of, of_files, sized, utf8, result_of}
+use Rattle.merge_files.specs.Program.{Output, merged, refused, padding, lent_of, left_of, right_of, verdict_of, file_of, judged, merged_of, of_files, sized, utf8, result_of}
 use Rattle.merge_files.proofs.Merging.{merged_fine}
+use Rattle.std.specs.Prelude.{Ok, Err}
+use Rattle.verdict.specs.Verdicts.{Verdict, accepted}
 
-of_merged : (v : Verdict) (file bytes : List ℕ) → judged v file ≡ merged bytes → (v ≡ W.Accepted) × (file ≡ bytes)
+of_merged : (v : Verdict) (file bytes : List ℕ) → judged v file ≡ merged bytes → (v ≡ accepted) × (file ≡ bytes)
 unfolding judged
-of_merged W.Accepted file bytes e = (refl, cc)
-of_merged (W.Refused r) file bytes e = let z : ◌≡◌ {A = ℕ} 0 1 = cc in absurd (omega arith)
+of_merged (Ok u) file bytes e = (refl, cc)
+of_merged (Err r) file bytes e = let z : ◌≡◌ {A = ℕ} 0 1 = cc in absurd (omega arith)
 
 -- the file of two lists that pass their checks
-file_believed : (lent : Lent) (left right : List Operation) → verdict_of lent left right ≡ W.Accepted
+file_believed : (lent : Lent) (left right : List Operation) → verdict_of lent left right ≡ accepted
     → believes (read_file (file_of lent left right)) (length lent.original) ≡ true
 unfolding file_of believes verdict_of
 file_believed lent left right v =
@@ -45,7 +45,7 @@ files_believed d original (Accepted ls) (Refused l) bytes e = let z : ◌≡◌ 
 files_believed d original (Refused l) g bytes e = let z : ◌≡◌ {A = ℕ} 0 1 = cc in absurd (omega arith)
 
 -- by the tests of the definition
-picked : (a b : Bool) (x : Result) (bytes : List ℕ) → pick a (pick b x (refused 10)) (refused 3) ≡ merged bytes → x ≡ merged bytes
+picked : (a b : Bool) (x : Output) (bytes : List ℕ) → pick a (pick b x (refused 10)) (refused 3) ≡ merged bytes → x ≡ merged bytes
 picked true true x bytes e = e
 picked true false x bytes e = let z : ◌≡◌ {A = ℕ} 0 1 = cc in absurd (omega arith)
 picked false b x bytes e = let z : ◌≡◌ {A = ℕ} 0 1 = cc in absurd (omega arith)

@@ -10,15 +10,13 @@ use lib.IntN.{ℤ}
 use borrow.Author.Tests.{le-leb, lt-leb, lt-ltb}
 use Rattle.refusal.specs.declared.Refusal.{Refusal}
 use Rattle.refusal.specs.declared.Refusal.TheVariants as R
-use Rattle.refusal.specs.declared.Counted.{Counted}
-use Rattle.refusal.specs.declared.Counted.TheVariants as C
 use Rattle.room.specs.Placed.{answered}
 use Rattle.room.proofs.Answers.{same_room}
 use Rattle.records.specs.declared.Operation.{Operation}
 use Rattle.records.specs.Operations.{operations_of}
 use Rattle.numbers.proofs.Orders.{le_or_lt}
-use Rattle.verdict.specs.declared.Verdict.TheVariants as W
-use Rattle.verdict.specs.Verdicts.{and_then, roomed as roomFits}
+use Rattle.item_records.specs.declared.Counts.{Counts}
+use Rattle.verdict.specs.Verdicts.{accepted}
 use Rattle.sizes.specs.declared.Limits.{Limits}
 use Rattle.shapes.specs.Accepted.{AcceptedList}
 use Rattle.edit_format.specs.Items.{Item, texts}
@@ -35,8 +33,6 @@ use Rattle.merging.specs.Outputs.{to_diff}
 use Rattle.merging.proofs.OutputLaws.{diff_items}
 use Rattle.merging_laws.proofs.Decoding.{length_ops}
 use Rattle.merging_laws.proofs.Outputs.{diff_fits}
-use Rattle.to_diff.specs.declared.Diffed.{Diffed}
-use Rattle.to_diff.specs.declared.Diffed.TheVariants as D
 use Rattle.to_diff.specs.Items.{diff_of}
 use Rattle.to_diff.specs.Answers.{verdict_in, room_for, Diffs}
 use Rattle.to_diff.proofs.Joining.{length_items, added_items}
@@ -47,6 +43,7 @@ use Rattle.merge_files.specs.declared.Outcome.TheVariants as O
 use Rattle.merge_files.specs.Program.{merged, bytes_of, kind_of, outcome_of, room_after, Written}
 use Rattle.merge_files.specs.Steps.{Diffable}
 use Rattle.merge_files.proofs.Checking.{never}
+use Rattle.std.specs.Prelude.{Result, Ok, Err}
 
 module _ (original text spans keys ops : List ℕ) (K : Diffable original text spans keys ops) where
   abbrev lent : Lent
@@ -87,8 +84,8 @@ module _ (original text spans keys ops : List ℕ) (K : Diffable original text s
   few_points = omega (arith, texts_length is, added_items (to_diff lent (ops_from 0 os)), (diff_fits lent most os [] listed).text)
 
   module _ (d : List ℤ) (e : List ℕ) (nd : length d ≡ 2046) (ne : length e ≡ 2048) where
-    in_rooms : verdict_in lent os d e ≡ W.Accepted
-    unfolding verdict_in room_for roomFits and_then
+    in_rooms : verdict_in lent os d e ≡ accepted
+    unfolding verdict_in room_for
     in_rooms =
         rw (
           K.accepted,
@@ -96,26 +93,26 @@ module _ (original text spans keys ops : List ℕ) (K : Diffable original text s
           le-leb (length (texts is)) (length e) (omega (arith, few_points)),
         )
 
-    pub not_refused : {A : Type 0} {d' : List ℤ} {e' : List ℕ} {r : Refusal} {x : Diffed} → Diffs lent os d e d' e' x → x ≡ D.Refused r → A
+    pub not_refused : {A : Type 0} {d' : List ℤ} {e' : List ℕ} {r : Refusal} {x : Result Counts Refusal} → Diffs lent os d e d' e' x → x ≡ Err r → A
     not_refused {A} {d'} {e'} {r} h t =
-        let q : D.Refused r ≡ D.Counts (length is) (length (texts is)) = sym t ∙ rw in_rooms at h.answer in
+        let q : ◌≡◌ {A = Result Counts Refusal} (Err r) (Ok (record { items = length is; text = length (texts is) })) = sym t ∙ rw in_rooms at h.answer in
         let z : ◌≡◌ {A = ℕ} 0 1 = cc in
         absurd (omega arith)
 
-    module _ {d' : List ℤ} {e' : List ℕ} {n m : ℕ} {x : Diffed} (h₀ : Diffs lent os d e d' e' x) (t : x ≡ D.Counts n m) where
-      h : Diffs lent os d e d' e' (D.Counts n m)
-      h = subst (λ (y : Diffed). Diffs lent os d e d' e' y) t h₀
+    module _ {d' : List ℤ} {e' : List ℕ} {n : Counts} {x : Result Counts Refusal} (h₀ : Diffs lent os d e d' e' x) (t : x ≡ Ok n) where
+      h : Diffs lent os d e d' e' (Ok n)
+      h = subst (λ (y : Result Counts Refusal). Diffs lent os d e d' e' y) t h₀
 
-      pub items_small : n ≤ 682
+      pub items_small : n.items ≤ 682
       items_small = omega (arith, (written_of lent os h).many, few_items)
 
-      pub items_in : n * 3 ≤ length d'
+      pub items_in : n.items * 3 ≤ length d'
       items_in =
           let q : d' ≡ answered (records_of is) d = rw in_rooms at h.items in
           let l : length d' ≡ length d = rw q (same_room (records_of is) d (omega (arith, length_records is, few_items))) in
           omega (arith, items_small)
 
-      pub text_in : m ≤ length e'
+      pub text_in : n.text ≤ length e'
       text_in =
           let q : e' ≡ answered (texts is) e = rw in_rooms at h.text in
           let l : length e' ≡ length e = rw q (same_room (texts is) e (omega (arith, few_points))) in
@@ -123,16 +120,16 @@ module _ (original text spans keys ops : List ℕ) (K : Diffable original text s
 
       -- the file as it was written, or its room too short
       module _ (out out' : List ℕ) where
-        short : {r : Counted} → length out < length (written is) → Wrote (file_of (take (n * 3) d') (take m e')) (take m e') out out' r
-            → (r ≡ C.Refused R.Room) × (out' ≡ out)
-        unfolding roomed fits and_then
+        short : {r : (Result ℕ Refusal)} → length out < length (written is) → Wrote (file_of (take (n.items * 3) d') (take n.text e')) (take n.text e') out out' r
+            → (r ≡ Err R.Room) × (out' ≡ out)
+        unfolding roomed fits
         short l w =
             let t = lt-ltb (length out) (length (written is)) l in
             let v = written_of lent os h in
             let u = rw (file_items lent os v) at (file_writable lent os v) in
             (rw (file_items lent os v, u, t) at w.answer, rw (file_items lent os v, u, t) at w.room)
 
-        pub writes : {y : Counted} (k : ℕ) → Wrote (file_of (take (n * 3) d') (take m e')) (take m e') out out' y → y ≡ C.Count k
+        pub writes : {y : (Result ℕ Refusal)} (k : ℕ) → Wrote (file_of (take (n.items * 3) d') (take n.text e')) (take n.text e') out out' y → y ≡ Ok k
             → Written (merged (written is)) out out' (O.Merged k)
         unfolding bytes_of kind_of outcome_of room_after
         writes {y} k w u =
@@ -140,12 +137,12 @@ module _ (original text spans keys ops : List ℕ) (K : Diffable original text s
             (λ (l : length (written is) ≤ length out).
             let f = files lent os (written_of lent os h) w l in
             let t = le-leb (length (written is)) (length out) l in
-            let p : C.Count k ≡ C.Count (length (written is)) = sym u ∙ f.0 in
+            let p : Ok k ≡ Ok (length (written is)) = sym u ∙ f.0 in
             let q : k ≡ length (written is) = cc in
             record { answer = rw (t, q); room = rw t f.1 })
             (λ (l : length out < length (written is)). never (sym u ∙ (short l w).0)) (le_or_lt (length (written is)) (length out))
 
-        pub no_room : {y : Counted} (r : Refusal) → Wrote (file_of (take (n * 3) d') (take m e')) (take m e') out out' y → y ≡ C.Refused r
+        pub no_room : {y : (Result ℕ Refusal)} (r : Refusal) → Wrote (file_of (take (n.items * 3) d') (take n.text e')) (take n.text e') out out' y → y ≡ Err r
             → Written (merged (written is)) out out' O.Room
         unfolding bytes_of outcome_of room_after
         no_room {y} r w u =

@@ -12,8 +12,6 @@ use Rattle.room.specs.Choice.{pick}
 use Rattle.room.specs.Placed.{answered}
 use Rattle.records.specs.declared.Operation.{Operation}
 use Rattle.sizes.specs.declared.Limits.{Limits}
-use Rattle.verdict.specs.declared.Verdict.{Verdict}
-use Rattle.verdict.specs.declared.Verdict.TheVariants as W
 use Rattle.sizes.specs.Sizes.{merging}
 use Rattle.shapes.specs.Accepted.{AcceptedList}
 use Rattle.checks.proofs.Accepted.{accepted_left, accepted_right}
@@ -35,19 +33,21 @@ use Rattle.to_diff.proofs.Joining.{length_items, added_items}
 use Rattle.outputs.proofs.GoodItems.{accepts, diff_good}
 use Rattle.edit_list.proofs.Bounds.{file_long}
 use Rattle.merge_files.specs.declared.Outcome.{Outcome}
-use Rattle.merge_files.specs.Program.{Result, refused, refused_key, bytes_of, padding, lent_of, left_of, right_of, verdict_of, file_of, judged, merged_of, of_files, sized, utf8, result_of, kind_of, outcome_of, room_after, Written}
+use Rattle.merge_files.specs.Program.{Output, refused, refused_key, bytes_of, padding, lent_of, left_of, right_of, verdict_of, file_of, judged, merged_of, of_files, sized, utf8, result_of, kind_of, outcome_of, room_after, Written}
 use Rattle.merge_files.proofs.Merging.{number_most, merged_fine}
 use Rattle.merge_files.proofs.Short.{file_most}
 use Rattle.merge_files.proofs.Added.{left_few, right_few, left_adds, right_adds}
+use Rattle.std.specs.Prelude.{Ok, Err}
+use Rattle.verdict.specs.Verdicts.{Verdict, accepted}
 
 refusal_most : (n : ℕ) → n ≤ 10 → length (bytes_of (refused n)) ≤ 14393
 unfolding bytes_of
 refusal_most n h = omega (arith, line_length refused_key n, few_digits 10 n)
 
-judged_most : (v : Verdict) (file : List ℕ) → (v ≡ W.Accepted → length file ≤ 14393) → length (bytes_of (judged v file)) ≤ 14393
+judged_most : (v : Verdict) (file : List ℕ) → (v ≡ accepted → length file ≤ 14393) → length (bytes_of (judged v file)) ≤ 14393
 unfolding judged bytes_of
-judged_most W.Accepted file h = h refl
-judged_most (W.Refused r) file h = refusal_most (number r) (number_most r)
+judged_most (Ok u) file h = h refl
+judged_most (Err r) file h = refusal_most (number r) (number_most r)
 
 -- two accepted edit files
 module _ (d original : List ℕ) (ls rs : List Item) where
@@ -55,7 +55,7 @@ module _ (d original : List ℕ) (ls rs : List Item) where
   lent = lent_of d original ls rs
 
   module _ (few : (4 * length ls + 2 * added ls) + (4 * length rs + 2 * added rs) ≤ 4096) where
-    module _ (passed : verdict_of lent (left_of ls) (right_of ls rs) ≡ W.Accepted) where
+    module _ (passed : verdict_of lent (left_of ls) (right_of ls rs) ≡ accepted) where
       abbrev ops : List Operation
       ops = (merge_of (rules_of lent) (left_of ls) (right_of ls rs) [] []).operations
 
@@ -108,7 +108,7 @@ files_enough d original l r nl nr (Accepted ls) (Refused k) e h = refusal_most 8
 files_enough d original l r nl nr (Refused k) g e h = refusal_most 8 (omega arith)
 
 -- by the tests of the definition
-picked : (a b : Bool) (x : Result) → (a ≡ true → length (bytes_of x) ≤ 14393) → length (bytes_of (pick a (pick b x (refused 10)) (refused 3))) ≤ 14393
+picked : (a b : Bool) (x : Output) → (a ≡ true → length (bytes_of x) ≤ 14393) → length (bytes_of (pick a (pick b x (refused 10)) (refused 3))) ≤ 14393
 picked true true x h = h refl
 picked true false x h = refusal_most 10 (omega arith)
 picked false b x h = refusal_most 3 (omega arith)

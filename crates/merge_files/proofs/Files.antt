@@ -9,12 +9,9 @@ use lib.ListN.{length, take, replicate, length-append, length-take, length-repli
 use borrow.Author.Tests.{leb-true, le-ltb}
 use Rattle.numbers.specs.Points.{is_point}
 use Rattle.refusal.specs.declared.Refusal.{Refusal}
-use Rattle.refusal.specs.declared.Counted.{Counted}
-use Rattle.refusal.specs.declared.Counted.TheVariants as C
 use Rattle.room.specs.Choice.{pick}
 use Rattle.room.specs.Placed.{answered}
 use Rattle.room.proofs.Answers.{same_room}
-use Rattle.verdict.specs.declared.Verdict.TheVariants as W
 use Rattle.verdict.specs.Points.{points_from}
 use Rattle.room.proofs.Bools.{and_left, and_right}
 use Rattle.utf8_read.specs.Grammar.{utf8_char}
@@ -32,11 +29,12 @@ use Rattle.edit_list.specs.Raws.{items_in}
 use Rattle.edit_list.specs.Lists.{used_by}
 use Rattle.edit_list.proofs.Bounds.{file_long}
 use Rattle.merge_files.specs.declared.Outcome.{Outcome}
-use Rattle.merge_files.specs.declared.Checked.{Checked}
-use Rattle.merge_files.specs.declared.Checked.TheVariants as F
-use Rattle.merge_files.specs.Program.{Result, refused, padding, of_files, sized, utf8, result_of, Written}
+use Rattle.merge_files.specs.declared.Uses.{Uses}
+use Rattle.merge_files.specs.Program.{Output, refused, padding, of_files, sized, utf8, result_of, Written}
 use Rattle.merge_files.specs.Steps.{uses_of, first_of, Files, Fitting, Texted, good_result}
 use Rattle.merge_files.proofs.Padding.{padded}
+use Rattle.std.specs.Prelude.{Result, Ok, Err}
+use Rattle.verdict.specs.Verdicts.{accepted}
 
 -- no more code points than bytes
 few_points : (s : List ℕ) (k : ℕ) → length (points_from_lem k s) ≤ length s
@@ -51,26 +49,29 @@ few_points (b ∷ s) zero = go (utf8_char (b ∷ s)) (λ j. few_points s j)
     go (suc j) h = omega (arith, h j)
 
 -- what was read from UTF-8 is code points
-points_fine : (s : List ℕ) (i : ℕ) → scalars s ≡ length s → points_from s i ≡ W.Accepted
+points_fine : (s : List ℕ) (i : ℕ) → scalars s ≡ length s → points_from s i ≡ accepted
 unfolding points_from
 points_fine [] i e = refl
 points_fine (x ∷ s) i e = let f = first_of_lem x s (is_point x) refl e in rw (f.0, points_from) (points_fine s (i + 1) f.1)
 
 -- a refusal and what the files use
-mixed : {A : Type 0} {n x y : ℕ} → F.Refused n ≡ F.Uses x y → A
+mixed : {A : Type 0} {n x y : ℕ} → ◌≡◌ {A = Result Uses ℕ} (Err n) (Ok (record { left = x; right = y })) → A
 mixed e = let z : ◌≡◌ {A = ℕ} 0 1 = cc in absurd (omega arith)
 
-number_is : {n m : ℕ} → F.Refused n ≡ F.Refused m → n ≡ m
+number_is : {n m : ℕ} → ◌≡◌ {A = Result Uses ℕ} (Err n) (Err m) → n ≡ m
 number_is e = cc
 
+uses_are : {u v : Uses} → ◌≡◌ {A = Result Uses ℕ} (Ok u) (Ok v) → u ≡ v
+uses_are e = cc
+
 -- zeros are code points
-pub zeros_fine : (n i : ℕ) → points_from (replicate n 0) i ≡ W.Accepted
+pub zeros_fine : (n i : ℕ) → points_from (replicate n 0) i ≡ accepted
 unfolding points_from is_point
 zeros_fine zero i = refl
 zeros_fine (suc n) i = zeros_fine n (i + 1)
 
 -- two tests and both files, and what they leave
-first_most : (a b : Bool) (f g : Found) (n : ℕ) → F.Refused n ≡ pick a (pick b (uses_of f g) (F.Refused 10)) (F.Refused 3) → n ≤ 10
+first_most : (a b : Bool) (f g : Found) (n : ℕ) → Err n ≡ pick a (pick b (uses_of f g) (Err 10)) (Err 3) → n ≤ 10
 unfolding uses_of
 first_most true true (Accepted is) (Accepted js) n e = mixed e
 first_most true true (Accepted is) (Refused l) n e = omega (arith, number_is e)
@@ -78,7 +79,7 @@ first_most true true (Refused k) g n e = omega (arith, number_is e)
 first_most true false f g n e = omega (arith, number_is e)
 first_most false b f g n e = omega (arith, number_is e)
 
-refused_first : (a b : Bool) (f g : Found) (d o : List ℕ) (n : ℕ) → F.Refused n ≡ pick a (pick b (uses_of f g) (F.Refused 10)) (F.Refused 3)
+refused_first : (a b : Bool) (f g : Found) (d o : List ℕ) (n : ℕ) → Err n ≡ pick a (pick b (uses_of f g) (Err 10)) (Err 3)
     → refused n ≡ pick a (pick b (of_files d o f g) (refused 10)) (refused 3)
 unfolding uses_of of_files
 refused_first true true (Accepted is) (Accepted js) d o n e = mixed e
@@ -96,9 +97,9 @@ pub record Fine (a b : Bool) (f g : Found) (x y : ℕ) : Type 0 where
   pub of_left : x ≡ kept (items_in f) + dropped (items_in f)
   pub of_right : y ≡ kept (items_in g) + dropped (items_in g)
 
-fine : (a b : Bool) (f g : Found) (x y : ℕ) → F.Uses x y ≡ pick a (pick b (uses_of f g) (F.Refused 10)) (F.Refused 3) → Fine a b f g x y
+fine : (a b : Bool) (f g : Found) (x y : ℕ) → Ok (record { left = x; right = y }) ≡ pick a (pick b (uses_of f g) (Err 10)) (Err 3) → Fine a b f g x y
 unfolding uses_of items_in
-fine true true (Accepted is) (Accepted js) x y e = record { first = refl; second = refl; left = refl; right = refl; of_left = cc; of_right = cc }
+fine true true (Accepted is) (Accepted js) x y e = record { first = refl; second = refl; left = refl; right = refl; of_left = ap (λ (u : Uses). u.left) (uses_are e); of_right = ap (λ (u : Uses). u.right) (uses_are e) }
 fine true true (Accepted is) (Refused l) x y e = mixed (sym e)
 fine true true (Refused k) g x y e = mixed (sym e)
 fine true false f g x y e = mixed (sym e)
@@ -111,8 +112,8 @@ module _ (o l r : List ℕ) where
   abbrev b : Bool
   b = utf8 o && (utf8 l && utf8 r)
 
-  module _ {c : Checked} (e : c ≡ first_of o l r) where
-    module _ {n : ℕ} (h : c ≡ F.Refused n) where
+  module _ {c : Result Uses ℕ} (e : c ≡ first_of o l r) where
+    module _ {n : ℕ} (h : c ≡ Err n) where
       pub number_small : n ≤ 10
       unfolding first_of
       number_small = first_most a b (read_file l) (read_file r) n (sym h ∙ e)
@@ -120,9 +121,9 @@ module _ (o l r : List ℕ) where
       pub refuses : (out out' : List ℕ) (z : Outcome) → Written (refused n) out out' z → Written (result_of o l r) out out' z
       unfolding first_of result_of
       refuses out out' z w =
-          subst (λ (x : Result). Written x out out' z) (refused_first a b (read_file l) (read_file r) padding (points o) n (sym h ∙ e)) w
+          subst (λ (x : Output). Written x out out' z) (refused_first a b (read_file l) (read_file r) padding (points o) n (sym h ∙ e)) w
 
-    module _ {ul ur : ℕ} (h : c ≡ F.Uses ul ur) where
+    module _ {ul ur : ℕ} (h : c ≡ Ok (record { left = ul; right = ur })) where
       passed : Fine a b (read_file l) (read_file r) ul ur
       unfolding first_of
       passed = fine a b (read_file l) (read_file r) ul ur (sym h ∙ e)
@@ -144,20 +145,20 @@ module _ (o l r : List ℕ) where
           }
 
       module _ (d d' : List ℕ) (nd : length d ≡ 2048) where
-        due : read_of o (length d) ≡ C.Count (length (points o))
+        due : read_of o (length d) ≡ Ok (length (points o))
         unfolding read_of
         due = rw (le-ltb (good_end o) (length o) o_good, le-ltb (length d) (length (points o)) (omega (arith, few_points o 0, o_short)))
 
-        pub not_refused : {A : Type 0} {x : Counted} {q : Refusal} → Answered (read_of o (length d)) x (points o) d d' → x ≡ C.Refused q → A
+        pub not_refused : {A : Type 0} {x : (Result ℕ Refusal)} {q : Refusal} → Answered (read_of o (length d)) x (points o) d d' → x ≡ Err q → A
         not_refused {A} {x} {q} w t =
-            let p : C.Refused q ≡ C.Count (length (points o)) = sym t ∙ (w.answer ∙ due) in
+            let p : Err q ≡ Ok (length (points o)) = sym t ∙ (w.answer ∙ due) in
             let z : ◌≡◌ {A = ℕ} 0 1 = cc in
             absurd (omega arith)
 
-        module _ {x : Counted} {k : ℕ} (w : Answered (read_of o (length d)) x (points o) d d') (t : x ≡ C.Count k) where
+        module _ {x : (Result ℕ Refusal)} {k : ℕ} (w : Answered (read_of o (length d)) x (points o) d d') (t : x ≡ Ok k) where
           count : k ≡ length (points o)
           count =
-              let p : C.Count k ≡ C.Count (length (points o)) = sym t ∙ (w.answer ∙ due) in
+              let p : Ok k ≡ Ok (length (points o)) = sym t ∙ (w.answer ∙ due) in
               cc
 
           room_is : d' ≡ answered (points o) d

@@ -14,9 +14,7 @@ use Rattle.records.specs.declared.Operation.{Operation}
 use Rattle.records.specs.Operations.{operations_of, flat_operations}
 use Rattle.records.specs.Cursors.{cursors_from, cursors_of, Within}
 use Rattle.records.proofs.Operations.{length_answered, of_answered}
-use Rattle.verdict.specs.declared.Verdict.{Verdict}
-use Rattle.verdict.specs.declared.Verdict.TheVariants as W
-use Rattle.verdict.specs.Verdicts.{and_then, roomed}
+use Rattle.verdict.specs.Verdicts.{and_then, Verdict, accepted}
 use Rattle.sizes.specs.Texts.{total, claimed_by}
 use Rattle.sizes.specs.Sizes.{merging, otherwise}
 use Rattle.verdict.specs.Points.{points_verdict}
@@ -29,12 +27,11 @@ use Rattle.merging.specs.Merge.{Merged, merge_of}
 use Rattle.merging_laws.proofs.Accepted.{merged_accepted, merged_operations_most, merged_text_most}
 use Rattle.to_diff.specs.Answers.{verdict_on}
 use Rattle.edited_text.specs.declared.Counts.{Counts}
-use Rattle.edited_text.specs.declared.Answer.{Answer}
-use Rattle.edited_text.specs.declared.Answer.TheVariants as A
 use Rattle.edited_text.specs.Merging.{merge_verdict, verdict_on as asked, merge_on, answer_of, MergedBy}
 use Rattle.merge_files.specs.declared.Outcome.{Outcome}
 use Rattle.merge_files.specs.Program.{refused, judged, verdict_of, file_of, merged_of, Written}
 use Rattle.merge_files.specs.Steps.{diff_result, merge_result, Diffable, Mergeable}
+use Rattle.std.specs.Prelude.{Result, Ok, Err}
 
 -- a refusal's number
 pub number_most : (r : Refusal) → number r ≤ 10
@@ -54,23 +51,23 @@ unfolding cursors_of cursors_from
 no_cursors = refl
 
 -- what an answer says of its verdict
-refused_of : (v : Verdict) (m : Merged) (r : Refusal) → A.Refused r ≡ answer_of v m → v ≡ W.Refused r
-refused_of W.Accepted m r e = let z : ◌≡◌ {A = ℕ} 0 1 = cc in absurd (omega arith)
-refused_of (W.Refused s) m r e = cc
+refused_of : (v : Verdict) (m : Merged) (r : Refusal) → Err r ≡ answer_of v m → v ≡ Err r
+refused_of (Ok u) m r e = let z : ◌≡◌ {A = ℕ} 0 1 = cc in absurd (omega arith)
+refused_of (Err s) m r e = cc
 
-counts_of : (v : Verdict) (m : Merged) (n : Counts) → A.Counts n ≡ answer_of v m → (v ≡ W.Accepted) × (n.operations ≡ length m.operations)
-counts_of W.Accepted m n e = (refl, cc)
-counts_of (W.Refused s) m n e = let z : ◌≡◌ {A = ℕ} 0 1 = cc in absurd (omega arith)
+counts_of : (v : Verdict) (m : Merged) (n : Counts) → Ok n ≡ answer_of v m → (v ≡ accepted) × (n.operations ≡ length m.operations)
+counts_of (Ok u) m n e = (refl, cc)
+counts_of (Err s) m n e = let z : ◌≡◌ {A = ℕ} 0 1 = cc in absurd (omega arith)
 
 -- the list of an accepted merge is an accepted list
-pub merged_fine : (lent : Lent) (ls rs : List Operation) → lists_verdict merging lent.original lent.inserted lent.spans lent.keys ls rs [] [] ≡ W.Accepted
-    → verdict_on lent (merge_of (rules_of lent) ls rs [] []).operations ≡ W.Accepted
+pub merged_fine : (lent : Lent) (ls rs : List Operation) → lists_verdict merging lent.original lent.inserted lent.spans lent.keys ls rs [] [] ≡ accepted
+    → verdict_on lent (merge_of (rules_of lent) ls rs [] []).operations ≡ accepted
 unfolding verdict_on lists_verdict Within
 merged_fine lent ls rs passed =
     let al = accepted_left merging lent.original lent.inserted lent.spans lent.keys ls rs [] [] passed in
     let ar = accepted_right merging lent.original lent.inserted lent.spans lent.keys ls rs [] [] passed in
     let m = merged_accepted lent ls rs [] [] al ar in
-    let p : points_verdict lent.original lent.inserted ≡ W.Accepted = first_passed _ _ (rest_passed _ _ passed) in
+    let p : points_verdict lent.original lent.inserted ≡ accepted = first_passed _ _ (rest_passed _ _ passed) in
     let a : AcceptedList otherwise lent.original lent.inserted lent.spans lent.keys (merge_of (rules_of lent) ls rs [] []).operations [] = record {
       original_most = m.original_most;
       text_most = m.text_most;
@@ -96,28 +93,28 @@ module _ (original text spans keys left right : List ℕ) (K : Mergeable text sp
 
   -- the rooms are long enough, so the verdict is that of the checks
   verdict_is : asked original text spans keys left right [] [] o c w ≡ verdict_of lent ls rs
-  unfolding merge_verdict verdict_of roomed and_then
+  unfolding merge_verdict verdict_of
   verdict_is =
       let a = le-leb ((length ls + length rs) * 6) (length o) (omega (arith, K.left_few, K.right_few)) in
       let d = le-leb ((total claimed_by ls + total claimed_by rs) * 2) (length w) (omega (arith, K.left_tokens, K.right_tokens)) in
       rw (no_cursors, a, le-leb 0 (length c) zero-le, d) (always (lists_verdict merging original text spans keys ls rs [] []))
     where
-      always : (v : Verdict) → and_then v W.Accepted ≡ v
-      always W.Accepted = refl
-      always (W.Refused r) = refl
+      always : (v : Verdict) → and_then v accepted ≡ v
+      always (Ok u) = refl
+      always (Err r) = refl
 
   merged_is : merge_on original text spans keys left right [] [] ≡ merge_of (rules_of lent) ls rs [] []
   merged_is = rw no_cursors
 
-  pub refuses : {x : Answer} (r : Refusal) (n : ℕ) → MergedBy original text spans keys left right [] [] o o' c c' w w' x → x ≡ A.Refused r → n ≡ number r
+  pub refuses : {x : Result Counts Refusal} (r : Refusal) (n : ℕ) → MergedBy original text spans keys left right [] [] o o' c c' w w' x → x ≡ Err r → n ≡ number r
       → (out out' : List ℕ) (z : Outcome) → Written (refused n) out out' z → Written (merge_result original text spans keys left right) out out' z
   unfolding merged_of judged
   refuses {x} r n M t e out out' z h =
-      let v : verdict_of lent ls rs ≡ W.Refused r = sym verdict_is ∙ refused_of (asked original text spans keys left right [] [] o c w) (merge_on original text spans keys left right [] []) r (sym t ∙ M.answer) in
+      let v : verdict_of lent ls rs ≡ Err r = sym verdict_is ∙ refused_of (asked original text spans keys left right [] [] o c w) (merge_on original text spans keys left right [] []) r (sym t ∙ M.answer) in
       rw v (rw e at h)
 
-  module _ {x : Answer} (n : Counts) (M : MergedBy original text spans keys left right [] [] o o' c c' w w' x) (t : x ≡ A.Counts n) where
-    passed : lists_verdict merging original text spans keys ls rs [] [] ≡ W.Accepted
+  module _ {x : Result Counts Refusal} (n : Counts) (M : MergedBy original text spans keys left right [] [] o o' c c' w w' x) (t : x ≡ Ok n) where
+    passed : lists_verdict merging original text spans keys ls rs [] [] ≡ accepted
     unfolding verdict_of
     passed = sym verdict_is ∙ (counts_of (asked original text spans keys left right [] [] o c w) (merge_on original text spans keys left right [] []) n (sym t ∙ M.answer)).0
 

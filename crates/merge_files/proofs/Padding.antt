@@ -14,8 +14,6 @@ use Rattle.room.specs.Placed.{placed}
 use Rattle.room.proofs.Answers.{at_start, one_more}
 use Rattle.records.specs.declared.Operation.{Operation}
 use Rattle.records.specs.Tokens.{tokens_from}
-use Rattle.verdict.specs.declared.Verdict.{Verdict}
-use Rattle.verdict.specs.declared.Verdict.TheVariants as W
 use Rattle.verdict.specs.Points.{points_from}
 use Rattle.sizes.specs.Sizes.{merging}
 use Rattle.shapes.specs.Accepted.{AllIn}
@@ -45,6 +43,8 @@ use Rattle.edit_list.proofs.Runs.{PiecesIn, points_in}
 use Rattle.merge_files.specs.Program.{text_of, tokens_of, left_of, right_of, lent_of, verdict_of, file_of, judged, merged_of}
 use Rattle.merge_files.proofs.Added.{inserts, left_stand, right_stand}
 use Rattle.merge_files.proofs.Unread.{Reaches, Reach, verdict_same, merge_same, diff_same}
+use Rattle.std.specs.Prelude.{Ok, Err}
+use Rattle.verdict.specs.Verdicts.{Verdict, accepted}
 
 -- tokens in a text
 
@@ -114,10 +114,10 @@ list_reaches n spans keys is at place f q e h =
     cooked_reaches n spans keys (list_of at is) place f q e (rw (keeps inserts (inl refl) (runs_of at is)) (added_reach n at is h))
 
 -- by the verdict
-judged_same : (v : Verdict) (f g : List ℕ) → (v ≡ W.Accepted → f ≡ g) → judged v f ≡ judged v g
+judged_same : (v : Verdict) (f g : List ℕ) → (v ≡ accepted → f ≡ g) → judged v f ≡ judged v g
 unfolding judged
-judged_same W.Accepted f g h = ap (judged W.Accepted) (h refl)
-judged_same (W.Refused r) f g h = refl
+judged_same (Ok u) f g h = ap (judged accepted) (h refl)
+judged_same (Err r) f g h = refl
 
 module _ (original : List ℕ) (ls rs : List Item) (gl : items_good false ls ≡ true) (gr : items_good false rs ≡ true) where
   abbrev text : List ℕ
@@ -144,16 +144,16 @@ module _ (original : List ℕ) (ls rs : List Item) (gl : items_good false ls ≡
       (omega (arith, length-append (texts ls) (texts rs), texts_length rs))
 
   -- code points added to code points
-  fine : (d : List ℕ) → points_from d 0 ≡ W.Accepted → points_from (text ++ drop (length text) d) 0 ≡ W.Accepted
+  fine : (d : List ℕ) → points_from d 0 ≡ accepted → points_from (text ++ drop (length text) d) 0 ≡ accepted
   fine d h =
       let e : placed (placed d 0 (texts ls)) (length (texts ls)) (texts rs) ≡ text ++ drop (length text) d = rw (at_start (texts ls) d) (one_more (texts ls) (texts rs) d) in
       rw e at (good_text (placed d 0 (texts ls)) (length (texts ls)) rs (good_text d 0 ls h gl) gr)
 
-  pub added_fine : points_from text 0 ≡ W.Accepted
+  pub added_fine : points_from text 0 ≡ accepted
   unfolding points_from
   added_fine = rw (drop-nil {A = ℕ} (length text), append-nil text) at (fine [] refl)
 
-  module _ (d : List ℕ) (p : points_from d 0 ≡ W.Accepted) (most : length d ≤ 131070) (few : length text ≤ 131070) where
+  module _ (d : List ℕ) (p : points_from d 0 ≡ accepted) (most : length d ≤ 131070) (few : length text ≤ 131070) where
     abbrev more : List ℕ
     more = drop (length text) d
 
@@ -170,7 +170,7 @@ module _ (original : List ℕ) (ls rs : List Item) (gl : items_good false ls ≡
     reach (Insert o f n ∷ os) h = (h.0.tokens, reach os h.1)
     reach (Retain o l ∷ os) h = reach os h
 
-    file_is : verdict_of lent (left_of ls) (right_of ls rs) ≡ W.Accepted
+    file_is : verdict_of lent (left_of ls) (right_of ls rs) ≡ accepted
         → file_of (given original (text ++ more) spans keys) (left_of ls) (right_of ls rs) ≡ file_of lent (left_of ls) (right_of ls rs)
     unfolding verdict_of file_of diff_of
     file_is passed =

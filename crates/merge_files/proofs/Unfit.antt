@@ -15,9 +15,7 @@ use Rattle.room.specs.Choice.{pick}
 use Rattle.room.proofs.Choices.{never, no_way}
 use Rattle.records.specs.declared.Operation.{Operation}
 use Rattle.records.specs.Tokens.{tokens_lent}
-use Rattle.verdict.specs.declared.Verdict.{Verdict}
-use Rattle.verdict.specs.declared.Verdict.TheVariants as W
-use Rattle.verdict.specs.Verdicts.{and_then, sized}
+use Rattle.verdict.specs.Verdicts.{and_then, Verdict, accepted}
 use Rattle.verdict.specs.Points.{points_from}
 use Rattle.sizes.specs.Texts.{total, claimed_by, inserted_by}
 use Rattle.sizes.specs.Sizes.{merging}
@@ -36,7 +34,7 @@ use Rattle.elongate.proofs.Lengths.{pieces_append}
 use Rattle.elongate.proofs.Laws.{keeps}
 use Rattle.edit_format.specs.Items.{Item, Keep, Drop, Add, kept, dropped, added, texts, items_good}
 use Rattle.edit_format.specs.Records.{size}
-use Rattle.edit_format.specs.Reading.{read_file, Accepted}
+use Rattle.edit_format.specs.Reading.{read_file}
 use Rattle.edit_format.proofs.Accepts.{accepted_good}
 use Rattle.edit_format.proofs.TextLaws.{texts_length}
 use Rattle.edit_list.specs.Raws.{run_of, runs_of, list_of, items_in}
@@ -45,46 +43,47 @@ use Rattle.edit_list.proofs.Bounds.{file_long}
 use Rattle.edit_list.proofs.Runs.{PiecesIn, GoodRun, AllRuns, runs_good}
 use Rattle.merging.specs.Lent.{lent_of as given}
 use Rattle.merge_files.specs.declared.Outcome.{Outcome}
-use Rattle.merge_files.specs.Program.{Result, refused, tokens_of, left_of, right_of, verdict_of, judged, merged_of, Written}
+use Rattle.merge_files.specs.Program.{Output, refused, tokens_of, left_of, right_of, verdict_of, judged, merged_of, Written}
 use Rattle.merge_files.specs.Steps.{Files, good_result}
 use Rattle.merge_files.proofs.Added.{left_few, right_few, left_adds, right_adds, left_claims, right_claims}
 use Rattle.merge_files.proofs.Unread.{Reaches}
 use Rattle.merge_files.proofs.Padding.{pieces_both, left_reaches, right_reaches, added_fine}
+use Rattle.std.specs.Prelude.{Ok, Err}
 
 -- what a check of tiling can say
 
 unfoldable TwoAlone : Verdict → Type 0
-TwoAlone W.Accepted = Unit
-TwoAlone (W.Refused r) = number r ≡ 2
+TwoAlone (Ok u) = Unit
+TwoAlone (Err r) = number r ≡ 2
 
 chosen_two : (b : Bool) (v w : Verdict) → TwoAlone v → TwoAlone w → TwoAlone (elim b as (λ (x : Bool). Verdict) [ true ↦ v | false ↦ w ])
 chosen_two true v w h g = h
 chosen_two false v w h g = g
 
 then_two : (v w : Verdict) → TwoAlone v → TwoAlone w → TwoAlone (and_then v w)
-unfolding and_then TwoAlone
-then_two W.Accepted w h g = g
-then_two (W.Refused r) w h g = h
+unfolding TwoAlone
+then_two (Ok u) w h g = g
+then_two (Err r) w h g = h
 
-accepts_two : TwoAlone W.Accepted
+accepts_two : TwoAlone accepted
 unfolding TwoAlone
 accepts_two = tt
 
-refuses_two : (i : ℕ) → TwoAlone (W.Refused (R.Tiling i))
+refuses_two : (i : ℕ) → TwoAlone (Err (R.Tiling i))
 unfolding TwoAlone
 refuses_two i = refl
 
 tiling_two : (n : ℕ) (os : List Operation) (i at : ℕ) → TwoAlone (tiling_from n os i at)
 unfolding tiling_from
-tiling_two n [] i at = chosen_two (eqb at n) W.Accepted (W.Refused (R.Tiling i)) accepts_two (refuses_two i)
+tiling_two n [] i at = chosen_two (eqb at n) accepted (Err (R.Tiling i)) accepts_two (refuses_two i)
 tiling_two n (o ∷ os) i at =
     chosen_two (eqb o.kind 1) _ _ (tiling_two n os (i + 1) at)
     (chosen_two (eqb o.order at && leb (at + o.length) n) _ _ (tiling_two n os (i + 1) (at + o.length)) (refuses_two i))
 
-judged_two : (v : Verdict) (file : List ℕ) → TwoAlone v → (v ≡ W.Accepted → ⊥) → judged v file ≡ refused 2
+judged_two : (v : Verdict) (file : List ℕ) → TwoAlone v → (v ≡ accepted → ⊥) → judged v file ≡ refused 2
 unfolding judged TwoAlone
-judged_two W.Accepted file h n = absurd (n refl)
-judged_two (W.Refused r) file h n = ap refused h
+judged_two (Ok u) file h n = absurd (n refl)
+judged_two (Err r) file h n = ap refused h
 
 -- elongating keeps runs good
 
@@ -219,7 +218,7 @@ module _ (is : List Item) (g : items_good false is ≡ true) where
         runs_used at is,
       )
 
-module _ (original : List ℕ) (ls rs : List Item) (gl : items_good false ls ≡ true) (gr : items_good false rs ≡ true) (points : points_from original 0 ≡ W.Accepted)
+module _ (original : List ℕ) (ls rs : List Item) (gl : items_good false ls ≡ true) (gr : items_good false rs ≡ true) (points : points_from original 0 ≡ accepted)
     (short : length original ≤ 65535) (few : (length ls + added ls) + (length rs + added rs) ≤ 4096) where
   abbrev text : List ℕ
   text = texts ls ++ texts rs
@@ -235,7 +234,7 @@ module _ (original : List ℕ) (ls rs : List Item) (gl : items_good false ls ≡
   lent_all = omega (arith, length_spans (tokens_of ls rs), length_keys (tokens_of ls rs), length-append (all_tokens (list_of 0 ls)) (all_tokens (list_of (length (texts ls)) rs)))
 
   two_alone : TwoAlone (lists_verdict merging original text spans keys (left_of ls) (right_of ls rs) [] [])
-  unfolding lists_verdict within_from and_then sized
+  unfolding lists_verdict within_from
   two_alone =
       rw (
         le-leb (length original) 65535 short,
@@ -265,7 +264,7 @@ module _ (original : List ℕ) (ls rs : List Item) (gl : items_good false ls ≡
       (list_uses rs gr (length (texts ls)) (length (all_tokens (list_of 0 ls))) (length original) (accepted_right merging original text spans keys (left_of ls) (right_of ls rs) [] [] passed).tiles))
 
 -- of two files
-pub unfit_files : (original l r : List ℕ) → Files l r → points_from original 0 ≡ W.Accepted → length original ≤ 2048
+pub unfit_files : (original l r : List ℕ) → Files l r → points_from original 0 ≡ accepted → length original ≤ 2048
     → (used_by l ≡ length original → used_by r ≡ length original → ⊥)
     → (out out' : List ℕ) (z : Outcome) → Written (refused 2) out out' z → Written (good_result original (read_file l) (read_file r)) out out' z
 unfit_files original l r F points short h out out' z w =
@@ -273,4 +272,4 @@ unfit_files original l r F points short h out out' z w =
     let rs : List Item = items_in (read_file r) in
     let e = unfit original ls rs (accepted_good l F.left_accepted).each (accepted_good r F.right_accepted).each points (omega (arith, short))
     (omega (arith, file_long l F.left_accepted, file_long r F.right_accepted, F.left_short, F.right_short, texts_length ls, texts_length rs)) h in
-    subst (λ (x : Result). Written x out out' z) (sym e) w
+    subst (λ (x : Output). Written x out out' z) (sym e) w

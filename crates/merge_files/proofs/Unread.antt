@@ -14,8 +14,6 @@ use Rattle.records.specs.declared.Operation.{Operation}
 use Rattle.records.specs.declared.Token.{Token}
 use Rattle.records.specs.declared.Cursor.{Cursor}
 use Rattle.records.specs.Tokens.{tokens_from, spelled}
-use Rattle.verdict.specs.declared.Verdict.{Verdict}
-use Rattle.verdict.specs.declared.Verdict.TheVariants.{Accepted, Refused}
 use Rattle.verdict.specs.Points.{points_from}
 use Rattle.sizes.specs.Texts.{total, run_text, run_lent, inserted_by}
 use Rattle.sizes.specs.Sizes.{merging}
@@ -26,10 +24,10 @@ use Rattle.checks.specs.Lists.{lists_verdict}
 use Rattle.elongate.proofs.Joining.{by_test}
 use Rattle.merging.specs.declared.Op.{Op}
 use Rattle.merging.specs.declared.Op.TheVariants.{Delete, Insert, Retain}
-use Rattle.merging.specs.declared.Order.{Order}
+use Rattle.std.specs.declared.cmp.Ordering.{Ordering}
 use Rattle.merging.specs.Lent.{Lent, lent_of, rules_of, keys_of, lengths_of, sum}
 use Rattle.merging.specs.Operations.{Out, order_of, kind_of, span_of, length_of, ops_from, record_of, records_of}
-use Rattle.merging.specs.OrderRule.{compare_numbers, compare_spelling, then_by, content_rule, order_rule, priority_of, is_less, goes_left}
+use Rattle.merging.specs.OrderRule.{compare_spelling, content_rule, order_rule, priority_of, goes_left}
 use Rattle.merging.specs.Meeting.{Remembered, nothing, deleted, retained, inserted, front_of, tail_of, shortened, lost_of, met_of, other_of, remember_of}
 use Rattle.merging.specs.Cursors.{place_of, removed_of, shift_of, moved_by, behind_of}
 use Rattle.merging.specs.Turn.{State, Turned, turned, emitted, turn_with, turn_left, turn_right, Taken, none, from_left, from_right, taken_of}
@@ -40,6 +38,9 @@ use Rattle.merging.proofs.Turns.{run_none, run_left, run_right, taken_is}
 use Rattle.merging.proofs.Count.{asked_tail}
 use Rattle.cursors.specs.Sorted.{sorted}
 use Rattle.diff.specs.Replay.{Edit, delete, insert}
+use Rattle.std.specs.Prelude.{Err}
+use Rattle.verdict.specs.Verdicts.{Verdict, accepted}
+use Rattle.std.specs.Ordering.{nat_cmp, ordering_then, is_lt}
 
 -- every insert's tokens lie in the first n code points of the lent text
 unfoldable pub Reaches : ℕ → List ℕ → List ℕ → List Operation → Type 0
@@ -79,7 +80,7 @@ module _ (n m : ℕ) (l : n ≤ m) (spans keys : List ℕ) where
   unfolding records_from Reaches
   records_same [] i h = refl
   records_same (o ∷ os) i h =
-      λ j. elim (record_same o h.0 j) as (λ (x : Bool). Verdict) [ true ↦ records_same os (i + 1) h.1 j | false ↦ Refused (Record i) ]
+      λ j. elim (record_same o h.0 j) as (λ (x : Bool). Verdict) [ true ↦ records_same os (i + 1) h.1 j | false ↦ Err (Record i) ]
 
   inserted_same : (o : Operation) → (o.kind ≡ 1 → AllIn n (tokens_from spans keys o.first o.count)) → inserted_by m spans keys o ≡ inserted_by n spans keys o
   inserted_same o h =
@@ -103,7 +104,7 @@ module _ (original spans keys text more : List ℕ) where
 
   -- with no cursors
   pub verdict_same : (left right : List Operation) → Reaches (length text) spans keys left → Reaches (length text) spans keys right → length (text ++ more) ≤ 131070
-      → points_from text 0 ≡ Accepted → points_from (text ++ more) 0 ≡ Accepted
+      → points_from text 0 ≡ accepted → points_from (text ++ more) 0 ≡ accepted
       → lists_verdict merging original (text ++ more) spans keys left right [] [] ≡ lists_verdict merging original text spans keys left right [] []
   unfolding lists_verdict within_from
   verdict_same left right hl hr few p q =
@@ -266,7 +267,7 @@ module _ (original spans keys text more : List ℕ) where
   order_same : (a b : Op) (ls rs : List Op) → Inserts Reach (a ∷ ls) → Inserts Reach (b ∷ rs) → order_rule long a b ≡ order_rule lent a b
   unfolding order_rule
   order_same a b ls rs h g =
-      ap (λ (x : Order). then_by (compare_numbers (order_of a) (order_of b)) (then_by (compare_numbers (kind_of a) (kind_of b)) x)) (content_same a b ls rs h g)
+      ap (λ (x : Ordering). ordering_then (nat_cmp (order_of a) (order_of b)) (ordering_then (nat_cmp (kind_of a) (kind_of b)) x)) (content_same a b ls rs h g)
 
   rest : (a : Op) (ls : List Op) → Inserts Reach (a ∷ ls) → Inserts Reach ls
   unfolding Inserts
@@ -279,22 +280,22 @@ module _ (original spans keys text more : List ℕ) where
   priority_same [] [] h g = refl
   priority_same [] (b ∷ rs) h g = refl
   priority_same (a ∷ ls) [] h g = refl
-  priority_same (a ∷ ls) (b ∷ rs) h g = λ i. then_by (order_same a b ls rs h g i) (priority_same ls rs (rest a ls h) (rest b rs g) i)
+  priority_same (a ∷ ls) (b ∷ rs) h g = λ i. ordering_then (order_same a b ls rs h g i) (priority_same ls rs (rest a ls h) (rest b rs g) i)
 
-  taken_same : (p : Order) (ls rs : List Op) → Inserts Reach ls → Inserts Reach rs → taken_of long p ls rs ≡ taken_of lent p ls rs
+  taken_same : (p : Ordering) (ls rs : List Op) → Inserts Reach ls → Inserts Reach rs → taken_of long p ls rs ≡ taken_of lent p ls rs
   unfolding taken_of goes_left
   taken_same p [] [] h g = refl
   taken_same p [] (b ∷ rs) h g = refl
   taken_same p (a ∷ ls) [] h g = refl
   taken_same p (a ∷ ls) (b ∷ rs) h g =
-      ap (λ (x : Order). elim (is_less (then_by x p)) as (λ (y : Bool). Taken) [ true ↦ from_left a ls | false ↦ from_right b rs ]) (order_same a b ls rs h g)
+      ap (λ (x : Ordering). elim (is_lt (ordering_then x p)) as (λ (y : Bool). Taken) [ true ↦ from_left a ls | false ↦ from_right b rs ]) (order_same a b ls rs h g)
 
   -- the turns
 
-  abbrev Runs : Order → ℕ → Type 0
+  abbrev Runs : Ordering → ℕ → Type 0
   Runs p f = (s : State) → Inserts Reach s.left.next → Inserts Reach s.right.next → run (rules_of long) p f s ≡ run (rules_of lent) p f s
 
-  run_turn : (p : Order) (f : ℕ) → Runs p f → Runs p (suc f)
+  run_turn : (p : Ordering) (f : ℕ) → Runs p f → Runs p (suc f)
   unfolding turn_left turn_right turn_with
   run_turn p f ih s h g = go (taken_of lent p s.left.next s.right.next) refl
     where
@@ -316,7 +317,7 @@ module _ (original spans keys text more : List ℕ) where
           ∙ (ap (λ (x : Turned). before x (run (rules_of long) p f x.state)) (turn_right_lem 1 b rs s)
           ∙ (ap (before t) (ih t.state h (asked_tail Reach b rs s.left.next (rw n at g))) ∙ sym (run_right (rules_of lent) p f s b rs k)))
 
-  run_same : (p : Order) (f : ℕ) → Runs p f
+  run_same : (p : Ordering) (f : ℕ) → Runs p f
   unfolding run
   run_same p zero s h g = refl
   run_same p (suc f) s h g = run_turn p f (run_same p f) s h g
@@ -338,7 +339,7 @@ module _ (original spans keys text more : List ℕ) where
       let ls : List Op = ops_from 0 left in
       let rs : List Op = ops_from 0 right in
       let e : outcome_of (rules_of long) ls rs cs ds ≡ outcome_of (rules_of lent) ls rs cs ds =
-      ap (λ (p : Order). run (rules_of long) p (work ls + work rs) (start_of ls rs cs ds)) (priority_same ls rs h g)
+      ap (λ (p : Ordering). run (rules_of long) p (work ls + work rs) (start_of ls rs cs ds)) (priority_same ls rs h g)
       ∙ run_same (priority_of lent ls rs) (work ls + work rs) (start_of ls rs cs ds) h g
       in
       let r : records_of long (outcome_of (rules_of long) ls rs cs ds).outs ≡ records_of lent (outcome_of (rules_of lent) ls rs cs ds).outs =

@@ -11,7 +11,7 @@ use borrow.Author.Tests.{lt-leb, lt-ltb, le-ltb, eqb-false}
 use Rattle.records.specs.declared.Cursor.{Cursor}
 use Rattle.merging.specs.declared.Op.{Op}
 use Rattle.merging.specs.declared.Op.TheVariants.{Delete, Insert, Retain}
-use Rattle.merging.specs.declared.Order.{Order}
+use Rattle.std.specs.declared.cmp.Ordering.{Ordering}
 use Rattle.merging.specs.Lent.{Rules, Lawful, keys_of}
 use Rattle.merging.specs.Operations.{Out, ops_in, empty_op}
 use Rattle.merging.specs.OrderRule.{priority_of}
@@ -46,7 +46,7 @@ late_none (Insert o f k ∷ rs) p q n t h = refl
 late_none (Retain o l ∷ rs) p q n t h = rw (lt-leb (o + l) p (omega (arith, t.0, t.1)), late)
 late_none (Delete o l ∷ rs) p q n t h = rw (lt-leb (o + l) p (omega (arith, t.0, t.1)), late)
 
-module _ (R : Rules) (priority : Order) (n : ℕ) where
+module _ (R : Rules) (priority : Ordering) (n : ℕ) where
   abbrev Counted : State → ℕ → ℕ → Outcome → Type 0
   Counted s p q o = length o.outs + late s.left.next q + late s.right.next p ≤ length s.left.next + length s.right.next
 
@@ -108,7 +108,7 @@ module _ (R : Rules) (law : Lawful R) (w : ℕ → ℕ → ℕ) (less : (f n z :
   held_turn (Insert o f n) ls rs v = omega (arith, less f n (lost_of R (Insert o f n) v) (lost_most R law o f n v))
   held_turn (Retain o l) ls rs v = by_cut (λ xs. 0 + held xs ≤ 0 + held ls) o l (kept_length o l rs) ls (omega arith) (omega arith)
 
-  module _ (priority : Order) (n : ℕ) where
+  module _ (priority : Ordering) (n : ℕ) where
     abbrev Holds : State → ℕ → ℕ → Outcome → Type 0
     Holds s p q o = held (ops_in o.outs) ≤ held s.left.next + held s.right.next
 
@@ -154,7 +154,7 @@ module _ (R : Rules) (law : Lawful R) (Q : ℕ → ℕ → Type 0) (part : (f n 
   asked_emitted side at (Retain o l) ls rs v os i h =
       by_emitted side at (met_of R (front_of (Retain o l) rs) v) (λ es. Inserts Q (ops_in (es ++ os))) (λ e. h) (λ e. h)
 
-  module _ (priority : Order) (n : ℕ) where
+  module _ (priority : Ordering) (n : ℕ) where
     abbrev Asked : State → ℕ → ℕ → Outcome → Type 0
     Asked s p q o = Inserts Q s.left.next → Inserts Q s.right.next → Inserts Q (ops_in o.outs) × Sided o.outs
 

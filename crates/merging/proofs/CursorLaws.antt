@@ -11,7 +11,7 @@ use Rattle.cursors.specs.Sorted.{sorted, From, Ordered}
 use Rattle.cursors.proofs.SortLaws.{from_less, ordered_sorted}
 use Rattle.merging.specs.declared.Op.{Op}
 use Rattle.merging.specs.declared.Op.TheVariants.{Delete, Insert, Retain}
-use Rattle.merging.specs.declared.Order.{Order}
+use Rattle.std.specs.declared.cmp.Ordering.{Ordering}
 use Rattle.merging.specs.declared.Shift.{Shift}
 use Rattle.merging.specs.Lent.{Lent, Rules, Lawful, lengths_of, sum}
 use Rattle.merging.specs.Operations.{Out, ops_in, empty_op, length_of}
@@ -135,7 +135,7 @@ module _ (R : Rules) (u v : Remembered) (q at m h k seen : ℕ) (cs ds out : Lis
   carries_turn (Insert o f n) r oc le w = carries_shift (Insert o f n) r oc le w
   carries_turn (Retain o l) r oc le w = carries_shift (Retain o l) r oc le w
 
-module _ (R : Rules) (law : Lawful R) (priority : Order) (n : ℕ) where
+module _ (R : Rules) (law : Lawful R) (priority : Ordering) (n : ℕ) where
   abbrev Moves : State → ℕ → ℕ → Outcome → Type 0
   Moves s p q o =
       (h k : ℕ) → h + back s.right.last p q ≤ s.merged → k + back s.left.last q p ≤ s.merged

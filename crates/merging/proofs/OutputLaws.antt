@@ -6,7 +6,6 @@ use mathlib.Core.List.{List, [], ◌∷◌, ◌++◌, append_assoc}
 use native.Mathlib.Omega.{arith}
 use lib.ListN.{length, take, drop, take-append-drop, drop_of_length-le}
 use lib.Seq.{drop-drop, take-add}
-use Rattle.verdict.specs.declared.Verdict.TheVariants.{Accepted}
 use Rattle.diff.specs.Replay.{Edit, retain, delete, insert, replayed, mentioned, left, added}
 use Rattle.diff.specs.Checks.{numbers, covers}
 use Rattle.diff.proofs.Laws.{enough_numbers}
@@ -16,6 +15,7 @@ use Rattle.merging.specs.Lent.{Lent, spelling_of}
 use Rattle.merging.specs.Operations.{Out, ops_in}
 use Rattle.merging.specs.Outputs.{words_of, text_of, Span, spanned, history_of, of_text, of_original, spelled_by, joined, to_diff}
 use Rattle.merging.specs.Tiling.{Tiled, total_of, of_insert}
+use Rattle.verdict.specs.Verdicts.{accepted}
 
 -- the text of a list, one operation more
 text_more : (lent : Lent) (side : ℕ) (a : Op) (ps : List Span) (ls : List Op) → spelled_by of_text ps ≡ text_of lent ls
@@ -97,15 +97,15 @@ diff_mentioned lent (Delete o l ∷ ls) at n t = omega (arith, diff_mentioned le
 diff_mentioned lent (Insert o f k ∷ ls) at n t = diff_mentioned lent ls at n t.2
 diff_mentioned lent (Retain o l ∷ ls) at n t = omega (arith, joined_mentioned l (to_diff lent ls), diff_mentioned lent ls (o + l) n t.2)
 
-covers_accepted : (len : ℕ) (es : List Edit) → mentioned es ≡ len → covers len es ≡ Accepted
+covers_accepted : (len : ℕ) (es : List Edit) → mentioned es ≡ len → covers len es ≡ accepted
 unfolding covers left
 covers_accepted len es h = let z : len - mentioned es ≡ 0 = omega arith in rw z
 
 -- "Text, history and replay agree over the defined text": the diff replays to the text, plain and covering, and nothing is left
 pub record Replays (lent : Lent) (ls : List Op) : Type 0 where
   pub text : replayed lent.original (to_diff lent ls) ≡ text_of lent ls
-  pub asks : numbers 0 (length lent.original) (to_diff lent ls) ≡ Accepted
-  pub covers_all : covers (length lent.original) (to_diff lent ls) ≡ Accepted
+  pub asks : numbers 0 (length lent.original) (to_diff lent ls) ≡ accepted
+  pub covers_all : covers (length lent.original) (to_diff lent ls) ≡ accepted
   pub nothing_left : left (length lent.original) (to_diff lent ls) ≡ 0
 
 pub replays : (lent : Lent) (ls : List Op) → Tiled ls 0 (length lent.original) → Replays lent ls

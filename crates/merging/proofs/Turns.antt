@@ -12,11 +12,13 @@ use borrow.Author.Tests.{lt-ltb, le-ltb}
 use Rattle.records.specs.declared.Cursor.{Cursor}
 use Rattle.merging.specs.declared.Op.{Op}
 use Rattle.merging.specs.declared.Op.TheVariants.{Delete, Insert, Retain}
-use Rattle.merging.specs.declared.Order.{Order}
-use Rattle.merging.specs.declared.Order.TheVariants.{Less, Equal, Greater}
+use Rattle.std.specs.Ordering.{nat_cmp}
+use Rattle.std.proofs.lemmas.Bool.Decides.{nat_tests}
+use Rattle.std.specs.declared.cmp.Ordering.{Ordering}
+use Rattle.std.specs.declared.cmp.Ordering.TheVariants.{Less, Equal, Greater}
 use Rattle.merging.specs.Lent.{Lent, Rules}
 use Rattle.merging.specs.Operations.{order_of, kind_of, span_of}
-use Rattle.merging.specs.OrderRule.{compare_numbers, order_rule, goes_left, priority_of}
+use Rattle.merging.specs.OrderRule.{order_rule, goes_left, priority_of}
 use Rattle.merging.specs.Meeting.{kept_length, cut_at_end, front_of, tail_of, behind_cut, met_of}
 use Rattle.merging.specs.Turn.{State, turned, turn_with, turn_left, turn_right, Taken, none, from_left, from_right, taken_of, step_of}
 use Rattle.merging.specs.Merge.{Outcome, leftovers, before, run, work, start_of, outcome_of}
@@ -30,23 +32,20 @@ pub record Before (a b : Op) : Type 0 where
   pub order : order_of a ≤ order_of b
   pub kind : order_of a ≡ order_of b → kind_of a ≤ kind_of b
 
-pub numbers_less : (a b : ℕ) → a < b → compare_numbers a b ≡ Less
-unfolding compare_numbers
-numbers_less a b h = rw (lt-ltb a b h, compare_numbers)
+numbers_less : (a b : ℕ) → a < b → nat_cmp a b ≡ Less
+numbers_less a b h = grind (arith, nat_tests)
 
-pub numbers_more : (a b : ℕ) → b < a → compare_numbers a b ≡ Greater
-unfolding compare_numbers
-numbers_more a b h = rw (le-ltb a b (omega arith), lt-ltb b a h, compare_numbers)
+numbers_more : (a b : ℕ) → b < a → nat_cmp a b ≡ Greater
+numbers_more a b h = grind (arith, nat_tests)
 
-pub numbers_same : (a b : ℕ) → a ≡ b → compare_numbers a b ≡ Equal
-unfolding compare_numbers
-numbers_same a b h = rw (le-ltb a b (omega arith), le-ltb b a (omega arith), compare_numbers)
+numbers_same : (a b : ℕ) → a ≡ b → nat_cmp a b ≡ Equal
+numbers_same a b h = grind (arith, nat_tests)
 
 -- by which of two numbers is less
 pub by_order : (a b : ℕ) (P : Type 0) → (a < b → P) → (a ≡ b → P) → (b < a → P) → P
 by_order a b P f g h = elim (dec_lt a b) [ yes z ↦ f z | no z ↦ elim (dec_lt b a) [ yes w ↦ h w | no w ↦ g (omega arith) ] ]
 
-module _ (lent : Lent) (priority : Order) (a b : Op) where
+module _ (lent : Lent) (priority : Ordering) (a b : Op) where
   -- what goes first, by whether the left goes
   abbrev First : Bool → Type 0
   First true = Before a b
@@ -79,7 +78,7 @@ TakenBy none xs ys p q = (xs ≡ []) × (ys ≡ [])
 TakenBy (from_left a ls) xs ys p q = Takes a ls xs ys p q
 TakenBy (from_right b rs) xs ys p q = Takes b rs ys xs q p
 
-module _ (lent : Lent) (priority : Order) (n : ℕ) where
+module _ (lent : Lent) (priority : Ordering) (n : ℕ) where
   takes_first : (a x : Op) (ls rs : List Op) (p q : ℕ) → Tiled (a ∷ ls) p n → Tiled (x ∷ rs) q n → Before a x → Takes a ls (a ∷ ls) (x ∷ rs) p q
   takes_first a x ls rs p q tx ty b =
       record { is = refl; le = omega (arith, starts a ls p n tx, starts x rs q n ty, b.order); ahead = λ e. b.kind (omega (arith, starts a ls p n tx, starts x rs q n ty)) }
@@ -130,7 +129,7 @@ work_none [] h = refl
 work_none (a ∷ ls) h = absurd (omega arith)
 
 -- where a run stands
-module _ (R : Rules) (priority : Order) (f : ℕ) (s : State) where
+module _ (R : Rules) (priority : Ordering) (f : ℕ) (s : State) where
   run_zero : run R priority zero s ≡ record { outs = []; cursors = leftovers s }
   unfolding run
   run_zero = refl
@@ -181,7 +180,7 @@ TurningBy none s p q n = (s.left.next ≡ []) × (s.right.next ≡ [])
 TurningBy (from_left a ls) s p q n = Turning s a ls p q n
 TurningBy (from_right b rs) s p q n = Turning (turned s) b rs q p n
 
-module _ (lent : Lent) (priority : Order) (s : State) (p q n : ℕ) (g : Stands s p q n) where
+module _ (lent : Lent) (priority : Ordering) (s : State) (p q n : ℕ) (g : Stands s p q n) where
   pub turning_by : (t : Taken) → taken_of lent priority s.left.next s.right.next ≡ t → TurningBy t s p q n
   turning_by t e = go t (subst (λ (u : Taken). TakenBy u s.left.next s.right.next p q) e (takes lent priority n s.left.next s.right.next p q g.good.tiled_l g.good.tiled_r))
     where
@@ -214,7 +213,7 @@ stands_start ls rs cs ds n tl tr =
       at = refl;
     }
 
-module _ (R : Rules) (priority : Order) (n : ℕ) (P : State → ℕ → ℕ → Outcome → Type 0)
+module _ (R : Rules) (priority : Ordering) (n : ℕ) (P : State → ℕ → ℕ → Outcome → Type 0)
     (swap : (s : State) (p q : ℕ) (o : Outcome) → P s p q o → P (turned s) q p o)
     (atEnd : (s : State) (p q : ℕ) → Done s p q n → P s p q (record { outs = []; cursors = leftovers s }))
     (atTurn : (side : ℕ) → side < 2 → (s : State) (a : Op) (ls : List Op) (p q : ℕ) (o : Outcome) → Turning s a ls p q n
@@ -270,7 +269,7 @@ Next none xs ys = Unit {0}
 Next (from_left a ls) xs ys = xs ≡ a ∷ ls
 Next (from_right b rs) xs ys = ys ≡ b ∷ rs
 
-run_empty : (R : Rules) (priority : Order) (f : ℕ) (s : State) → work s.left.next + work s.right.next ≤ 0
+run_empty : (R : Rules) (priority : Ordering) (f : ℕ) (s : State) → work s.left.next + work s.right.next ≤ 0
     → run R priority (suc f) s ≡ record { outs = []; cursors = leftovers s }
 unfolding taken_of
 run_empty R priority f s h =
@@ -289,7 +288,7 @@ pub right_less : (R : Rules) (side : ℕ) (s : State) (b : Op) (rs : List Op) �
 unfolding turn_right
 right_less R side s b rs e = omega (arith, left_less R side (turned s) b rs e)
 
-pub taken_is : (lent : Lent) (priority : Order) (xs ys : List Op) (t : Taken) → taken_of lent priority xs ys ≡ t → Next t xs ys
+pub taken_is : (lent : Lent) (priority : Ordering) (xs ys : List Op) (t : Taken) → taken_of lent priority xs ys ≡ t → Next t xs ys
 unfolding taken_of
 taken_is lent priority [] [] t e = rw (← e) tt
 taken_is lent priority [] (x ∷ ys) t e = rw (← e) refl
@@ -300,7 +299,7 @@ taken_is lent priority (b ∷ bs) (x ∷ ys) t e = subst (λ (u : Taken). Next u
     go true = refl
     go false = refl
 
-fuel_turn : (R : Rules) (priority : Order) (f g : ℕ) (s : State) → work s.left.next + work s.right.next ≤ suc f
+fuel_turn : (R : Rules) (priority : Ordering) (f g : ℕ) (s : State) → work s.left.next + work s.right.next ≤ suc f
     → work s.left.next + work s.right.next ≤ suc g
     → ((t : State) → work t.left.next + work t.right.next ≤ f → work t.left.next + work t.right.next ≤ g → run R priority f t ≡ run R priority g t)
     → run R priority (suc f) s ≡ run R priority (suc g) s
@@ -318,7 +317,7 @@ fuel_turn R priority f g s hf hg ih = go (taken_of R.lent priority s.left.next s
         run_right R priority f s b rs e ∙ (ap (before t) (ih t.state (omega arith) (omega arith)) ∙ sym (run_right R priority g s b rs e))
 
 -- more fuel than the work asks changes nothing
-pub fuel : (R : Rules) (priority : Order) (f g : ℕ) (s : State) → work s.left.next + work s.right.next ≤ f
+pub fuel : (R : Rules) (priority : Ordering) (f g : ℕ) (s : State) → work s.left.next + work s.right.next ≤ f
     → work s.left.next + work s.right.next ≤ g → run R priority f s ≡ run R priority g s
 fuel R priority zero zero s hf hg = refl
 fuel R priority zero (suc g) s hf hg = run_zero R priority 0 s ∙ sym (run_empty R priority g s hf)

@@ -13,7 +13,7 @@ use borrow.Author.Tests.{lt-ltb, le-ltb, eq-eqb, ne_eqb, eqb-false}
 use Rattle.records.specs.declared.Cursor.{Cursor}
 use Rattle.merging.specs.declared.Op.{Op}
 use Rattle.merging.specs.declared.Op.TheVariants.{Delete, Insert, Retain}
-use Rattle.merging.specs.declared.Order.{Order}
+use Rattle.std.specs.declared.cmp.Ordering.{Ordering}
 use Rattle.merging.specs.Lent.{Rules}
 use Rattle.merging.specs.Operations.{Out, ops_in, empty_op, span_of}
 use Rattle.merging.specs.OrderRule.{priority_of}
@@ -113,7 +113,7 @@ module _ (side : ℕ) (ls ls' rs : List Op) (at q n : ℕ) (os : List Out) where
           some : 0 < k
           some = omega (arith, eqb-false k 0 h)
 
-module _ (R : Rules) (priority : Order) (n : ℕ) where
+module _ (R : Rules) (priority : Ordering) (n : ℕ) where
   abbrev Whole : State → ℕ → ℕ → Outcome → Type 0
   Whole s p q o = Merges (ops_in o.outs) s.left.next s.right.next s.consumed n
 

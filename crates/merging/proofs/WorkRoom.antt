@@ -10,7 +10,7 @@ use Rattle.overlap.specs.declared.Range.{Range}
 use Rattle.records.specs.declared.Cursor.{Cursor}
 use Rattle.merging.specs.declared.Op.{Op}
 use Rattle.merging.specs.declared.Op.TheVariants.{Delete, Insert, Retain}
-use Rattle.merging.specs.declared.Order.{Order}
+use Rattle.std.specs.declared.cmp.Ordering.{Ordering}
 use Rattle.merging.specs.Lent.{Lent, Rules, keys_of, lengths_of}
 use Rattle.merging.specs.OrderRule.{priority_of}
 use Rattle.merging.specs.Meeting.{front_of, tail_of, kept_length, met_of, lost_of, other_of, used_up, remember_of, width_of, Remembered, nothing, deleted, retained, inserted}
@@ -84,12 +84,12 @@ hold_right R side b rs s i j e h =
     record { left = t.right; right = t.left }
 
 -- the turn of a step
-step_is : (R : Rules) (priority : Order) (s : State) (t : Taken) → taken_of R.lent priority s.left.next s.right.next ≡ t
+step_is : (R : Rules) (priority : Ordering) (s : State) (t : Taken) → taken_of R.lent priority s.left.next s.right.next ≡ t
     → step_of R priority s ≡ elim t as (λ x. Step) [ none ↦ stop | from_left a ls ↦ on (turn_left R 0 a ls s) | from_right b rs ↦ on (turn_right R 1 b rs s) ]
 unfolding step_of
 step_is R priority s t e = rw (e, step_of)
 
-hold_step : (R : Rules) (priority : Order) (s : State) (u : Turned) (i j : ℕ) → step_of R priority s ≡ on u → Holding s i j → Holding u.state i j
+hold_step : (R : Rules) (priority : Ordering) (s : State) (u : Turned) (i j : ℕ) → step_of R priority s ≡ on u → Holding s i j → Holding u.state i j
 hold_step R priority s u i j e h = go (taken_of R.lent priority s.left.next s.right.next) refl
   where
     go : (t : Taken) → taken_of R.lent priority s.left.next s.right.next ≡ t → Holding u.state i j
@@ -103,7 +103,7 @@ hold_step R priority s u i j e h = go (taken_of R.lent priority s.left.next s.ri
         let d : turn_right R 1 b rs s ≡ u = cc in
         rw (← d) (hold_right R 1 b rs s i j (taken_is R.lent priority s.left.next s.right.next (from_right b rs) k) h)
 
-hold_reached : (R : Rules) (priority : Order) (s : State) (i j : ℕ) → Holding s i j → {t : State} → Reached R priority s t → Holding t i j
+hold_reached : (R : Rules) (priority : Ordering) (s : State) (i j : ℕ) → Holding s i j → {t : State} → Reached R priority s t → Holding t i j
 hold_reached R priority s i j h here = h
 hold_reached R priority s i j h (onward {t = t} u r e) = hold_step R priority t u i j e (hold_reached R priority s i j h r)
 

@@ -3,6 +3,7 @@ use Rattle.std.specs.Prelude.{ℕ, zero, suc, ◌+◌, ◌-◌, ◌*◌, ◌≤�
 use Rattle.std.proofs.Math.Seq.{slice}
 use Rattle.overlap.specs.declared.Range.{Range}
 use Rattle.overlap.specs.Overlap.{overlap_of}
+use Rattle.records.specs.declared.Lent.{Lent as Texts}
 use Rattle.records.specs.Tokens.{spelling}
 
 -- "All lists of one call share one lent inserted text"
@@ -15,6 +16,10 @@ pub record Lent : Type 0 where
 -- the same, by its parts
 abbrev pub lent_of : List ℕ → List ℕ → List ℕ → List ℕ → Lent
 lent_of original text spans keys = record { original = original; inserted = text; spans = spans; keys = keys }
+
+-- the same, of a call's texts
+abbrev pub lent_in : Texts → Lent
+lent_in l = lent_of l.original.now l.text.now l.tokens.spans.now l.tokens.keys.now
 
 -- "Two tokens are equal when their keys are": the keys of count tokens from first on
 unfoldable pub keys_of : Lent → ℕ → ℕ → List ℕ

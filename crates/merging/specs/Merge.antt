@@ -3,7 +3,7 @@ use Rattle.std.specs.Prelude.{ℕ, zero, suc, ◌+◌, List, [], ◌∷◌, ◌+
 use Rattle.records.specs.declared.Operation.{Operation}
 use Rattle.records.specs.declared.Cursor.{Cursor}
 use Rattle.merging.specs.declared.Op.{Op}
-use Rattle.merging.specs.declared.Order.{Order}
+use Rattle.std.specs.declared.cmp.Ordering.{Ordering}
 use Rattle.merging.specs.Lent.{Rules}
 use Rattle.merging.specs.Operations.{Out, span_of, ops_from, records_of}
 use Rattle.merging.specs.OrderRule.{priority_of}
@@ -26,7 +26,7 @@ abbrev pub before : Turned → Outcome → Outcome
 before t o = record { outs = t.out ++ o.outs; cursors = t.cursors ++ o.cursors }
 
 -- "Each turn takes the smaller next operation": at most f turns, until both sides are done
-unfoldable pub run : Rules → Order → ℕ → State → Outcome
+unfoldable pub run : Rules → Ordering → ℕ → State → Outcome
 run R priority zero s = record { outs = []; cursors = leftovers s }
 run R priority (suc f) s =
     elim (step_of R priority s) [

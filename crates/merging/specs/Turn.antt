@@ -3,7 +3,7 @@ use Rattle.std.specs.Prelude.{ℕ, ◌+◌, true, false, List, [], ◌∷◌}
 use Rattle.records.specs.declared.Cursor.{Cursor}
 use Rattle.merging.specs.declared.Op.{Op}
 use Rattle.merging.specs.declared.Op.TheVariants.{Delete, Insert, Retain}
-use Rattle.merging.specs.declared.Order.{Order}
+use Rattle.std.specs.declared.cmp.Ordering.{Ordering}
 use Rattle.merging.specs.Lent.{Lent, Rules}
 use Rattle.merging.specs.Operations.{Out, length_of, span_of, empty_op}
 use Rattle.merging.specs.OrderRule.{goes_left}
@@ -86,7 +86,7 @@ pub data Taken : Type 0 where
   from_left from_right : Op → List Op → Taken
 
 -- "Each turn takes the smaller next operation; ties use stream priority; what is not less goes right."
-unfoldable pub taken_of : Lent → Order → List Op → List Op → Taken
+unfoldable pub taken_of : Lent → Ordering → List Op → List Op → Taken
 taken_of lent priority [] [] = none
 taken_of lent priority [] (b ∷ rs) = from_right b rs
 taken_of lent priority (a ∷ ls) [] = from_left a ls
@@ -98,7 +98,7 @@ pub data Step : Type 0 where
   on : Turned → Step
 
 -- "Each turn takes the smaller next operation [..]; what is not less goes right.": left is side 0, right is side 1
-unfoldable pub step_of : Rules → Order → State → Step
+unfoldable pub step_of : Rules → Ordering → State → Step
 step_of R priority s =
     elim (taken_of R.lent priority s.left.next s.right.next) [
       | none ↦ stop

@@ -1,30 +1,9 @@
-// What the merge's definitions and its code both speak of: the answers of the order rule, operations as the merge takes them,
-// and what a turn does to the cursors of its side. The merge itself is a definition here, see specs/ and proofs/.
+// What the merge's definitions and its code both speak of: operations as the merge takes them, and what a turn does to the
+// cursors of its side. The merge itself is a definition here, see specs/ and proofs/.
 #![tactic(auto)]
 
 ghost use Rattle.std.specs.Prelude.{◌≡◌};
-ghost use Rattle.merging.specs.OrderRule.{then_by};
-ghost use Rattle.merging.specs.Operations.{order_of, span_of, op_of};
-
-#[derive(Clone, Copy)]
-pub enum Order {
-    Less,
-    Equal,
-    Greater,
-}
-
-impl Order {
-    // This order, or where it says equal the other.
-    pub fn then(self, other: Order) -> Order
-        ensures { result ≡ then_by self other }
-    {
-        match self {
-            Order::Less => Order::Less,
-            Order::Equal => other,
-            Order::Greater => Order::Greater,
-        }
-    }
-}
+ghost use Rattle.merging.specs.Operations.{kind_of, order_of, span_of, op_of};
 
 // An insert is a range of the lent tokens.
 #[derive(Clone, Copy)]
@@ -44,56 +23,56 @@ pub enum Op {
     },
 }
 
+impl Op {
+    // The kind's number: 0 delete, 1 insert, 2 retain.
+    pub fn kind(self) -> usize
+        ensures { result ≡ kind_of self }
+    {
+        match self {
+            Op::Delete { .. } => 0,
+            Op::Insert { .. } => 1,
+            Op::Retain { .. } => 2,
+        }
+    }
+
+    // The original text consumed before the operation.
+    pub fn order(self) -> usize
+        ensures { result ≡ order_of self }
+    {
+        match self {
+            Op::Delete { order, .. } | Op::Insert { order, .. } | Op::Retain { order, .. } => order,
+        }
+    }
+
+    // How much of the original the operation consumes.
+    pub fn span(self) -> usize
+        ensures { result ≡ span_of self }
+    {
+        match self {
+            Op::Insert { .. } => 0,
+            Op::Delete { length, .. } | Op::Retain { length, .. } => length,
+        }
+    }
+}
+
 // The operation of a record, when the list consumed `at` of the original before it.
 pub fn op_of(at: usize, operation: records::Operation) -> Op
     ensures { result ≡ op_of at operation }
 {
-    if operation.kind == 1 {
-        return Op::Insert {
+    match operation.kind {
+        1 => Op::Insert {
             order: at,
             first: operation.first,
             count: operation.count,
-        };
-    }
-    if operation.kind == 0 {
-        return Op::Delete {
+        },
+        0 => Op::Delete {
             order: operation.order,
             length: operation.length,
-        };
-    }
-    Op::Retain {
-        order: operation.order,
-        length: operation.length,
-    }
-}
-
-// The original text consumed before an operation.
-pub fn order_of(a: Op) -> usize
-    ensures { result ≡ order_of a }
-{
-    match a {
-        Op::Delete { order, length } => order,
-        Op::Insert {
-            order,
-            first,
-            count,
-        } => order,
-        Op::Retain { order, length } => order,
-    }
-}
-
-// How much of the original an operation consumes.
-pub fn span_of(a: Op) -> usize
-    ensures { result ≡ span_of a }
-{
-    match a {
-        Op::Delete { order, length } => length,
-        Op::Insert {
-            order,
-            first,
-            count,
-        } => 0,
-        Op::Retain { order, length } => length,
+        },
+        _ => Op::Retain {
+            order: operation.order,
+            length: operation.length,
+        },
     }
 }
 

@@ -8,7 +8,6 @@ use lib.ListN.{length}
 use Rattle.records.specs.declared.Operation.{Operation}
 use Rattle.records.specs.declared.Cursor.{Cursor}
 use Rattle.records.specs.Tokens.{tokens_from}
-use Rattle.verdict.specs.declared.Verdict.TheVariants.{Accepted}
 use Rattle.diff.specs.Replay.{replayed, left, added}
 use Rattle.diff.specs.Checks.{numbers, covers}
 use Rattle.sizes.specs.declared.Limits.{Limits}
@@ -23,6 +22,8 @@ use Rattle.merging.specs.Outputs.{text_of, history_of, of_text, of_original, spe
 use Rattle.merging.specs.Tiling.{Tiled, total_of, of_insert, Inserts}
 use Rattle.merging.proofs.OutputLaws.{history_text_lem, history_original, Replays, replays, diff_items, diff_added}
 use Rattle.merging_laws.proofs.Decoding.{Run, Listed, tiled, runs, length_ops, lengths_total, inserted_total, text_of_lem}
+use Rattle.std.specs.Prelude.{Ok}
+use Rattle.verdict.specs.Verdicts.{accepted}
 
 -- a list's operations, with their sides or without
 pub ops_outs : (os : List Operation) (at : ℕ) → ops_in (outs_from at os) ≡ ops_from at os
@@ -36,8 +37,8 @@ pub record Agrees (lent : Lent) (os : List Operation) : Type 0 where
   pub unchanged_added : spelled_by of_text (history_of lent (outs_from 0 os)) ≡ list_text lent.original lent.inserted lent.spans lent.keys os
   pub unchanged_removed : spelled_by of_original (history_of lent (outs_from 0 os)) ≡ lent.original
   pub replay : replayed lent.original (to_diff lent (ops_from 0 os)) ≡ list_text lent.original lent.inserted lent.spans lent.keys os
-  pub asks : numbers 0 (length lent.original) (to_diff lent (ops_from 0 os)) ≡ Accepted
-  pub covers_all : covers (length lent.original) (to_diff lent (ops_from 0 os)) ≡ Accepted
+  pub asks : numbers 0 (length lent.original) (to_diff lent (ops_from 0 os)) ≡ accepted
+  pub covers_all : covers (length lent.original) (to_diff lent (ops_from 0 os)) ≡ accepted
   pub nothing_left : left (length lent.original) (to_diff lent (ops_from 0 os)) ≡ 0
 
 pub agrees : (lent : Lent) (l : Limits) (os : List Operation) (cs : List Cursor)

@@ -4,5 +4,5 @@ ghost use Rattle.std.specs.Prelude.{◌≡◌};
 pub fn wide(b: u8) -> u32
     ensures { result ≡ b }
 {
-    b as u32
+    u32::from(b)
 }

@@ -8,6 +8,7 @@ use native.Mathlib.Nat.{add_assoc}
 use lib.Dec.{eqb, ltb}
 use lib.ListN.{take, drop, get_or}
 use lib.Seq.{slice, slice_empty, drop-drop}
+use Rattle.std.specs.Prelude.{Some, None}
 use Rattle.overlap.specs.declared.Range.{Range}
 use Rattle.overlap.specs.Overlap.{overlap_of}
 use Rattle.merging.specs.declared.Op.{Op}
@@ -16,7 +17,6 @@ use Rattle.merging.specs.Lent.{Lent, rules_of, keys_of, lengths_of, sum}
 use Rattle.merging.specs.Operations.{length_of}
 use Rattle.merging.specs.Meeting.{inserted, kept_length, tail_of, behind_cut, lost_of, other_of, used_up}
 use Rattle.merging.specs.Cursors.{place_of, removed_of}
-use Rattle.operation.specs.declared.Next.TheVariants.{Here, Done}
 use Rattle.operation.specs.declared.Last.{Last}
 use Rattle.operation.specs.declared.Last.TheVariants.{Nothing, Deleted, Retained, Inserted}
 use Rattle.operation.specs.Views.{heads, last_of, of_spans}
@@ -31,7 +31,7 @@ tail_next (Retain o l) rs ls = go (ltb (kept_length o l rs) l)
   where
     go :
         (t : Bool)
-        → heads (elim t [ true ↦ Here (Retain (o + kept_length o l rs) (l - kept_length o l rs)) | false ↦ Done ]) ls
+        → heads (elim t [ true ↦ Some (Retain (o + kept_length o l rs) (l - kept_length o l rs)) | false ↦ None ]) ls
         ≡ elim t [ true ↦ Retain (o + kept_length o l rs) (l - kept_length o l rs) ∷ ls | false ↦ ls ]
     go true = refl
     go false = refl

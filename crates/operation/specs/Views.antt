@@ -1,5 +1,5 @@
 -- What the values of the code stand for in the terms of the merge's definition. Assumes nothing.
-use Rattle.std.specs.Prelude.{ℕ, ◌+◌, ◌*◌, ◌≤◌, ◌≡◌, List, [], ◌∷◌, ◌⊎◌, length, take, drop}
+use Rattle.std.specs.Prelude.{ℕ, ◌+◌, ◌*◌, ◌≤◌, ◌≡◌, List, Option, Some, None, [], ◌∷◌, ◌⊎◌, length, take, drop}
 use Rattle.operation.specs.declared.Met.{Met}
 use Rattle.std.proofs.Math.Seq.{slice}
 use Rattle.numbers.specs.Sizes.{most}
@@ -7,15 +7,13 @@ use Rattle.merging.specs.declared.Op.{Op}
 use Rattle.merging.specs.declared.Op.TheVariants.{Delete, Insert, Retain}
 use Rattle.merging.specs.Lent.{Lent}
 use Rattle.merging.specs.Meeting.{Remembered, nothing, deleted, retained, inserted}
-use Rattle.operation.specs.declared.Next.{Next}
-use Rattle.operation.specs.declared.Next.TheVariants.{Here, Done}
 use Rattle.operation.specs.declared.Last.{Last}
 use Rattle.operation.specs.declared.Last.TheVariants.{Nothing, Deleted, Retained, Inserted}
 
 -- what is next on a side, in front of what stands behind it
-abbrev pub heads : Next → List Op → List Op
-heads (Here a) ls = a ∷ ls
-heads Done ls = ls
+abbrev pub heads : Option Op → List Op → List Op
+heads (Some a) ls = a ∷ ls
+heads None ls = ls
 
 -- what is remembered: of an insert the keys and the lengths that stand in the work room w, the lengths `half` after the keys
 abbrev pub last_of : List ℕ → ℕ → ℕ → Last → Remembered
@@ -31,9 +29,9 @@ reach (Insert o f n) = f + n
 reach (Retain o l) = o + l
 
 -- "Sums are exact": the numbers of what is next do not wrap
-abbrev pub NextFits : Next → Type 0
-NextFits (Here a) = reach a ≤ most
-NextFits Done = Unit {0}
+abbrev pub NextFits : Option Op → Type 0
+NextFits (Some a) = reach a ≤ most
+NextFits None = Unit {0}
 
 -- "Sums are exact": nor do those of what is remembered
 abbrev pub LastFits : Last → Type 0
@@ -92,7 +90,7 @@ abbrev pub Reaches : Last → Met → ℕ → Type 0
 Reaches Nothing m fill = Unit {0}
 Reaches (Deleted o l) m fill = Unit {0}
 Reaches (Retained o l) m fill = Unit {0}
-Reaches (Inserted o from) m fill = (from + m.end ≤ fill) × (m.start ≤ m.end)
+Reaches (Inserted o from) m fill = (from + m.overlap.end ≤ fill) × (m.overlap.start ≤ m.overlap.end)
 
 -- and so do its lengths in the work room
 pub record Placeable (w : List ℕ) (half fill : ℕ) (last : Last) (m : Met) : Type 0 where

@@ -1,7 +1,7 @@
 // What a taken operation meets: the cut of a retain, the meet rule, and the overlap of inserts.
 #![tactic(auto)]
 
-ghost use Rattle.std.specs.Prelude.{◌≡◌, ◌+◌, ◌-◌, ◌*◌, ◌≤◌, min, [], length};
+ghost use Rattle.std.specs.Prelude.{◌≡◌, ◌+◌, ◌*◌, ◌≤◌, [], length};
 ghost use Rattle.std.proofs.Math.Seq.{slice};
 ghost use Rattle.overlap.specs.Overlap.{overlap_of};
 ghost use Rattle.merging.specs.Lent.{lengths_of, sum, rules_of};
@@ -11,18 +11,12 @@ ghost use Rattle.merging.specs.Meeting.{shortened as without};
 ghost use Rattle.merging.specs.Cursors.{overlap_place, removed_of};
 ghost use Rattle.numbers.specs.Sizes.{most};
 ghost use Rattle.operation.specs.Views.{heads, reach, size, tokens, NextFits, LastFits, Apart, Meetable, Reaches, Lies, Placeable, Scratched, of_spans};
-ghost use Rattle.operation.specs.Meets.{tail_by, lost_by, met, met_by, used_by, place_by, Placed};
+ghost use Rattle.operation.specs.Meets.{tail_by, lost_by, met_by, used_by, place_by, Placed};
 
-use merging::{Op, order_of};
+use merging::Op;
 use numbers::wide;
 use overlap::Range;
-
-// What is next on a side.
-#[derive(Clone, Copy)]
-pub enum Next {
-    Here(Op),
-    Done,
-}
+use std::cmp::min;
 
 // What is remembered of a side. Of an insert it is tokens, which stand in the work room from `from`
 // up to where the side has filled it.
@@ -34,17 +28,24 @@ pub enum Last {
     Inserted { order: usize, from: usize },
 }
 
+// What is remembered of a side, and how far it has filled its part of the work room.
+#[derive(Clone, Copy)]
+pub struct Memory {
+    pub last: Last,
+    pub fill: usize,
+}
+
 // How much of a retain is taken where the cut is at a boundary.
+#[tactic(auto, unfolding(merging::specs::Meeting::cut_at))]
 pub fn cut_at(order: usize, length: usize, boundary: usize) -> usize
     requires { order + length ≤ most }
     ensures { result ≡ cut_at order length boundary }
 {
-    if order < boundary {
-        if boundary < order + length {
-            return boundary - order;
-        }
+    if order < boundary && boundary < order + length {
+        boundary - order
+    } else {
+        length
     }
-    length
 }
 
 fn cut_at_end(order: usize, length: usize, next: Op) -> usize
@@ -52,33 +53,29 @@ fn cut_at_end(order: usize, length: usize, next: Op) -> usize
     ensures { result ≡ cut_at_end order length next }
 {
     match next {
+        Op::Insert { .. } => length,
         Op::Delete {
-            order: o,
-            length: l,
-        } => cut_at(order, length, o + l),
-        Op::Insert {
-            order: o,
-            first,
-            count,
-        } => length,
-        Op::Retain {
-            order: o,
-            length: l,
-        } => cut_at(order, length, o + l),
+            order: start,
+            length: span,
+        }
+        | Op::Retain {
+            order: start,
+            length: span,
+        } => cut_at(order, length, start + span),
     }
 }
 
 // How much of a retain is taken before what is next on the other side.
-pub fn kept_length(order: usize, length: usize, next: Next) -> usize
+#[tactic(auto, unfolding(merging::specs::Meeting::kept_length))]
+pub fn kept_length(order: usize, length: usize, next: Option<Op>) -> usize
     requires { (order + length ≤ most) × NextFits next }
     ensures { result ≡ kept_length order length (heads next []) }
 {
     match next {
-        Next::Done => length,
-        Next::Here(x) => {
-            let o = order_of(x);
-            if order < o {
-                cut_at(order, length, o)
+        None => length,
+        Some(x) => {
+            if order < x.order() {
+                cut_at(order, length, x.order())
             } else {
                 cut_at_end(order, length, x)
             }
@@ -90,100 +87,64 @@ pub fn kept_length(order: usize, length: usize, next: Next) -> usize
 pub struct Split {
     pub front: Op,
     // What stays next of the operation.
-    pub tail: Next,
+    pub tail: Option<Op>,
 }
 
 // A retain up to where the other side's next operation starts or ends, and its tail.
-pub fn split_retain_before(a: Op, next: Next) -> Split
+#[tactic(auto, unfolding(crate::specs::Meets::tail_by))]
+pub fn split_retain_before(a: Op, next: Option<Op>) -> Split
     requires { (reach a ≤ most) × NextFits next }
     ensures { (result.front ≡ front_of a (heads next [])) × (result.tail ≡ tail_by a (heads next [])) }
 {
     match a {
-        Op::Delete { order, length } => Split {
+        Op::Delete { .. } | Op::Insert { .. } => Split {
             front: a,
-            tail: Next::Done,
-        },
-        Op::Insert {
-            order,
-            first,
-            count,
-        } => Split {
-            front: a,
-            tail: Next::Done,
+            tail: None,
         },
         Op::Retain { order, length } => {
             let kept = kept_length(order, length, next);
-            let front = Op::Retain {
-                order,
-                length: kept,
-            };
-            if kept < length {
-                Split {
-                    front,
-                    tail: Next::Here(Op::Retain {
-                        order: order + kept,
-                        length: length - kept,
-                    }),
-                }
+            let tail = if kept < length {
+                Some(Op::Retain {
+                    order: order + kept,
+                    length: length - kept,
+                })
             } else {
-                Split {
-                    front,
-                    tail: Next::Done,
-                }
+                None
+            };
+            Split {
+                front: Op::Retain {
+                    order,
+                    length: kept,
+                },
+                tail,
             }
         }
     }
 }
 
-pub fn smaller(a: usize, b: usize) -> usize
-    ensures { result ≡ min a b }
-{
-    if a <= b { a } else { b }
-}
-
-// A difference that stops at 0.
-pub fn past(a: usize, b: usize) -> usize
-    ensures { result ≡ a - b }
-{
-    if b <= a { a - b } else { 0 }
-}
-
 // The meet rule: how much an operation loses from its front to what is remembered of the other
 // side. An insert loses nothing by it.
+#[tactic(auto, unfolding(crate::specs::Meets::lost_by))]
 pub fn merge_operations(a: Op, last: Last) -> usize
     requires { LastFits last }
     ensures { result ≡ lost_by a last }
 {
-    match a {
-        Op::Delete { order, length } => match last {
-            Last::Nothing => 0,
+    match (a, last) {
+        (
+            Op::Delete { order, length } | Op::Retain { order, length },
             Last::Deleted {
-                order: o,
-                length: l,
-            } => smaller(length, past(o + l, order)),
+                order: start,
+                length: span,
+            },
+        )
+        | (
+            Op::Retain { order, length },
             Last::Retained {
-                order: o,
-                length: l,
-            } => 0,
-            Last::Inserted { order: o, from } => 0,
-        },
-        Op::Insert {
-            order,
-            first,
-            count,
-        } => 0,
-        Op::Retain { order, length } => match last {
-            Last::Nothing => 0,
-            Last::Deleted {
-                order: o,
-                length: l,
-            } => smaller(length, past(o + l, order)),
-            Last::Retained {
-                order: o,
-                length: l,
-            } => smaller(length, past(o + l, order)),
-            Last::Inserted { order: o, from } => 0,
-        },
+                order: start,
+                length: span,
+            },
+        ) => min(length, (start + span).saturating_sub(order)),
+        _ => 0,
     }
 }
 
@@ -217,120 +178,78 @@ pub fn shortened(a: Op, lost: usize) -> Op
 #[derive(Clone, Copy)]
 pub struct Met {
     pub lost: usize,
-    pub start: usize,
-    pub end: usize,
+    pub overlap: Range,
 }
 
 // The overlap of the remembered keys from `from` to `fill` and the new ones. The table stands from
 // `table` on, where the new keys are to be remembered.
 pub fn insert_overlap(
-    keys: &[u32],
-    first: usize,
-    count: usize,
+    new: &[u32],
     work: &mut [u32],
     from: usize,
     fill: usize,
     table: usize,
 ) -> Range
-    requires { (first + count ≤ length keys.now) × (count ≤ 8192) × (table + count ≤ length work.old) × (from ≤ fill) × (fill ≤ length work.old) × Apart from fill table count }
-    ensures value { result ≡ overlap_of (slice from fill work.old) (slice first (first + count) keys.now) }
-    ensures scratched { Scratched work.old work.new table count }
+    requires { (length new.now ≤ 8192) × (table + length new.now ≤ length work.old) × (from ≤ fill) × (fill ≤ length work.old) × Apart from fill table (length new.now) }
+    ensures value { result ≡ overlap_of (slice from fill work.old) new.now }
+    ensures scratched { Scratched work.old work.new table (length new.now) }
 {
-    let end = first + count;
-    overlap::fill(&keys[first..end], &mut work[table..]);
+    overlap::fill(new, &mut work[table..]);
     let w = &work[..];
-    overlap::scan(&w[from..fill], &keys[first..end], &w[table..])
-}
-
-fn not_inserts(lost: usize) -> Met
-    ensures { result ≡ met lost 0 0 }
-{
-    Met {
-        lost,
-        start: 0,
-        end: 0,
-    }
+    overlap::scan(&w[from..fill], new, &w[table..])
 }
 
 // The meet rule and the overlap of inserts.
+#[tactic(auto, unfolding(crate::specs::Meets::met_by, crate::specs::Meets::lost_by), using(crate::proofs::Scratch::unscratched))]
 pub fn merge_operations_consuming_insert(
     keys: &[u32],
     a: Op,
-    last: Last,
-    fill: usize,
+    memory: Memory,
     work: &mut [u32],
     table: usize,
 ) -> Met
-    requires { LastFits last × Meetable keys.now work.old a last fill table }
-    ensures value { result ≡ met_by keys.now work.old fill a last }
+    requires { LastFits memory.last × Meetable keys.now work.old a memory.last memory.fill table }
+    ensures value { result ≡ met_by keys.now work.old memory.fill a memory.last }
     ensures scratched { Scratched work.old work.new table (tokens a) }
 {
-    match a {
-        Op::Delete { order, length } => not_inserts(merge_operations(a, last)),
-        Op::Insert {
-            order,
-            first,
-            count,
-        } => match last {
-            Last::Nothing => not_inserts(0),
-            Last::Deleted {
-                order: o,
-                length: l,
-            } => not_inserts(0),
-            Last::Retained {
-                order: o,
-                length: l,
-            } => not_inserts(0),
-            Last::Inserted { order: o, from } => {
-                let range = insert_overlap(keys, first, count, work, from, fill, table);
-                Met {
-                    lost: range.end - range.start,
-                    start: range.start,
-                    end: range.end,
-                }
+    match (a, memory.last) {
+        (Op::Insert { first, count, .. }, Last::Inserted { from, .. }) => {
+            let new = &keys[first..first + count];
+            let overlap = insert_overlap(new, work, from, memory.fill, table);
+            Met {
+                lost: overlap.end - overlap.start,
+                overlap,
             }
+        }
+        _ => Met {
+            lost: merge_operations(a, memory.last),
+            overlap: Range { start: 0, end: 0 },
         },
-        Op::Retain { order, length } => not_inserts(merge_operations(a, last)),
     }
 }
 
 // What stays remembered of the other side: an insert that was lost whole uses its tokens up to the
 // overlap's end, any other uses all.
-pub fn used_up(a: Op, last: Last, met: Met, fill: usize) -> Last
-    requires { Reaches last met fill }
-    ensures { result ≡ used_by a last met fill }
+#[tactic(auto, unfolding(crate::specs::Meets::used_by))]
+pub fn used_up(a: Op, met: Met, memory: Memory) -> Last
+    requires { Reaches memory.last met memory.fill }
+    ensures { result ≡ used_by a memory.last met memory.fill }
 {
-    match a {
-        Op::Delete { order, length } => last,
-        Op::Insert {
-            order,
-            first,
-            count,
-        } => match last {
-            Last::Nothing => last,
-            Last::Deleted {
-                order: o,
-                length: l,
-            } => last,
-            Last::Retained {
-                order: o,
-                length: l,
-            } => last,
-            Last::Inserted { order: o, from } => {
-                if met.lost == count {
-                    Last::Inserted {
-                        order: o,
-                        from: from + met.end,
-                    }
-                } else {
-                    Last::Inserted {
-                        order: o,
-                        from: fill,
-                    }
+    match (a, memory.last) {
+        (Op::Insert { count, .. }, Last::Inserted { order, from }) => {
+            if met.lost == count {
+                Last::Inserted {
+                    order,
+                    from: from + met.overlap.end,
+                }
+            } else {
+                Last::Inserted {
+                    order,
+                    from: memory.fill,
                 }
             }
-        },
-        Op::Retain { order, length } => last,
+        }
+        _ => memory.last,
     }
 }
 
@@ -339,13 +258,7 @@ pub fn sum_of(lengths: &[u32]) -> usize
     requires { length lengths.now ≤ 65536 }
     ensures { result ≡ sum lengths.now }
 {
-    let mut total: usize = 0;
-    let mut i: usize = 0;
-    'sum: while i < lengths.len() {
-        total += wide(lengths[i]);
-        i += 1;
-    }
-    total
+    lengths.iter().map(|x| wide(*x)).sum()
 }
 
 // The sum of the lengths of tokens.
@@ -354,10 +267,8 @@ pub fn tokens_length(spans: &[u32], first: usize, count: usize) -> usize
     ensures { result ≡ sum (lengths_of (of_spans spans.now) first count) }
 {
     let mut total: usize = 0;
-    let mut i: usize = 0;
-    'sum: while i < count {
-        total += wide(spans[(first + i) * 2 + 1]);
-        i += 1;
+    'sum: for i in first..first + count {
+        total += wide(spans[i * 2 + 1]);
     }
     total
 }
@@ -368,13 +279,9 @@ pub fn length_of(spans: &[u32], a: Op) -> usize
     ensures { result ≡ length_of (of_spans spans.now) a }
 {
     match a {
-        Op::Delete { order, length } => 0,
-        Op::Insert {
-            order,
-            first,
-            count,
-        } => tokens_length(spans, first, count),
-        Op::Retain { order, length } => length,
+        Op::Delete { .. } => 0,
+        Op::Insert { first, count, .. } => tokens_length(spans, first, count),
+        Op::Retain { length, .. } => length,
     }
 }
 
@@ -384,13 +291,9 @@ pub fn removed_of(spans: &[u32], a: Op, lost: usize) -> usize
     ensures { result ≡ removed_of (rules_of (of_spans spans.now)) a lost }
 {
     match a {
-        Op::Delete { order, length } => 0,
-        Op::Insert {
-            order,
-            first,
-            count,
-        } => tokens_length(spans, first, lost),
-        Op::Retain { order, length } => lost,
+        Op::Delete { .. } => 0,
+        Op::Insert { first, .. } => tokens_length(spans, first, lost),
+        Op::Retain { .. } => lost,
     }
 }
 
@@ -402,94 +305,43 @@ pub struct Place {
 }
 
 // The overlap's place: the remembered tokens, of these lengths, end the merged text.
-pub fn overlap_place(lengths: &[u32], start: usize, end: usize, merged: usize) -> Place
-    requires { (start ≤ end) × (end ≤ length lengths.now) × (length lengths.now ≤ 65536) }
-    ensures { Placed result (overlap_place (record { start = start; end = end }) lengths.now merged) }
+pub fn overlap_place(overlap: Range, lengths: &[u32], merged: usize) -> Place
+    requires { (overlap.start ≤ overlap.end) × (overlap.end ≤ length lengths.now) × (length lengths.now ≤ 65536) }
+    ensures { Placed result (overlap_place overlap lengths.now merged) }
 {
-    if end <= start {
+    if overlap.end <= overlap.start {
         return Place {
             start: merged,
             shared: 0,
         };
     }
-    let behind = sum_of(&lengths[start..]);
+    let behind = sum_of(&lengths[overlap.start..]);
     Place {
-        start: past(merged, behind),
-        shared: sum_of(&lengths[start..end]),
+        start: merged.saturating_sub(behind),
+        shared: sum_of(&lengths[overlap.start..overlap.end]),
     }
 }
 
 // The place of the shared text: the lengths of the remembered tokens stand in the work room `half`
 // after their keys.
-pub fn place_of(
-    a: Op,
-    last: Last,
-    met: Met,
-    fill: usize,
-    work: &[u32],
-    half: usize,
-    merged: usize,
-) -> Place
-    requires { Placeable work.now half fill last met }
-    ensures { Placed result (place_by work.now half fill a last met merged) }
+#[tactic(auto, unfolding(crate::specs::Meets::place_by), using(crate::proofs::Scratch::part_is))]
+pub fn place_of(a: Op, met: Met, memory: Memory, work: &[u32], half: usize, merged: usize) -> Place
+    requires { Placeable work.now half memory.fill memory.last met }
+    ensures { Placed result (place_by work.now half memory.fill a memory.last met merged) }
 {
-    match a {
-        Op::Delete { order, length } => Place {
+    match (a, memory.last) {
+        (Op::Insert { .. }, Last::Inserted { from, .. }) => overlap_place(
+            met.overlap,
+            &work[half + from..half + memory.fill],
+            merged,
+        ),
+        (Op::Retain { .. }, Last::Retained { .. }) => Place {
+            start: merged.saturating_sub(met.lost),
+            shared: met.lost,
+        },
+        _ => Place {
             start: merged,
             shared: 0,
-        },
-        Op::Insert {
-            order,
-            first,
-            count,
-        } => match last {
-            Last::Nothing => Place {
-                start: merged,
-                shared: 0,
-            },
-            Last::Deleted {
-                order: o,
-                length: l,
-            } => Place {
-                start: merged,
-                shared: 0,
-            },
-            Last::Retained {
-                order: o,
-                length: l,
-            } => Place {
-                start: merged,
-                shared: 0,
-            },
-            Last::Inserted { order: o, from } => {
-                let a = half + from;
-                let b = half + fill;
-                overlap_place(&work[a..b], met.start, met.end, merged)
-            }
-        },
-        Op::Retain { order, length } => match last {
-            Last::Nothing => Place {
-                start: merged,
-                shared: 0,
-            },
-            Last::Deleted {
-                order: o,
-                length: l,
-            } => Place {
-                start: merged,
-                shared: 0,
-            },
-            Last::Retained {
-                order: o,
-                length: l,
-            } => Place {
-                start: past(merged, met.lost),
-                shared: met.lost,
-            },
-            Last::Inserted { order: o, from } => Place {
-                start: merged,
-                shared: 0,
-            },
         },
     }
 }

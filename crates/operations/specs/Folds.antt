@@ -1,16 +1,11 @@
 -- What a walk over operation structs holds after each. Assumes nothing.
-use Rattle.std.specs.Prelude.{ℕ, ◌+◌, min, true, false, ◌&&◌, List, [], ◌∷◌, eqb, leb}
+use Rattle.std.specs.Prelude.{ℕ, ◌+◌, min, true, false, ◌&&◌, List, fold, eqb, leb, Err}
 use Rattle.refusal.specs.declared.Refusal.TheVariants as R
 use Rattle.room.specs.Choice.{pick}
 use Rattle.records.specs.declared.Operation.{Operation}
 use Rattle.sizes.specs.Texts.{retained_by, inserted_by}
-use Rattle.verdict.specs.declared.Verdict.{Verdict}
-use Rattle.verdict.specs.declared.Verdict.TheVariants.{Accepted, Refused}
 use Rattle.operations.specs.declared.Tile.{Tile}
-
--- what stands past a list's end
-abbrev pub no_operation : Operation
-no_operation = record { kind = 0; order = 0; length = 0; side = 0; first = 0; count = 0 }
+use Rattle.verdict.specs.Verdicts.{Verdict, accepted}
 
 -- an operation that does not stop a walk: `a` code points are consumed with it
 abbrev pub moved_to : Tile → ℕ → Tile
@@ -21,7 +16,7 @@ abbrev pub stopped_at : Tile → Tile
 stopped_at t = record { n = t.n; index = t.index; at = t.at; good = false }
 
 -- "index of first whose order isn't the length consumed before it or that passes the end": one operation more
-unfoldable pub tile_step : Tile → Operation → Tile
+abbrev pub tile_step : Tile → Operation → Tile
 tile_step t o =
     pick t.good
     (pick (eqb o.kind 1) (moved_to t t.at)
@@ -29,19 +24,17 @@ tile_step t o =
     t
 
 -- the steps of a whole list
-unfoldable pub tile_all : List Operation → Tile → Tile
-tile_all [] t = t
-tile_all (o ∷ os) t = tile_all os (tile_step t o)
+abbrev pub tile_all : List Operation → Tile → Tile
+tile_all os t = fold tile_step t os
 
 -- "else the list's length"
-unfoldable pub tile_end : Tile → Verdict
-tile_end t = pick (t.good && eqb t.at t.n) Accepted (Refused (R.Tiling t.index))
+abbrev pub tile_end : Tile → Verdict
+tile_end t = pick (t.good && eqb t.at t.n) accepted (Err (R.Tiling t.index))
 
 -- "retained original and insert tokens' spelling": what one operation adds to its list's text
 abbrev pub text_by : ℕ → List ℕ → List ℕ → Operation → ℕ
 text_by n spans keys o = retained_by o + inserted_by n spans keys o
 
 -- a sum that stops at 1,000,000, over a list
-unfoldable pub text_all : ℕ → List ℕ → List ℕ → List Operation → ℕ → ℕ
-text_all n spans keys [] s = s
-text_all n spans keys (o ∷ os) s = text_all n spans keys os (min 1000000 (s + text_by n spans keys o))
+abbrev pub text_all : ℕ → List ℕ → List ℕ → List Operation → ℕ → ℕ
+text_all n spans keys os s = fold (λ t o. min 1000000 (t + text_by n spans keys o)) s os

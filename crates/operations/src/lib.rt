@@ -7,8 +7,12 @@ ghost use Rattle.sizes.specs.Texts.{text_length};
 ghost use Rattle.shapes.specs.Tiling.{tiling_of};
 ghost use Rattle.operations.specs.Folds.{moved_to, stopped_at, tile_step, tile_all, tile_end, text_by};
 
+use records::{Operation, Tokens};
+use refusal::Refusal;
+
 // A walk over the tiles: the original's length, the operations seen, how much they consume, and
 // whether each one was in its place. It stays at the first that is not.
+// Kept so: the clauses of `tile_step` and `tile_all` speak of the walk that has stopped, too.
 #[derive(Clone, Copy)]
 pub struct Tile {
     pub n: usize,
@@ -17,24 +21,12 @@ pub struct Tile {
     pub good: bool,
 }
 
-// One more, up to the largest number.
-fn next(i: usize) -> usize
-    ensures { result ≡ min 18446744073709551615 (i + 1) }
-{
-    if i < 18446744073709551615 {
-        i + 1
-    } else {
-        18446744073709551615
-    }
-}
-
 fn moved(t: Tile, at: usize) -> Tile
     ensures { result ≡ moved_to t at }
 {
-    let index = next(t.index);
     Tile {
         n: t.n,
-        index,
+        index: t.index.saturating_add(1),
         at,
         good: true,
     }
@@ -43,15 +35,10 @@ fn moved(t: Tile, at: usize) -> Tile
 fn stopped(t: Tile) -> Tile
     ensures { result ≡ stopped_at t }
 {
-    Tile {
-        n: t.n,
-        index: t.index,
-        at: t.at,
-        good: false,
-    }
+    Tile { good: false, ..t }
 }
 
-pub fn tile_step(t: Tile, o: records::Operation) -> Tile
+pub fn tile_step(t: Tile, o: Operation) -> Tile
     ensures { result ≡ tile_step t o }
 {
     if !t.good {
@@ -60,88 +47,57 @@ pub fn tile_step(t: Tile, o: records::Operation) -> Tile
     if o.kind == 1 {
         return moved(t, t.at);
     }
-    if o.order != t.at {
-        return stopped(t);
+    if o.order == t.at && t.at <= t.n && o.length <= t.n - t.at {
+        moved(t, t.at + o.length)
+    } else {
+        stopped(t)
     }
-    if t.n < t.at {
-        return stopped(t);
-    }
-    if t.n - t.at < o.length {
-        return stopped(t);
-    }
-    moved(t, t.at + o.length)
 }
 
-pub fn tile_all(operations: &[records::Operation], start: Tile) -> Tile
+pub fn tile_all(operations: &[Operation], start: Tile) -> Tile
     ensures { result ≡ tile_all operations.now start }
 {
-    let mut t = start;
-    let mut i = 0;
-    while i < operations.len() {
-        t = tile_step(t, operations[i]);
-        i += 1;
-    }
-    t
+    operations.iter().fold(start, |t, o| tile_step(t, *o))
 }
 
-pub fn tile_end(t: Tile) -> verdict::Verdict
+pub fn tile_end(t: Tile) -> Result<(), Refusal>
     ensures { result ≡ tile_end t }
 {
-    let index = t.index;
-    if t.good {
-        if t.at == t.n {
-            return verdict::Verdict::Accepted;
-        }
+    if t.good && t.at == t.n {
+        Ok(())
+    } else {
+        Err(Refusal::Tiling { index: t.index })
     }
-    verdict::Verdict::Refused(refusal::Refusal::Tiling { index })
 }
 
 // Refusal 2 of a list over an original of n code points.
-pub fn check_tiling(n: usize, operations: &[records::Operation]) -> verdict::Verdict
+pub fn check_tiling(n: usize, operations: &[Operation]) -> Result<(), Refusal>
     ensures { result ≡ tiling_of n operations.now }
 {
-    tile_end(tile_all(
-        operations,
-        Tile {
-            n,
-            index: 0,
-            at: 0,
-            good: true,
-        },
-    ))
-}
-
-fn at_most(n: usize, most: usize) -> usize
-    ensures { result ≡ min most n }
-{
-    if n < most { n } else { most }
+    let start = Tile {
+        n,
+        index: 0,
+        at: 0,
+        good: true,
+    };
+    tile_end(tile_all(operations, start))
 }
 
 // A sum of text with one operation more, capped: by the length of a list that has it alone.
-pub fn text_step(spans: &[u32], keys: &[u32], n: usize, sum: usize, o: records::Operation) -> usize
-    ensures { result ≡ min 1000000 (sum + text_by n spans.now keys.now o) }
+pub fn text_step(tokens: Tokens, n: usize, sum: usize, o: Operation) -> usize
+    ensures { result ≡ min 1000000 (sum + text_by n tokens.entry.spans.now tokens.entry.keys.now o) }
 {
     let alone = [o.kind, o.order, o.length, o.side, o.first, o.count];
-    let more = sizes::text_length(spans, keys, n, &alone);
-    let before = at_most(sum, 1000000);
-    sizes::capped(before, more)
+    let more = sizes::text_length(tokens, n, &alone);
+    sizes::capped(std::cmp::min(sum, 1000000), more)
 }
 
 // The length of a list's text, capped: that of an accepted list is below the cap. n is the length of
 // the lent inserted text.
-pub fn text_length(
-    spans: &[u32],
-    keys: &[u32],
-    n: usize,
-    operations: &[records::Operation],
-) -> usize
-    ensures { result ≡ min 1000000 (text_length n spans.now keys.now operations.now) }
+pub fn text_length(tokens: Tokens, n: usize, operations: &[Operation]) -> usize
+    ensures { result ≡ min 1000000 (text_length n tokens.entry.spans.now tokens.entry.keys.now operations.now) }
 {
-    let mut sum = 0;
-    let mut i = 0;
-    while i < operations.len() {
-        sum = text_step(spans, keys, n, sum, operations[i]);
-        i += 1;
-    }
-    sum
+    operations
+        .iter()
+        .fold(0, |sum, o| text_step(tokens, n, sum, *o))
 }

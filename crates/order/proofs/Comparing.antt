@@ -1,99 +1,52 @@
--- The order of two numbers, of two spellings and of two operations, by what tests of them said.
--- Each is a case of the definition. Assumes nothing.
-use Prim.Native.Nat.{ℕ, ◌≤◌, ◌<◌}
-use mathlib.Core.Path.{◌≡◌, refl, sym, ◌∙◌}
-use mathlib.Core.List.{List, [], ◌∷◌}
+-- Operations under the order rule: each is equal to itself, and two that are equal consume as much of the original.
+-- By the cases of the definition. Assumes nothing.
+use mathlib.Core.Path.{◌≡◌, refl}
+use Prim.Native.Nat.{ℕ}
 use native.Mathlib.Omega.{arith}
-use borrow.Author.Tests.{lt-ltb, le-ltb}
-use Rattle.merging.specs.declared.Order.{Order}
-use Rattle.merging.specs.declared.Order.TheVariants.{Less, Equal, Greater}
+use Rattle.std.specs.declared.cmp.Ordering.{Ordering}
+use Rattle.std.specs.declared.cmp.Ordering.TheVariants.{Less, Equal, Greater}
+use Rattle.std.specs.Ordering.{nat_cmp, ordering_then}
+use Rattle.std.proofs.lemmas.Bool.Decides.{nat_tests}
+use Rattle.std.proofs.lemmas.Cmp.{nat_cmp_total, nat_list_cmp_total, tied_itself}
 use Rattle.merging.specs.declared.Op.{Op}
 use Rattle.merging.specs.declared.Op.TheVariants.{Delete, Insert, Retain}
 use Rattle.merging.specs.Lent.{Lent, spelling_of}
-use Rattle.merging.specs.Operations.{order_of, kind_of}
-use Rattle.merging.specs.OrderRule.{compare_numbers, compare_spelling, content_rule, order_rule}
-use Rattle.order.specs.Readable.{Run, Readable}
+use Rattle.merging.specs.Operations.{order_of, kind_of, span_of}
+use Rattle.merging.specs.OrderRule.{content_rule, order_rule}
 
-module _ (a b : ℕ) where
-  pub number_less : a < b → compare_numbers a b ≡ Less
-  unfolding compare_numbers
-  number_less h = rw (lt-ltb a b h, compare_numbers)
-
-  pub number_greater : b < a → compare_numbers a b ≡ Greater
-  unfolding compare_numbers
-  number_greater h = rw (le-ltb a b (omega arith), lt-ltb b a h, compare_numbers)
-
-  pub number_equal : b ≤ a → a ≤ b → compare_numbers a b ≡ Equal
-  unfolding compare_numbers
-  number_equal h g = rw (le-ltb a b h, le-ltb b a g, compare_numbers)
-
-module _ {ks bs : List ℕ} where
-  pub none_none : ks ≡ [] → bs ≡ [] → compare_spelling ks bs ≡ Equal
-  unfolding compare_spelling
-  none_none e f = rw (e, f)
-
-  pub none_some : {y : ℕ} {ys : List ℕ} → ks ≡ [] → bs ≡ y ∷ ys → compare_spelling ks bs ≡ Less
-  unfolding compare_spelling
-  none_some e f = rw (e, f)
-
-  pub some_none : {x : ℕ} {xs : List ℕ} → ks ≡ x ∷ xs → bs ≡ [] → compare_spelling ks bs ≡ Greater
-  unfolding compare_spelling
-  some_none e f = rw (e, f)
-
-  module _ {x y : ℕ} {xs ys : List ℕ} (e : ks ≡ x ∷ xs) (f : bs ≡ y ∷ ys) where
-    pub less : x < y → compare_spelling ks bs ≡ Less
-    unfolding compare_spelling
-    less h = rw (e, f, lt-ltb x y h, compare_spelling)
-
-    pub greater : y < x → compare_spelling ks bs ≡ Greater
-    unfolding compare_spelling
-    greater h = rw (e, f, le-ltb x y (omega arith), lt-ltb y x h, compare_spelling)
-
-    pub alike : y ≤ x → x ≤ y → compare_spelling ks bs ≡ compare_spelling xs ys
-    unfolding compare_spelling
-    alike h g = rw (e, f, le-ltb x y h, le-ltb y x g, compare_spelling)
-
-module _ (lent : Lent) (a b : Op) where
-  pub order_less : order_of a < order_of b → Less ≡ order_rule lent a b
-  unfolding order_rule
-  order_less h = rw (number_less _ _ h)
-
-  pub order_greater : order_of b < order_of a → Greater ≡ order_rule lent a b
-  unfolding order_rule
-  order_greater h = rw (number_greater _ _ h)
-
-  module _ (h : order_of b ≤ order_of a) (g : order_of a ≤ order_of b) where
-    pub kind_less : kind_of a < kind_of b → Less ≡ order_rule lent a b
-    unfolding order_rule
-    kind_less k = rw (number_equal _ _ h g, number_less _ _ k)
-
-    pub kind_greater : kind_of b < kind_of a → Greater ≡ order_rule lent a b
-    unfolding order_rule
-    kind_greater k = rw (number_equal _ _ h g, number_greater _ _ k)
-
-    pub by_content : {r : Order} → kind_of b ≤ kind_of a → kind_of a ≤ kind_of b → r ≡ content_rule lent a b → r ≡ order_rule lent a b
-    unfolding order_rule
-    by_content k l e = rw (number_equal _ _ h g, number_equal _ _ k l) e
-
--- what holds for the cases that two operations were found to be holds for them
-pub by_case : (lent : Lent) {a b x y : Op} {r : Order} → a ≡ x → b ≡ y → r ≡ content_rule lent x y → r ≡ content_rule lent a b
-by_case lent e f h = rw (e, f) h
-
--- an operation that was found to be an insert has its tokens lent
-pub run_of : {text spans keys : List ℕ} {a : Op} {o f n : ℕ} → a ≡ Insert o f n → Readable text spans keys a → Run text spans keys f n
-run_of e h = rw e at h
-
--- a spelling, and an operation, is equal to itself
-pub same_spelling : (ks : List ℕ) → compare_spelling ks ks ≡ Equal
-unfolding compare_spelling
-same_spelling [] = refl
-same_spelling (x ∷ xs) = alike {ks = x ∷ xs} {bs = x ∷ xs} refl refl (omega arith) (omega arith) ∙ same_spelling xs
-
-same_content : (lent : Lent) (a : Op) → content_rule lent a a ≡ Equal
+content_itself : (lent : Lent) (a : Op) → content_rule lent a a ≡ Equal
 unfolding content_rule
-same_content lent (Delete o l) = number_equal l l (omega arith) (omega arith)
-same_content lent (Insert o f n) = same_spelling (spelling_of lent f n)
-same_content lent (Retain o l) = number_equal l l (omega arith) (omega arith)
+content_itself lent (Delete o l) = tied_itself nat_cmp_total l
+content_itself lent (Insert o f n) = tied_itself nat_list_cmp_total (spelling_of lent f n)
+content_itself lent (Retain o l) = tied_itself nat_cmp_total l
 
-pub itself : (lent : Lent) (a : Op) → Equal ≡ order_rule lent a a
-itself lent a = by_content lent a a (omega arith) (omega arith) (omega arith) (omega arith) (sym (same_content lent a))
+pub itself : (lent : Lent) (a : Op) → order_rule lent a a ≡ Equal
+unfolding order_rule
+itself lent a = rw (tied_itself nat_cmp_total (order_of a), tied_itself nat_cmp_total (kind_of a)) (content_itself lent a)
+
+then_equal : (x y : Ordering) → ordering_then x y ≡ Equal → (x ≡ Equal) × (y ≡ Equal)
+then_equal Less y h = cc
+then_equal Equal y h = (refl, h)
+then_equal Greater y h = cc
+
+same_number : (a b : ℕ) → nat_cmp a b ≡ Equal → a ≡ b
+same_number a b h = grind (arith, nat_tests)
+
+by_kind : (lent : Lent) (a b : Op) → nat_cmp (kind_of a) (kind_of b) ≡ Equal → content_rule lent a b ≡ Equal → span_of a ≡ span_of b
+unfolding content_rule
+by_kind lent (Delete o l) (Delete o' l') k h = same_number l l' h
+by_kind lent (Delete o l) (Insert o' f' n') k h = cc
+by_kind lent (Delete o l) (Retain o' l') k h = cc
+by_kind lent (Insert o f n) (Delete o' l') k h = cc
+by_kind lent (Insert o f n) (Insert o' f' n') k h = refl
+by_kind lent (Insert o f n) (Retain o' l') k h = cc
+by_kind lent (Retain o l) (Delete o' l') k h = cc
+by_kind lent (Retain o l) (Insert o' f' n') k h = cc
+by_kind lent (Retain o l) (Retain o' l') k h = same_number l l' h
+
+pub equal_spans : (lent : Lent) (a b : Op) → order_rule lent a b ≡ Equal → span_of a ≡ span_of b
+unfolding order_rule
+equal_spans lent a b h =
+    let g = (then_equal (nat_cmp (order_of a) (order_of b)) _ h).1 in
+    let k = then_equal (nat_cmp (kind_of a) (kind_of b)) _ g in
+    by_kind lent a b k.0 k.1

@@ -1,5 +1,3 @@
-pub mod Places
+pub mod Spelled
 pub mod Comparing
-pub mod Lending
-pub mod Readers
 pub mod Pairs

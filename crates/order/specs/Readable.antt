@@ -5,12 +5,7 @@ use Rattle.records.specs.declared.Operation.{Operation}
 use Rattle.records.specs.Tokens.{tokens_lent}
 use Rattle.merging.specs.declared.Op.{Op}
 use Rattle.merging.specs.declared.Op.TheVariants.{Delete, Insert, Retain}
-use Rattle.merging.specs.Lent.{Lent}
 use Rattle.merging.specs.Operations.{span_of}
-
--- "All lists of one call share one lent inserted text": all that is read of what was lent
-abbrev pub of_text : List ℕ → List ℕ → List ℕ → Lent
-of_text text spans keys = record { original = []; inserted = text; spans = spans; keys = keys }
 
 -- "token or range outside what was lent": a run of tokens is not so
 pub record Run (text spans keys : List ℕ) (first count : ℕ) : Type 0 where

@@ -1,28 +1,13 @@
--- What the functions that read a spelling say to one another. Assumes nothing.
-use Rattle.std.specs.Prelude.{ℕ, ◌+◌, ◌-◌, ◌*◌, ◌≤◌, ◌<◌, ◌≡◌, List, ◌++◌, length, get_or, take, drop}
-use Rattle.records.specs.Tokens.{tokens_lent, spelling}
+-- What is left of a spelling that is read code point by code point. Assumes nothing.
+use Rattle.std.specs.Prelude.{ℕ, List, ◌++◌}
+use Rattle.merging.specs.Lent.{lent_in, spelling_of}
 use Rattle.order.specs.declared.spelling.Reader.{Reader}
+use Rattle.order.specs.Readable.{Run}
 
--- a place in a spelling lies in the text, and what comes behind it in the tokens
-pub record Good (text spans keys : List ℕ) (r : Reader) : Type 0 where
-  pub to : r.to ≤ length text
-  pub lent : r.end ≤ tokens_lent spans keys
-  pub inside : (i : ℕ) → r.next ≤ i → i < r.end → get_or spans (i * 2) 0 + get_or spans (i * 2 + 1) 0 ≤ length text
+-- the tokens that come lie in what was lent
+abbrev pub CanRead : Reader → Type 0
+CanRead r = Run r.lent.text.now r.lent.tokens.spans.now r.lent.tokens.keys.now r.next r.count
 
--- what is left of the spelling at a place
-unfoldable pub left_at : List ℕ → List ℕ → List ℕ → Reader → List ℕ
-left_at text spans keys r = take (r.to - r.at) (drop r.at text) ++ spelling text spans keys r.next (r.end - r.next)
-
--- a place was settled: as much is left, and where no code point stands there nothing is
-pub record Settled (text spans keys : List ℕ) (r s : Reader) : Type 0 where
-  pub good : Good text spans keys s
-  pub same : left_at text spans keys s ≡ left_at text spans keys r
-  pub done : s.to ≤ s.at → s.end ≤ s.next
-
--- the place before the tokens from first on, count of them
-abbrev pub starts : ℕ → ℕ → Reader
-starts first count = record { at = 0; to = 0; next = first; end = first + count }
-
--- the place one code point on
-abbrev pub passed : Reader → Reader
-passed r = record { at = r.at + 1; to = r.to; next = r.next; end = r.end }
+-- "inserts by spelling, code point by code point": what is left, of a token and of those behind it
+abbrev pub left : Reader → List ℕ
+left r = r.rest.now ++ spelling_of (lent_in r.lent) r.next r.count

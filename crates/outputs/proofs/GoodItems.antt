@@ -12,9 +12,8 @@ use Rattle.room.proofs.Bools.{and_right}
 use Rattle.records.specs.declared.Operation.{Operation}
 use Rattle.records.specs.declared.Token.{Token}
 use Rattle.records.specs.Tokens.{tokens_from, spelled, tokens_length}
-use Rattle.records.proofs.Tokens.{length_from}
+use Rattle.records.proofs.TokenLaws.{length_from}
 use Rattle.diff.specs.Replay.{Edit, retain, delete, insert, mentioned}
-use Rattle.verdict.specs.declared.Verdict.TheVariants.{Accepted}
 use Rattle.sizes.specs.Sizes.{otherwise}
 use Rattle.verdict.specs.Points.{points_from}
 use Rattle.checks.specs.Lists.{list_verdict}
@@ -37,6 +36,7 @@ use Rattle.to_diff.specs.Items.{item_of, items_of, diff_of}
 use Rattle.to_diff.specs.Answers.{verdict_on}
 use Rattle.to_diff.proofs.Joining.{length_items, added_items}
 use Rattle.outputs.proofs.Points.{points_spelled}
+use Rattle.verdict.specs.Verdicts.{accepted}
 
 -- an insert's text is not empty
 some_spelled : (text : List ℕ) (ts : List Token) → AllIn (length text) ts → 0 < length ts → 0 < length (spelled text ts)
@@ -78,7 +78,7 @@ pub record Accepts (lent : Lent) (os : List Operation) : Type 0 where
   pub original : all_points lent.original ≡ true
   pub inserted : all_points lent.inserted ≡ true
 
-pub accepts : (lent : Lent) (os : List Operation) → verdict_on lent os ≡ Accepted → Accepts lent os
+pub accepts : (lent : Lent) (os : List Operation) → verdict_on lent os ≡ accepted → Accepts lent os
 unfolding verdict_on list_verdict
 accepts lent os h =
     let p = first_passed _ _ (rest_passed _ _ h) in

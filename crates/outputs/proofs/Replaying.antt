@@ -8,8 +8,6 @@ use lib.ListN.{length, take}
 use lib.Seq.{take-append_seam}
 use lib.IntN.{ℤ}
 use borrow.Author.Tests.{le-ltb}
-use Rattle.refusal.specs.declared.Counted.{Counted}
-use Rattle.refusal.specs.declared.Counted.TheVariants.{Count}
 use Rattle.room.specs.Placed.{answered}
 use Rattle.records.specs.declared.Operation.{Operation}
 use Rattle.diff.specs.declared.diff.Item.{Item as LentItem}
@@ -18,9 +16,9 @@ use Rattle.diff.specs.Items as D
 use Rattle.diff.specs.Replay.{Edit, retain, delete, insert, edit_of, edits_of, replayed}
 use Rattle.diff.specs.Checks.{fits}
 use Rattle.replay.specs.Answers.{diff, edits, text_of, covering, roomed, Replayed}
-use Rattle.verdict.specs.declared.Verdict.{Verdict}
-use Rattle.verdict.specs.declared.Verdict.TheVariants.{Accepted, Refused}
-use Rattle.verdict.specs.Verdicts.{and_then}
+use Rattle.verdict.specs.Verdicts.{and_then, Verdict, accepted}
+use Rattle.verdict.proofs.Chains.{first_passed}
+use Rattle.checks.proofs.Telling.{says_yes, says_what}
 use Rattle.sizes.specs.Sizes.{otherwise}
 use Rattle.sizes.specs.Texts.{list_text}
 use Rattle.edit_format.specs.Items.{Item, Keep, Drop, Add, texts, Good}
@@ -33,10 +31,12 @@ use Rattle.merging.specs.Lent.{Lent}
 use Rattle.merging.specs.Operations.{ops_from}
 use Rattle.merging.specs.Outputs.{to_diff}
 use Rattle.merging_laws.proofs.Outputs.{agrees}
-use Rattle.to_diff.specs.declared.Diffed.TheVariants.{Counts}
+use Rattle.item_records.specs.declared.Counts.{Counts}
 use Rattle.to_diff.specs.Items.{item_of, items_of, diff_of}
 use Rattle.to_diff.specs.Answers.{verdict_on, room_for, verdict_in, answer_of, Diffs}
 use Rattle.outputs.proofs.GoodItems.{Accepts, accepts, diff_good, diff_original}
+use Rattle.std.specs.Prelude.{Result, Ok}
+use Rattle.refusal.specs.declared.Refusal.{Refusal}
 
 -- an item's edit
 back_of : Item → Edit
@@ -79,12 +79,12 @@ decoded o es g =
     back_edits (texts is) (D.items_of (records_of is) (length (texts is))) ∙ (ap backs_of (same_items is g) ∙ back_items es)
 
 -- what the counts of an accepted call say
-counts_of : (v w : Verdict) (is : List Item) (n m : ℕ) → Counts n m ≡ answer_of (and_then v w) is → (v ≡ Accepted) ×
-    ((and_then v w ≡ Accepted) × ((n ≡ length is) × (m ≡ length (texts is))))
-unfolding and_then
-counts_of Accepted Accepted is n m h = (refl, (refl, (cc, cc)))
-counts_of Accepted (Refused r) is n m h = let z : ◌≡◌ {A = ℕ} 0 1 = cc in absurd (omega arith)
-counts_of (Refused r) w is n m h = let z : ◌≡◌ {A = ℕ} 0 1 = cc in absurd (omega arith)
+counts_of : (v w : Verdict) (is : List Item) (n m : ℕ) → Ok (record { items = n; text = m }) ≡ answer_of (and_then v w) is → (v ≡ accepted) ×
+    ((and_then v w ≡ accepted) × ((n ≡ length is) × (m ≡ length (texts is))))
+counts_of v w is n m h =
+    let a : and_then v w ≡ accepted = says_yes (and_then v w) _ _ (sym h) in
+    let s = sym (says_what (and_then v w) _ _ (sym h)) in
+    (first_passed v w a, (a, (ap (λ (c : Counts). c.items) s, ap (λ (c : Counts). c.text) s)))
 
 -- what an accepted call wrote: so many items and code points at the start of its rooms
 pub record Written (lent : Lent) (os : List Operation) (n m : ℕ) (d' : List ℤ) (e' : List ℕ) : Type 0 where
@@ -98,7 +98,7 @@ pub record Written (lent : Lent) (os : List Operation) (n m : ℕ) (d' : List �
 pub front : {A : Type 0} (s d d' : List A) (k : ℕ) → k ≡ length s → d' ≡ answered s d → take k d' ≡ s
 front s d d' k e f = rw (e, f) (take-append_seam s _)
 
-pub written_of : (lent : Lent) (os : List Operation) {d d' : List ℤ} {e e' : List ℕ} {n m : ℕ} → Diffs lent os d e d' e' (Counts n m) → Written lent os n m d' e'
+pub written_of : (lent : Lent) (os : List Operation) {d d' : List ℤ} {e e' : List ℕ} {n m : ℕ} → Diffs lent os d e d' e' (Ok (record { items = n; text = m })) → Written lent os n m d' e'
 unfolding verdict_in
 written_of lent os {d} {d'} {e} {e'} {n} {m} h =
     let c = counts_of (verdict_on lent os) (room_for (diff_of lent os) (length d) (length e)) (diff_of lent os) n m h.answer in
@@ -112,7 +112,7 @@ written_of lent os {d} {d'} {e} {e'} {n} {m} h =
 
 module _ (lent : Lent) (os : List Operation) {n m : ℕ} {d' : List ℤ} {e' : List ℕ} (w : Written lent os n m d' e') where
   -- the covering replay accepts it
-  pub replay_accepted : covering (diff lent.original (take (n * 3) d') (take m e')) ≡ Accepted
+  pub replay_accepted : covering (diff lent.original (take (n * 3) d') (take m e')) ≡ accepted
   replay_accepted =
       rw (w.items, w.text)
       (covers_all (diff_of lent os) (diff_good lent os w.accepted) lent.original (sym (diff_original lent os w.accepted)) w.accepted.original)
@@ -126,11 +126,11 @@ module _ (lent : Lent) (os : List Operation) {n m : ℕ} {d' : List ℤ} {e' : L
       ∙ (agrees lent otherwise os [] w.accepted.list).replay)
 
   -- from rooms to rooms: `from_covering_diff` over what was written leaves the list's text in its room
-  pub replays_back : {room room' : List ℕ} {r : Counted} → Replayed covering (diff lent.original (take (n * 3) d') (take m e')) room r room'
+  pub replays_back : {room room' : List ℕ} {r : Result ℕ Refusal} → Replayed covering (diff lent.original (take (n * 3) d') (take m e')) room r room'
       → length (list_text lent.original lent.inserted lent.spans lent.keys os) ≤ length room
-      → (r ≡ Count (length (list_text lent.original lent.inserted lent.spans lent.keys os)))
+      → (r ≡ Ok (length (list_text lent.original lent.inserted lent.spans lent.keys os)))
       × (room' ≡ answered (list_text lent.original lent.inserted lent.spans lent.keys os) room)
-  unfolding roomed fits and_then
+  unfolding roomed fits
   replays_back {room} {room'} {r} h l =
       let t = le-ltb (length room) (length (list_text lent.original lent.inserted lent.spans lent.keys os)) l in
       (rw (replay_accepted, replay_text, t) at h.answer, rw (replay_accepted, replay_text, t) at h.leaving)

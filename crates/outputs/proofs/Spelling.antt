@@ -13,25 +13,24 @@ use Rattle.records.specs.declared.Operation.{Operation}
 use Rattle.records.specs.declared.Cursor.{Cursor}
 use Rattle.records.specs.Cursors.{flat_cursors}
 use Rattle.cursors.specs.Sorted.{sorted}
-use Rattle.refusal.specs.declared.Counted.{Counted}
-use Rattle.refusal.specs.declared.Counted.TheVariants.{Count}
 use Rattle.replay.specs.Answers.{diff, covering, Replayed}
-use Rattle.verdict.specs.declared.Verdict.{Verdict}
-use Rattle.verdict.specs.declared.Verdict.TheVariants.{Accepted, Refused}
-use Rattle.verdict.specs.Verdicts.{and_then, roomed}
+use Rattle.verdict.specs.Verdicts.{and_then, roomed, Verdict, accepted}
 use Rattle.sizes.specs.Sizes.{otherwise}
 use Rattle.shapes.specs.Accepted.{AcceptedList}
 use Rattle.checks.proofs.Accepted.{accepted_list}
+use Rattle.checks.proofs.Telling.{says_yes, says_what}
+use Rattle.verdict.proofs.Chains.{first_passed}
 use Rattle.merging.specs.Lent.{Lent}
 use Rattle.merging.specs.Outputs.{Span, spelled_by, of_text, of_original, history_text, flat_spans}
 use Rattle.merging_laws.proofs.Outputs.{agrees}
-use Rattle.apply.specs.declared.Applied.TheVariants as A
-use Rattle.apply.specs.declared.WithHistory.TheVariants as H
+use Rattle.apply.specs.declared.Applied.{Applied}
+use Rattle.apply.specs.declared.WithHistory.{WithHistory}
 use Rattle.apply.specs.Answers.{verdict_on, text_on, history_on, fits, apply_verdict, history_verdict, applied, told, Applies, Tells}
-use Rattle.to_diff.specs.declared.Diffed.TheVariants.{Counts}
 use Rattle.to_diff.specs.Answers.{Diffs}
 use Rattle.outputs.specs.Spans.{span_at, spans_from}
 use Rattle.outputs.proofs.Replaying.{front, written_of, replays_back}
+use Rattle.std.specs.Prelude.{Result, Ok}
+use Rattle.refusal.specs.declared.Refusal.{Refusal}
 
 -- four numbers of a list, where a part of it begins
 span_part : (a b c d : ℕ) (pre post text : List ℕ) (i : ℕ) → length pre ≡ i * 4
@@ -77,14 +76,14 @@ pub record TextWritten (lent : Lent) (os : List Operation) (k : ℕ) (out' : Lis
   pub long : k ≡ length (text_on lent os)
   pub text : take k out' ≡ text_on lent os
 
-applied_of : (v w : Verdict) (n m k c : ℕ) → A.Counts k c ≡ applied (and_then v w) n m → (v ≡ Accepted) × ((and_then v w ≡ Accepted) × (k ≡ n))
-unfolding and_then
-applied_of Accepted Accepted n m k c h = (refl, (refl, cc))
-applied_of Accepted (Refused r) n m k c h = let z : ◌≡◌ {A = ℕ} 0 1 = cc in absurd (omega arith)
-applied_of (Refused r) w n m k c h = let z : ◌≡◌ {A = ℕ} 0 1 = cc in absurd (omega arith)
+applied_of : (v w : Verdict) (n m k c : ℕ) → Ok (record { text = k; cursors = c }) ≡ applied (and_then v w) n m → (v ≡ accepted) ×
+    ((and_then v w ≡ accepted) × (k ≡ n))
+applied_of v w n m k c h =
+    let a : and_then v w ≡ accepted = says_yes (and_then v w) _ _ (sym h) in
+    (first_passed v w a, (a, ap (λ (x : Applied). x.text) (sym (says_what (and_then v w) _ _ (sym h)))))
 
 pub text_written : (lent : Lent) (os : List Operation) {cs : List Cursor} {out moved out' moved' : List ℕ} {k c : ℕ}
-    → Applies lent os cs out moved out' moved' (A.Counts k c) → TextWritten lent os k out'
+    → Applies lent os cs out moved out' moved' (Ok (record { text = k; cursors = c })) → TextWritten lent os k out'
 unfolding apply_verdict verdict_on
 text_written lent os {cs} {out} {moved} {out'} {moved'} {k} {c} h =
     let a = applied_of (verdict_on lent os cs) (roomed (fits (flat_cursors (sorted cs)) moved && fits (text_on lent os) out))
@@ -97,23 +96,19 @@ text_written lent os {cs} {out} {moved} {out'} {moved'} {k} {c} h =
     }
 
 -- an accepted call of `apply_with_history`: its spans, read out of both rooms
-told_of : (v w : Verdict) (n m k c : ℕ) → H.Counts k c ≡ told (and_then v w) n m → (and_then v w ≡ Accepted) × (k ≡ n)
-unfolding and_then
-told_of Accepted Accepted n m k c h = (refl, cc)
-told_of Accepted (Refused r) n m k c h = let z : ◌≡◌ {A = ℕ} 0 1 = cc in absurd (omega arith)
-told_of (Refused r) w n m k c h = let z : ◌≡◌ {A = ℕ} 0 1 = cc in absurd (omega arith)
+told_of : (v : Verdict) (n m k c : ℕ) → Ok (record { spans = k; text = c }) ≡ told v n m → (v ≡ accepted) × (k ≡ n)
+told_of v n m k c h = (says_yes v _ _ (sym h), ap (λ (x : WithHistory). x.spans) (sym (says_what v _ _ (sym h))))
 
-pub spans_written : (lent : Lent) (os : List Operation) {history out history' out' : List ℕ} {k c : ℕ} → Tells lent os history out history' out' (H.Counts k c)
+pub spans_written : (lent : Lent) (os : List Operation) {history out history' out' : List ℕ} {k c : ℕ} → Tells lent os history out history' out' (Ok (record { spans = k; text = c }))
     → spans_from history' out' 0 k ≡ history_on lent os
-unfolding history_verdict
 spans_written lent os {history} {out} {history'} {out'} {k} {c} h =
-    let a = told_of (verdict_on lent os []) (roomed (fits (flat_spans 0 (history_on lent os)) history && fits (history_text (history_on lent os)) out))
+    let a = told_of (history_verdict lent os history out)
     (length (history_on lent os)) (length (history_text (history_on lent os))) k c h.answer in
     rw (rw a.0 at h.spans, rw a.0 at h.text, a.1) (spans_back (history_on lent os) history out)
 
 module _ (lent : Lent) (os : List Operation) {k : ℕ} {out' : List ℕ} (w : TextWritten lent os k out') where
   -- "the unchanged and added spans spell the text; the unchanged and removed ones the original", in the rooms of the two calls
-  pub spans_spell : {history out history' told' : List ℕ} {n m : ℕ} → Tells lent os history out history' told' (H.Counts n m)
+  pub spans_spell : {history out history' told' : List ℕ} {n m : ℕ} → Tells lent os history out history' told' (Ok (record { spans = n; text = m }))
       → (spelled_by of_text (spans_from history' told' 0 n) ≡ take k out') × (spelled_by of_original (spans_from history' told' 0 n) ≡ lent.original)
   unfolding text_on history_on
   spans_spell h =
@@ -122,10 +117,10 @@ module _ (lent : Lent) (os : List Operation) {k : ℕ} {out' : List ℕ} (w : Te
       (ap (spelled_by of_text) s ∙ (g.unchanged_added ∙ sym w.text), ap (spelled_by of_original) s ∙ g.unchanged_removed)
 
   -- replaying what `to_diff` wrote, by `from_covering_diff`, is accepted and leaves in its room what `apply` wrote
-  pub diff_spells : {d d' : List ℤ} {e e' room room' : List ℕ} {n m : ℕ} {r : Counted} → Diffs lent os d e d' e' (Counts n m)
+  pub diff_spells : {d d' : List ℤ} {e e' room room' : List ℕ} {n m : ℕ} {r : Result ℕ Refusal} → Diffs lent os d e d' e' (Ok (record { items = n; text = m }))
       → Replayed covering (diff lent.original (take (n * 3) d') (take m e')) room r room' → k ≤ length room
-      → (r ≡ Count k) × (room' ≡ answered (take k out') room)
+      → (r ≡ Ok k) × (room' ≡ answered (take k out') room)
   unfolding text_on
   diff_spells {room = room} h f l =
       let g = replays_back lent os (written_of lent os h) f (rw w.long at l) in
-      (g.0 ∙ ap Count (sym w.long), g.1 ∙ ap (λ (s : List ℕ). answered s room) (sym w.text))
+      (g.0 ∙ ap Ok (sym w.long), g.1 ∙ ap (λ (s : List ℕ). answered s room) (sym w.text))

@@ -13,7 +13,8 @@ use borrow.Author.Tests.{eqb-true, eq-eqb}
 use Rattle.room.proofs.Bools.{and_left, and_right}
 use Rattle.overlap.specs.Overlap.{range, same, occurs, first, longest, overlap_of, touched, Answered}
 use Rattle.overlap.specs.declared.Range.{Range}
-use Rattle.overlap.specs.declared.Found.{Found}
+use Rattle.std.specs.Prelude.{Result}
+use Rattle.refusal.specs.declared.Refusal.{Refusal}
 
 same_eq : (xs ys : List ℕ) → same xs ys ≡ true → xs ≡ ys
 same_eq [] [] h = refl
@@ -152,7 +153,7 @@ whole keys =
     ap₂ range (omega (arith, o.high)) (omega (arith, o.high))
 
 -- any two outcomes that the call's statement allows are one answer, and leave the same past what the call may change
-pub only : {old new before after after' : List ℕ} {r r' : Found} → Answered old new before after r → Answered old new before after' r'
+pub only : {old new before after after' : List ℕ} {r r' : Result Range Refusal} → Answered old new before after r → Answered old new before after' r'
     → (r ≡ r') × (drop (touched r (length new)) after ≡ drop (touched r (length new)) after')
 only {r = r} {r' = r'} a b =
     let e : r ≡ r' = a.answer ∙ sym b.answer in

@@ -1,11 +1,10 @@
 -- The overlap of inserts, by exhaustive search: each length from all of new down, and for each length each place of old from
 -- the first. Assumes nothing.
-use Rattle.std.specs.Prelude.{ℕ, zero, suc, ◌+◌, ◌≡◌, List, [], ◌∷◌, Bool, true, false, ◌&&◌, length, take, drop, ltb, eqb}
+use Rattle.std.specs.Prelude.{ℕ, zero, suc, ◌+◌, ◌≡◌, List, [], ◌∷◌, Bool, true, false, ◌&&◌, length, take, drop, ltb, eqb, Result, Ok, Err}
 use Rattle.room.specs.Choice.{pick}
+use Rattle.refusal.specs.declared.Refusal.{Refusal}
 use Rattle.refusal.specs.declared.Refusal.TheVariants.{Size, Room}
 use Rattle.overlap.specs.declared.Range.{Range}
-use Rattle.overlap.specs.declared.Found.{Found}
-use Rattle.overlap.specs.declared.Found.TheVariants as found
 
 -- "0..0 if none": a part of old, start..end
 abbrev pub range : ℕ → ℕ → Range
@@ -37,19 +36,19 @@ unfoldable pub overlap_of : List ℕ → List ℕ → Range
 overlap_of old new = longest old new (length new)
 
 -- "Called alone: 8,192 tokens a side, work as long as new; 3 then 7."
-unfoldable pub answer_of : List ℕ → List ℕ → ℕ → Found
+unfoldable pub answer_of : List ℕ → List ℕ → ℕ → Result Range Refusal
 answer_of old new work =
-    pick (ltb 8192 (length old)) (found.Refused Size)
-    (pick (ltb 8192 (length new)) (found.Refused Size)
-    (pick (ltb work (length new)) (found.Refused Room)
-    (found.Range (overlap_of old new).start (overlap_of old new).end)))
+    pick (ltb 8192 (length old)) (Err Size)
+    (pick (ltb 8192 (length new)) (Err Size)
+    (pick (ltb work (length new)) (Err Room)
+    (Ok (overlap_of old new))))
 
 -- "A refusal writes nothing. [..] only the work room is unspecified": how many numbers at its start a call may change
-abbrev pub touched : Found → ℕ → ℕ
-touched (found.Range s e) n = n
-touched (found.Refused c) n = 0
+abbrev pub touched : Result Range Refusal → ℕ → ℕ
+touched (Ok r) n = n
+touched (Err c) n = 0
 
 -- "A public call's statement covers its result, numbers of a refusal included, and the lent buffers": the answer, and what is left of the work room
-pub record Answered (old new before after : List ℕ) (r : Found) : Type 0 where
+pub record Answered (old new before after : List ℕ) (r : Result Range Refusal) : Type 0 where
   pub answer : r ≡ answer_of old new (length before)
   pub kept : drop (touched r (length new)) after ≡ drop (touched r (length new)) before

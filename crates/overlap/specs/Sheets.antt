@@ -1,12 +1,13 @@
 -- The paper's bench sheets of the overlap, as a table. Assumes nothing.
-use Rattle.std.specs.Prelude.{ℕ, List, [], ◌∷◌}
-use Rattle.overlap.specs.declared.Found.{Found}
-use Rattle.overlap.specs.declared.Found.TheVariants as found
+use Rattle.std.specs.Prelude.{ℕ, List, [], ◌∷◌, Result, Ok}
+use Rattle.refusal.specs.declared.Refusal.{Refusal}
+use Rattle.overlap.specs.declared.Range.{Range}
+use Rattle.overlap.specs.Overlap.{range}
 
 -- new keys, and the answer that the paper gives for them and the sheets' old ones
 pub record Sheet : Type 0 where
   pub new : List ℕ
-  pub gives : Found
+  pub gives : Result Range Refusal
 
 -- "old 0 1 9 0 2 5"
 abbrev pub old : List ℕ
@@ -14,7 +15,7 @@ old = 0 ∷ 1 ∷ 9 ∷ 0 ∷ 2 ∷ 5 ∷ []
 
 -- a row of the table, by its parts
 abbrev sheet : List ℕ → ℕ → ℕ → Sheet
-sheet new s e = record { new = new; gives = found.Range s e }
+sheet new s e = record { new = new; gives = Ok (range s e) }
 
 -- "new 9 0 2 5 1 gives 2..6; ★ 0 2 gives 3..5; ★ 0 4 gives 0..1; ★ empty gives 0..0."
 abbrev pub sheets : List Sheet

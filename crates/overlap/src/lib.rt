@@ -11,10 +11,3 @@ pub struct Range {
     pub start: usize,
     pub end: usize,
 }
-
-// The overlap, or why there is no answer.
-#[derive(Clone, Copy)]
-pub enum Found {
-    Range { start: usize, end: usize },
-    Refused(refusal::Refusal),
-}

@@ -3,9 +3,10 @@
 // ample, with the one asked, and with one a number too short.
 #![tactic(auto)]
 
-use overlap::Found;
+use marked::Mark;
 use overlap::find_longest_prefix_contained_within::find_longest_prefix_contained_within;
-use vectors::Due;
+use refusal::Refusal;
+use vectors::{Case, Due};
 
 fn main() {
     replay(
@@ -18,37 +19,18 @@ fn main() {
 }
 
 fn replay(name: &[u8], bytes: &[u8]) {
-    let mut tally = vectors::no_cases();
-    let mut at = 0;
-    'cases: while at < bytes.len() {
-        let case = case_at(bytes, at);
-        tally = tally.with(case.agrees);
-        if case.next <= at {
-            break 'cases;
-        }
-        at = case.next;
-    }
-    vectors::report(name, tally);
-}
-
-// Whether the call gives the case's answer, and the offset behind the case.
-#[derive(Clone, Copy)]
-struct Case {
-    agrees: bool,
-    next: usize,
+    vectors::replay(name, bytes.len(), |at| case_at(bytes, at));
 }
 
 // The rooms have one key more than a refused case.
 fn case_at(bytes: &[u8], at: usize) -> Case {
     let mut old = [0u32; 8194];
     let mut new = [0u32; 8194];
-    let old_line = vectors::numbers_u32(bytes, at, &mut old);
-    let new_line = vectors::numbers_u32(bytes, old_line.next, &mut new);
+    let old_line = vectors::numbers(bytes, at, &mut old);
+    let new_line = vectors::numbers(bytes, old_line.next, &mut new);
     let answer = vectors::due_at(bytes, new_line.next);
-    let o = old_line.count;
-    let n = new_line.count;
     Case {
-        agrees: agrees(&old[..o], &new[..n], answer.due),
+        agrees: agrees(old_line.numbers, new_line.numbers, answer.due),
         next: answer.next,
     }
 }
@@ -58,31 +40,31 @@ fn agrees(old: &[u32], new: &[u32], due: Due) -> bool {
     if !gives(old, new, 8194, due) {
         return false;
     }
-    if due.number != 0 {
+    if due.is_refusal() {
         return gives(old, new, 0, due);
     }
     if !gives(old, new, new.len(), due) {
         return false;
     }
-    new.len() == 0 || gives(old, new, marked::one_less(new.len()), vectors::room_due())
+    new.len() == 0
+        || gives(
+            old,
+            new,
+            new.len().saturating_sub(1),
+            Due::from(Refusal::Room),
+        )
 }
 
 // Whether the call with a work room of this length gives what is due.
 fn gives(old: &[u32], new: &[u32], lent: usize, due: Due) -> bool {
-    let mut work = [marked::MARK_U32; 8194];
-    let w = marked::at_most(lent, 8194);
+    let mut work = [u32::MARK; 8194];
+    let w = std::cmp::min(lent, 8194);
     gives_in(old, new, due, &mut work[..w])
 }
 
 // Of the work room only a refusal promises what it holds.
 fn gives_in(old: &[u32], new: &[u32], due: Due, work: &mut [u32]) -> bool {
     let found = find_longest_prefix_contained_within(old, new, work);
-    is_due(found, due) && (due.number == 0 || marked::holds_u32(work, &[0u32; 0]))
-}
-
-fn is_due(found: Found, due: Due) -> bool {
-    match found {
-        Found::Range { start, end } => due.number == 0 && due.first == start && due.second == end,
-        Found::Refused(why) => vectors::is_refusal(why, due),
-    }
+    found.map_or_else(Due::from, |range| Due::counts(range.start, range.end, 0)) == due
+        && (!due.is_refusal() || marked::holds(work, &[]))
 }

@@ -8,7 +8,6 @@ use lib.Dec.{leb, ltb}
 use borrow.Author.Tests.{le-leb, leb-true, ltb-true}
 use Rattle.refusal.specs.declared.Refusal.TheVariants as R
 use Rattle.records.specs.Tokens.{tokens_from}
-use Rattle.verdict.specs.declared.Verdict.TheVariants.{Accepted}
 use Rattle.shapes.specs.Shapes.{run_good}
 use Rattle.shapes.proofs.Accepted.{all_in}
 use Rattle.room.proofs.Bools.{and_left, and_right}
@@ -17,6 +16,7 @@ use Rattle.raw_lists.specs.declared.Raw.{Raw}
 use Rattle.raw_lists.specs.Raws.{pieces_lent}
 use Rattle.raw_lists.specs.Good.{GoodRaw, AllGood, counts}
 use Rattle.raw_lists.specs.Checks.{total, claimed_by, run_lent, is_raw, shapes_from}
+use Rattle.verdict.specs.Verdicts.{accepted}
 
 module _ (n : ℕ) (spans keys joins : List ℕ) where
   good_raw : (r : Raw) → is_raw n spans keys joins r ≡ true → GoodRaw n spans keys joins r
@@ -32,7 +32,7 @@ module _ (n : ℕ) (spans keys joins : List ℕ) where
         tokens = all_in n (tokens_from spans keys r.first r.count) (and_right l g b);
       }
 
-  pub all_good : (rs : List Raw) (i : ℕ) → shapes_from n spans keys joins rs i ≡ Accepted → AllGood n spans keys joins rs
+  pub all_good : (rs : List Raw) (i : ℕ) → shapes_from n spans keys joins rs i ≡ accepted → AllGood n spans keys joins rs
   unfolding shapes_from AllGood
   all_good [] i h = tt
   all_good (r ∷ rs) i h =

@@ -1,19 +1,22 @@
 -- The sizes and shapes of raw lists: refusals 3 and 1 of them. Assumes nothing.
-use Rattle.std.specs.Prelude.{ℕ, ◌+◌, Bool, true, false, ◌&&◌, List, [], ◌∷◌, length, leb, ltb}
+use Rattle.std.specs.Prelude.{◌≡◌, ℕ, ◌+◌, min, Bool, true, false, ◌&&◌, List, [], ◌∷◌, length, leb, ltb, Err}
 use Rattle.refusal.specs.declared.Refusal.TheVariants as R
 use Rattle.room.specs.Choice.{pick}
 use Rattle.records.specs.Tokens.{tokens_from}
-use Rattle.verdict.specs.declared.Verdict.{Verdict}
-use Rattle.verdict.specs.declared.Verdict.TheVariants.{Accepted, Refused}
 use Rattle.sizes.specs.Texts.{run_text}
 use Rattle.shapes.specs.Shapes.{run_good}
 use Rattle.raw_lists.specs.declared.Raw.{Raw}
 use Rattle.raw_lists.specs.Raws.{pieces_lent}
+use Rattle.verdict.specs.Verdicts.{Verdict, accepted}
 
 -- "Sums are exact": over a raw list, of what each operation adds
 unfoldable pub total : (Raw → ℕ) → List Raw → ℕ
 total f [] = 0
 total f (r ∷ rs) = f r + total f rs
+
+-- a measure of raw operations gives what f says, as far as the cap tells
+abbrev pub Measures : {M : Type 0} → (M → Raw → ℕ → Type 0) → M → (Raw → ℕ) → Type 0
+Measures post m f = (r : Raw) (y : ℕ) → post m r y → min 1000000 y ≡ min 1000000 (f r)
 
 -- "token counts stand as claimed; an unknown kind adds none"
 abbrev pub claimed_by : Raw → ℕ
@@ -40,6 +43,6 @@ is_raw n spans keys joins r =
 
 -- "index of first such operation": from operation i on
 unfoldable pub shapes_from : ℕ → List ℕ → List ℕ → List ℕ → List Raw → ℕ → Verdict
-shapes_from n spans keys joins [] i = Accepted
+shapes_from n spans keys joins [] i = accepted
 shapes_from n spans keys joins (r ∷ rs) i =
-    elim (is_raw n spans keys joins r) [ true ↦ shapes_from n spans keys joins rs (i + 1) | false ↦ Refused (R.Record i) ]
+    elim (is_raw n spans keys joins r) [ true ↦ shapes_from n spans keys joins rs (i + 1) | false ↦ Err (R.Record i) ]

@@ -1,9 +1,13 @@
 // Raw lists: their records and tokens, and which lists are refused for their sizes or their shape.
 #![tactic(auto)]
 
-ghost use Rattle.std.specs.Prelude.{◌≡◌, ◌+◌, ◌*◌, ◌≤◌, min, length, leb};
+ghost use Rattle.std.specs.Prelude.{◌≡◌, ℕ, ◌+◌, ◌*◌, ◌≤◌, min, length};
+ghost use Rattle.raw_lists.specs.declared.Raw.{Raw};
 ghost use Rattle.raw_lists.specs.Raws.{raw_at, raws_of, pieces_lent};
-ghost use Rattle.raw_lists.specs.Checks.{total, claimed_by, text_by, raw_fits, is_raw, shapes_from};
+ghost use Rattle.raw_lists.specs.Checks.{Measures, total, claimed_by, text_by, run_lent, raw_fits, is_raw, shapes_from};
+
+use records::Tokens;
+use refusal::Refusal;
 
 // A raw operation: its kind, and its tokens by the place of the first and their count.
 #[derive(Clone, Copy)]
@@ -11,6 +15,30 @@ pub struct Raw {
     pub kind: usize,
     pub first: usize,
     pub count: usize,
+}
+
+// The tokens lent, and the flags of each: which of its ends may be joined.
+#[derive(Clone, Copy)]
+pub struct RawTokens<'a> {
+    pub tokens: Tokens<'a>,
+    pub joins: &'a [u8],
+}
+
+impl<'a> RawTokens<'a> {
+    // How many tokens are lent: those that all three slices reach.
+    fn count(self) -> usize
+        ensures { result ≡ pieces_lent self.entry.tokens.spans.now self.entry.tokens.keys.now self.entry.joins.now }
+    {
+        std::cmp::min(self.tokens.count(), self.joins.len())
+    }
+
+    // Whether an operation's range of tokens is lent.
+    fn reach(self, r: Raw) -> bool
+        ensures { result ≡ run_lent self.entry.tokens.spans.now self.entry.tokens.keys.now self.entry.joins.now r }
+    {
+        let lent = self.count();
+        r.count <= lent && r.first <= lent - r.count
+    }
 }
 
 // The i-th raw operation.
@@ -26,25 +54,17 @@ pub fn raw_at(raw: &[usize], i: usize) -> Raw
     }
 }
 
-// How many tokens are lent.
-fn pieces_lent(spans: &[u32], keys: &[u32], joins: &[u8]) -> usize
-    ensures { result ≡ pieces_lent spans.now keys.now joins.now }
+// The sum over a raw list of what a measure gives for each operation, capped.
+// Kept so, beside the sum over operations of sizes: in common they would be a sum over places, whose closure asks for its bounds; that is no plainer.
+fn total_by<F: Fn(Raw) -> usize>(raw: &[usize], measure: F) -> usize
+    requires { F.IsAlwaysCallable measure }
+    ensures { (f : Raw → ℕ) → Measures F.post measure f → result ≡ min 1000000 (total f (raws_of raw.now)) }
 {
-    let lent = records::tokens_lent(spans, keys);
-    if lent < joins.len() {
-        return lent;
+    let mut sum = 0;
+    'sum: for i in 0..raw.len() / 3 {
+        sum = sizes::capped(sum, measure(raw_at(raw, i)));
     }
-    joins.len()
-}
-
-// Whether an operation's range of tokens lies in the first `lent`.
-fn run_lent(lent: usize, r: Raw) -> bool
-    ensures { result ≡ leb (r.first + r.count) lent }
-{
-    if lent < r.count {
-        return false;
-    }
-    r.first <= lent - r.count
+    sum
 }
 
 fn claimed_by(r: Raw) -> usize
@@ -57,100 +77,56 @@ fn claimed_by(r: Raw) -> usize
 pub fn claimed(raw: &[usize]) -> usize
     ensures { result ≡ min 1000000 (total claimed_by (raws_of raw.now)) }
 {
-    let count = raw.len() / 3;
-    let mut i = 0;
-    let mut sum = 0;
-    'sum: while i < count {
-        let r = raw_at(raw, i);
-        let more = claimed_by(r);
-        sum = sizes::capped(sum, more);
-        i += 1;
-    }
-    sum
+    total_by(raw, claimed_by)
 }
 
 // The text of an operation's tokens, capped.
-fn text_by(spans: &[u32], keys: &[u32], joins: &[u8], n: usize, r: Raw) -> usize
-    ensures { result ≡ min 1000000 (text_by n spans.now keys.now joins.now r) }
+fn text_by(lent: RawTokens, n: usize, r: Raw) -> usize
+    ensures { result ≡ min 1000000 (text_by n lent.entry.tokens.spans.now lent.entry.tokens.keys.now lent.entry.joins.now r) }
 {
-    if 2 < r.kind {
-        return 0;
+    if r.kind <= 2 && lent.reach(r) {
+        sizes::run_text(lent.tokens, n, r.first, r.count)
+    } else {
+        0
     }
-    let lent = pieces_lent(spans, keys, joins);
-    if run_lent(lent, r) {
-        return sizes::run_text(spans, keys, n, r.first, r.count);
-    }
-    0
 }
 
 // The text of all tokens that a raw list uses, capped.
-fn used_text(raw: &[usize], spans: &[u32], keys: &[u32], joins: &[u8], n: usize) -> usize
-    ensures { result ≡ min 1000000 (total (text_by n spans.now keys.now joins.now) (raws_of raw.now)) }
+fn used_text(raw: &[usize], lent: RawTokens, n: usize) -> usize
+    ensures { result ≡ min 1000000 (total (text_by n lent.entry.tokens.spans.now lent.entry.tokens.keys.now lent.entry.joins.now) (raws_of raw.now)) }
 {
-    let count = raw.len() / 3;
-    let mut i = 0;
-    let mut sum = 0;
-    'sum: while i < count {
-        let r = raw_at(raw, i);
-        let more = text_by(spans, keys, joins, n, r);
-        sum = sizes::capped(sum, more);
-        i += 1;
-    }
-    sum
+    total_by(raw, |r| text_by(lent, n, r))
 }
 
 // Whether a raw list keeps its sizes. The tests before the last keep its work within the limits.
-pub fn raw_fits(raw: &[usize], spans: &[u32], keys: &[u32], joins: &[u8], n: usize) -> bool
-    ensures { result ≡ raw_fits n spans.now keys.now joins.now (raws_of raw.now) }
+#[tactic(auto, using(crate::proofs::Checking::size_text, crate::proofs::Checking::size_operations, crate::proofs::Checking::size_tokens))]
+pub fn raw_fits(raw: &[usize], lent: RawTokens, n: usize) -> bool
+    ensures { result ≡ raw_fits n lent.entry.tokens.spans.now lent.entry.tokens.keys.now lent.entry.joins.now (raws_of raw.now) }
 {
-    if 131070 < n {
+    if 131070 < n || 8192 < raw.len() / 3 {
         return false;
     }
-    if 8192 < raw.len() / 3 {
-        return false;
-    }
-    if 16384 < claimed(raw) {
-        return false;
-    }
-    used_text(raw, spans, keys, joins, n) <= 131070
+    claimed(raw) <= 16384 && used_text(raw, lent, n) <= 131070
 }
 
 // Whether an operation is a raw operation.
-fn is_raw(spans: &[u32], keys: &[u32], joins: &[u8], n: usize, r: Raw) -> bool
-    ensures { result ≡ is_raw n spans.now keys.now joins.now r }
+fn is_raw(lent: RawTokens, n: usize, r: Raw) -> bool
+    ensures { result ≡ is_raw n lent.entry.tokens.spans.now lent.entry.tokens.keys.now lent.entry.joins.now r }
 {
-    if 2 < r.kind {
-        return false;
-    }
-    if r.count == 0 {
-        return false;
-    }
-    let lent = pieces_lent(spans, keys, joins);
-    if run_lent(lent, r) {
-        return shapes::run_good(spans, keys, n, r.first, r.count);
-    }
-    false
+    r.kind <= 2
+        && r.count != 0
+        && lent.reach(r)
+        && shapes::run_good(lent.tokens, n, r.first, r.count)
 }
 
 // Refusal 1 of a raw list.
-pub fn check_raws(
-    raw: &[usize],
-    spans: &[u32],
-    keys: &[u32],
-    joins: &[u8],
-    n: usize,
-) -> verdict::Verdict
-    ensures { result ≡ shapes_from n spans.now keys.now joins.now (raws_of raw.now) 0 }
+pub fn check_raws(raw: &[usize], lent: RawTokens, n: usize) -> Result<(), Refusal>
+    ensures { result ≡ shapes_from n lent.entry.tokens.spans.now lent.entry.tokens.keys.now lent.entry.joins.now (raws_of raw.now) 0 }
 {
-    let count = raw.len() / 3;
-    let mut i = 0;
-    'raws: while i < count {
-        let r = raw_at(raw, i);
-        if is_raw(spans, keys, joins, n, r) {
-            i += 1;
-        } else {
-            return verdict::Verdict::Refused(refusal::Refusal::Record { index: i });
+    'raws: for i in 0..raw.len() / 3 {
+        if !is_raw(lent, n, raw_at(raw, i)) {
+            return Err(Refusal::Record { index: i });
         }
     }
-    verdict::Verdict::Accepted
+    Ok(())
 }

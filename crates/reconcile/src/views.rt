@@ -1,4 +1,5 @@
 // Text and history of a list.
+// Kept so: what is lent stands slice by slice, as the C interface lends it.
 ghost use Rattle.apply.specs.Answers.{Applies, AppliesAll, Tells, applied, history_on, text_on, told, told_all, verdict_on};
 ghost use Rattle.merging.specs.Lent.{lent_of};
 ghost use Rattle.cursors.specs.Sorted.{sorted};
@@ -6,6 +7,10 @@ ghost use Rattle.merging.specs.Outputs.{history_text};
 ghost use Rattle.records.specs.Cursors.{cursors_of};
 ghost use Rattle.records.specs.Operations.{operations_of};
 ghost use Rattle.std.specs.Prelude.{length, [], ◌≡◌};
+
+use apply::{Applied, WithAll, WithHistory};
+use records::{Lent, List, Tokens};
+use refusal::Refusal;
 
 // The code points and cursors that `apply` writes.
 pub fn apply_lengths(
@@ -15,10 +20,19 @@ pub fn apply_lengths(
     keys: &[u32],
     operations: &[usize],
     cursors: &[usize],
-) -> apply::Applied
+) -> Result<Applied, Refusal>
     ensures { result ≡ applied (verdict_on (lent_of original.now text.now spans.now keys.now) (operations_of operations.now) (cursors_of cursors.now)) (length (text_on (lent_of original.now text.now spans.now keys.now) (operations_of operations.now))) (length (sorted (cursors_of cursors.now))) }
 {
-    apply::apply_lengths(original, text, spans, keys, operations, cursors)
+    let lent = Lent {
+        original,
+        text,
+        tokens: Tokens { spans, keys },
+    };
+    let list = List {
+        operations,
+        cursors,
+    };
+    apply::apply_lengths(lent, list)
 }
 
 // A list's text into a room, and its cursors, sorted, into another.
@@ -31,10 +45,19 @@ pub fn apply(
     cursors: &[usize],
     out: &mut [u32],
     moved: &mut [usize],
-) -> apply::Applied
+) -> Result<Applied, Refusal>
     ensures { Applies (lent_of original.now text.now spans.now keys.now) (operations_of operations.now) (cursors_of cursors.now) out.old moved.old out.new moved.new result }
 {
-    apply::apply(original, text, spans, keys, operations, cursors, out, moved)
+    let lent = Lent {
+        original,
+        text,
+        tokens: Tokens { spans, keys },
+    };
+    let list = List {
+        operations,
+        cursors,
+    };
+    apply::apply(lent, list, out, moved)
 }
 
 // The spans and the code points that `apply_with_history` writes.
@@ -44,10 +67,15 @@ pub fn apply_with_history_lengths(
     spans: &[u32],
     keys: &[u32],
     operations: &[usize],
-) -> apply::WithHistory
+) -> Result<WithHistory, Refusal>
     ensures { result ≡ told (verdict_on (lent_of original.now text.now spans.now keys.now) (operations_of operations.now) []) (length (history_on (lent_of original.now text.now spans.now keys.now) (operations_of operations.now))) (length (history_text (history_on (lent_of original.now text.now spans.now keys.now) (operations_of operations.now)))) }
 {
-    apply::apply_with_history_lengths(original, text, spans, keys, operations)
+    let lent = Lent {
+        original,
+        text,
+        tokens: Tokens { spans, keys },
+    };
+    apply::apply_with_history_lengths(lent, operations)
 }
 
 // A list's history: its spans into a room, their text into another.
@@ -59,10 +87,15 @@ pub fn apply_with_history(
     operations: &[usize],
     history: &mut [usize],
     out: &mut [u32],
-) -> apply::WithHistory
+) -> Result<WithHistory, Refusal>
     ensures { Tells (lent_of original.now text.now spans.now keys.now) (operations_of operations.now) history.old out.old history.new out.new result }
 {
-    apply::apply_with_history(original, text, spans, keys, operations, history, out)
+    let lent = Lent {
+        original,
+        text,
+        tokens: Tokens { spans, keys },
+    };
+    apply::apply_with_history(lent, operations, history, out)
 }
 
 // What `apply_with_all` writes: what both write.
@@ -73,10 +106,19 @@ pub fn apply_with_all_lengths(
     keys: &[u32],
     operations: &[usize],
     cursors: &[usize],
-) -> apply::WithAll
+) -> Result<WithAll, Refusal>
     ensures { result ≡ told_all (verdict_on (lent_of original.now text.now spans.now keys.now) (operations_of operations.now) (cursors_of cursors.now)) (length (text_on (lent_of original.now text.now spans.now keys.now) (operations_of operations.now))) (length (sorted (cursors_of cursors.now))) (length (history_on (lent_of original.now text.now spans.now keys.now) (operations_of operations.now))) (length (history_text (history_on (lent_of original.now text.now spans.now keys.now) (operations_of operations.now)))) }
 {
-    apply::apply_with_all_lengths(original, text, spans, keys, operations, cursors)
+    let lent = Lent {
+        original,
+        text,
+        tokens: Tokens { spans, keys },
+    };
+    let list = List {
+        operations,
+        cursors,
+    };
+    apply::apply_with_all_lengths(lent, list)
 }
 
 // Text, cursors and history of a list, in one pass over its operations.
@@ -91,19 +133,17 @@ pub fn apply_with_all(
     moved: &mut [usize],
     history: &mut [usize],
     history_text: &mut [u32],
-) -> apply::WithAll
+) -> Result<WithAll, Refusal>
     ensures { AppliesAll (lent_of original.now text.now spans.now keys.now) (operations_of operations.now) (cursors_of cursors.now) out.old moved.old history.old history_text.old out.new moved.new history.new history_text.new result }
 {
-    apply::apply_with_all(
+    let lent = Lent {
         original,
         text,
-        spans,
-        keys,
+        tokens: Tokens { spans, keys },
+    };
+    let list = List {
         operations,
         cursors,
-        out,
-        moved,
-        history,
-        history_text,
-    )
+    };
+    apply::apply_with_all(lent, list, out, moved, history, history_text)
 }

@@ -1,4 +1,4 @@
 pub mod Rooms
 pub mod Operations
-pub mod Tokens
+pub mod TokenLaws
 pub mod Cursors

@@ -11,6 +11,7 @@ ghost use Rattle.records.specs.Cursors.{cursor_at, put_cursor, at_index};
 
 #[derive(Clone, Copy)]
 pub struct Operation {
+    // Kept so: kind and side are numbers, since the C interface lends numbers and any may come in.
     pub kind: usize,
     pub order: usize,
     pub length: usize,
@@ -24,6 +25,50 @@ pub struct Token {
     pub start: u32,
     pub length: u32,
     pub key: u32,
+}
+
+// The tokens lent: two numbers each in one slice, a key in another.
+#[derive(Clone, Copy)]
+pub struct Tokens<'a> {
+    pub spans: &'a [u32],
+    pub keys: &'a [u32],
+}
+
+impl<'a> Tokens<'a> {
+    // How many tokens are lent: those that both slices reach.
+    pub fn count(self) -> usize
+        ensures { result ≡ tokens_lent self.entry.spans.now self.entry.keys.now }
+    {
+        std::cmp::min(self.spans.len() / 2, self.keys.len())
+    }
+
+    // The i-th token.
+    pub fn at(self, i: usize) -> Token
+        requires { i < tokens_lent self.spans.now self.keys.now }
+        ensures { result ≡ token_at self.entry.spans.now self.entry.keys.now i }
+    {
+        let b = i * 2;
+        Token {
+            start: self.spans[b],
+            length: self.spans[b + 1],
+            key: self.keys[i],
+        }
+    }
+}
+
+// What the lists of a call stand over: the original, the text that they insert, and the tokens.
+#[derive(Clone, Copy)]
+pub struct Lent<'a> {
+    pub original: &'a [u32],
+    pub text: &'a [u32],
+    pub tokens: Tokens<'a>,
+}
+
+// A list as it is lent: its operations, six numbers each, and its cursors, two numbers each.
+#[derive(Clone, Copy)]
+pub struct List<'a> {
+    pub operations: &'a [usize],
+    pub cursors: &'a [usize],
 }
 
 #[derive(Clone, Copy)]
@@ -72,30 +117,6 @@ pub fn put_operation(out: &mut [usize], i: usize, operation: Operation)
     out[b + 3] = operation.side;
     out[b + 4] = operation.first;
     out[b + 5] = operation.count;
-}
-
-// How many tokens are lent: those that both slices reach.
-pub fn tokens_lent(spans: &[u32], keys: &[u32]) -> usize
-    ensures { result ≡ tokens_lent spans.now keys.now }
-{
-    let pairs = spans.len() / 2;
-    if pairs < keys.len() {
-        return pairs;
-    }
-    keys.len()
-}
-
-// The i-th token.
-pub fn token_at(spans: &[u32], keys: &[u32], i: usize) -> Token
-    requires { i < tokens_lent spans.now keys.now }
-    ensures { result ≡ token_at spans.now keys.now i }
-{
-    let b = i * 2;
-    Token {
-        start: spans[b],
-        length: spans[b + 1],
-        key: keys[i],
-    }
 }
 
 // The i-th cursor.

@@ -1,4 +1,4 @@
-// The ten refusals, and the answer that most calls give. The paper's number of a refusal and the
+// The ten refusals: what a call answers in place of a value. The paper's number of a refusal and the
 // values it carries are definitions of specs/, and every statement about a refusal speaks by them.
 #![tactic(auto)]
 
@@ -6,7 +6,7 @@ ghost use Rattle.std.specs.Prelude.{◌≡◌, [], ◌∷◌};
 ghost use Rattle.refusal.specs.Numbers.{number, values, padded};
 
 // Fields are what the paper says a refusal carries.
-#[derive(Clone, Copy)]
+#[derive(Clone, Copy, Debug, PartialEq, Eq)]
 pub enum Refusal {
     // 1: an operation or a diff item that is no record of its kind.
     Record {
@@ -48,84 +48,55 @@ pub enum Refusal {
     },
 }
 
-// How many code points or bytes an answer has, or why there is none.
-#[derive(Clone, Copy)]
-pub enum Counted {
-    Count(usize),
-    Refused(Refusal),
-}
-
-// The paper's number.
-pub fn number_of(refusal: Refusal) -> usize
-    ensures { result ≡ number refusal }
-{
-    match refusal {
-        Refusal::Record { index } => 1,
-        Refusal::Tiling { index } => 2,
-        Refusal::Size => 3,
-        Refusal::CodePoint { index } => 4,
-        Refusal::Cursor { place } => 5,
-        Refusal::Short {
-            position,
-            requested,
-            available,
-        } => 6,
-        Refusal::Room => 7,
-        Refusal::Line { line } => 8,
-        Refusal::Unmentioned { left } => 9,
-        Refusal::Utf8 { offset } => 10,
-    }
-}
-
 // The values that a refusal carries, 0 after the last: what a caller of another language is handed.
-#[derive(Clone, Copy)]
+#[derive(Clone, Copy, Debug, PartialEq, Eq)]
 pub struct Values {
     pub first: u64,
     pub second: u64,
     pub third: u64,
 }
 
-pub fn values_of(refusal: Refusal) -> Values
-    ensures { result ≡ padded (values refusal) }
-{
-    match refusal {
-        Refusal::Record { index } => one(index),
-        Refusal::Tiling { index } => one(index),
-        Refusal::Size => none(),
-        Refusal::CodePoint { index } => one(index),
-        Refusal::Cursor { place } => one(place),
-        Refusal::Short {
-            position,
-            requested,
-            available,
-        } => Values {
-            first: position as u64,
-            second: requested,
-            third: available as u64,
-        },
-        Refusal::Room => none(),
-        Refusal::Line { line } => one(line),
-        Refusal::Unmentioned { left } => one(left),
-        Refusal::Utf8 { offset } => one(offset),
+impl Refusal {
+    // The paper's number.
+    pub fn number(self) -> usize
+        ensures { result ≡ number self }
+    {
+        match self {
+            Refusal::Record { .. } => 1,
+            Refusal::Tiling { .. } => 2,
+            Refusal::Size => 3,
+            Refusal::CodePoint { .. } => 4,
+            Refusal::Cursor { .. } => 5,
+            Refusal::Short { .. } => 6,
+            Refusal::Room => 7,
+            Refusal::Line { .. } => 8,
+            Refusal::Unmentioned { .. } => 9,
+            Refusal::Utf8 { .. } => 10,
+        }
     }
-}
 
-fn one(value: usize) -> Values
-    ensures { result ≡ padded (value ∷ []) }
-{
-    Values {
-        first: value as u64,
-        second: 0,
-        third: 0,
-    }
-}
-
-fn none() -> Values
-    ensures { result ≡ padded [] }
-{
-    Values {
-        first: 0,
-        second: 0,
-        third: 0,
+    pub fn values(self) -> Values
+        ensures { result ≡ padded (values self) }
+    {
+        let (first, second, third) = match self {
+            Refusal::Size | Refusal::Room => (0, 0, 0),
+            Refusal::Record { index: n }
+            | Refusal::Tiling { index: n }
+            | Refusal::CodePoint { index: n }
+            | Refusal::Cursor { place: n }
+            | Refusal::Line { line: n }
+            | Refusal::Unmentioned { left: n }
+            | Refusal::Utf8 { offset: n } => (n as u64, 0, 0),
+            Refusal::Short {
+                position,
+                requested,
+                available,
+            } => (position as u64, requested, available as u64),
+        };
+        Values {
+            first,
+            second,
+            third,
+        }
     }
 }

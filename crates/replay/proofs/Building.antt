@@ -2,7 +2,7 @@
 -- One law for a run that is put where the last one ended; each kind of item puts such a run. Assumes nothing.
 use mathlib.Core.Path.{◌≡◌, refl, sym, ap, ◌∙◌}
 use mathlib.Core.List.{List, [], ◌++◌}
-use Prim.Native.Nat.{ℕ, ◌+◌, ◌-◌, ◌/◌, ◌≤◌, ◌<◌, zero-le}
+use Prim.Native.Nat.{ℕ, ◌+◌, ◌/◌, ◌≤◌, ◌<◌, zero-le}
 use native.Mathlib.Omega.{arith}
 use lib.ListN.{length, take, drop, length-append}
 use lib.Seq.{drop-drop}
@@ -10,7 +10,7 @@ use lib.IntN.{ℤ}
 use Rattle.room.specs.Placed.{placed, Put}
 use Rattle.room.proofs.Placing.{put_none, placed_none, placed_length, placed_more}
 use Rattle.string_builder.specs.Builder.{stop_at, Retained}
-use Rattle.string_builder.proofs.Stops.{stop_within, stop_rest, retained_length}
+use Rattle.std.proofs.lemmas.List.{drop_min}
 use Rattle.diff.specs.declared.diff.Item.{Item}
 use Rattle.diff.specs.declared.diff.Item.TheVariants.{Retain, Delete, Insert, Neither}
 use Rattle.diff.specs.Items.{item_at, items_of}
@@ -69,30 +69,22 @@ module _ {o : List ℕ} {xs : List ℤ} {text out₀ : List ℕ} {i position : �
       unfolding replayed edit_of
       text-retain =
           ap (replayed (drop position o)) (edits-at xs text i l e)
-          ∙ ap (λ (r : List ℕ). take n (drop position o) ++ replayed r (rest_edits xs text (i + 1))) (drop-drop n position o ∙ sym (stop_rest o position n))
+          ∙ ap (λ (r : List ℕ). take n (drop position o) ++ replayed r (rest_edits xs text (i + 1))) (drop-drop n position o ∙ sym (drop_min (position + n) o))
 
       pub fits_retain : at + length (take n (drop position o)) ≤ length out
       fits_retain = fits (take n (drop position o)) (replayed (drop (stop_at (length o) position n) o) (rest_edits xs text (i + 1))) text-retain
 
       pub build-retain :
-          {out' : List ℕ} {r : ℕ} → Retained o position n out at out' r → Building o xs text out₀ (i + 1) r out' (at + (r - position))
-      build-retain {out'} {r} p =
-          let w = stop_within (length o) position n h.within in
-          let m : length (take n (drop position o)) ≡ r - position = retained_length o position n h.within ∙ ap (λ (k : ℕ). k - position) (sym p.moved) in
-          puts r (rw p.moved w.1) (rw p.moved text-retain) (record { next = rw (m); stands = p.stands })
-
-      -- the step ends at or past the position, and what it puts ends within the room
-      pub step_retain : {out' : List ℕ} {r : ℕ} → Retained o position n out at out' r → (position ≤ r) × (at + (r - position) ≤ length out)
-      step_retain {out'} {r} p =
-          let w = stop_within (length o) position n h.within in
-          (omega (arith, p.moved, w.0), omega (arith, p.moved, retained_length o position n h.within, fits_retain))
+          {out' : List ℕ} {r at' : ℕ} → Retained o position n out at out' r → at' ≡ at + length (take n (drop position o))
+          → Building o xs text out₀ (i + 1) r out' at'
+      build-retain p k = puts _ (omega (arith, p.moved)) (rw p.moved text-retain) (record { next = k; stands = p.stands })
 
     pub build_delete : {n : ℕ} → item_at xs (length text) i ≡ Delete n → Building o xs text out₀ (i + 1) (stop_at (length o) position n) out at
     unfolding replayed edit_of
     build_delete {n} e =
-        puts (stop_at (length o) position n) (stop_within (length o) position n h.within).1
+        puts (stop_at (length o) position n) (omega arith)
         (ap (replayed (drop position o)) (edits-at xs text i l e)
-        ∙ ap (λ (r : List ℕ). replayed r (rest_edits xs text (i + 1))) (drop-drop n position o ∙ sym (stop_rest o position n)))
+        ∙ ap (λ (r : List ℕ). replayed r (rest_edits xs text (i + 1))) (drop-drop n position o ∙ sym (drop_min (position + n) o)))
         (put_none out at)
 
     module _ {s n : ℕ} (e : item_at xs (length text) i ≡ Insert s n) where

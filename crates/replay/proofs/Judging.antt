@@ -3,145 +3,113 @@
 use mathlib.Core.Path.{◌≡◌, refl, ◌∙◌}
 use mathlib.Core.Bool.{Bool, true, false}
 use mathlib.Core.List.{List}
+use mathlib.Core.Logic.{◌⊎◌, inl, inr}
 use Prim.Native.Nat.{ℕ, ◌+◌, ◌-◌, ◌/◌, ◌≤◌, ◌<◌}
 use native.Mathlib.Omega.{arith}
 use lib.ListN.{length}
 use lib.Dec.{ltb}
 use borrow.Author.Tests.{lt-ltb, le-ltb, ltb-false}
-use Rattle.room.specs.Choice.{pick}
 use Rattle.refusal.specs.declared.Refusal.{Refusal}
 use Rattle.refusal.specs.declared.Refusal.TheVariants.{Size}
-use Rattle.verdict.specs.declared.Verdict.{Verdict}
-use Rattle.verdict.specs.declared.Verdict.TheVariants.{Accepted, Refused}
-use Rattle.verdict.specs.Verdicts.{and_then}
+use Rattle.verdict.specs.Verdicts.{and_then, accepted}
 use Rattle.verdict.specs.Points.{points_verdict}
 use Rattle.diff.specs.declared.diff.Item.{Item}
-use Rattle.diff.specs.declared.diff.Surveyed.TheVariants.{TooLong, Used, Stopped as Broken}
-use Rattle.diff.specs.declared.diff.Walked.TheVariants.{Reached, Stopped as Short}
-use Rattle.replay.specs.declared.Judged.TheVariants.{Fine, Stopped}
+use Rattle.diff.specs.declared.diff.Reached.{Reached}
 use Rattle.diff.specs.Items.{items_of}
-use Rattle.diff.specs.Replay.{Edit, replayed, mentioned, kept, added, left}
+use Rattle.diff.specs.Replay.{Edit, replayed, kept, added, left}
 use Rattle.diff.specs.Checks.{refuse_if, original_most, items_most, text_most, used, sizes, records, numbers}
-use Rattle.diff.specs.Passes.{recorded, surveyed, reached, walked}
+use Rattle.diff.specs.Passes.{surveyed, walked}
 use Rattle.replay.specs.Answers.{Diff, edits, text_of, plain, judged}
 use Rattle.diff.proofs.Decoding.{items_length}
-use Rattle.diff.proofs.Laws.{numbers_enough, kept_mentioned, replayed_length, added_used}
+use Rattle.diff.proofs.Laws.{picked_accepted, refused_by, answered_by, numbers_enough, kept_mentioned, replayed_length, added_used}
+use Rattle.std.specs.Prelude.{Result, Ok, Err}
 
--- what an answer of the survey says of the sizes and the records
-broken : (t : Bool) (v : Verdict) (n : ℕ) (r : Refusal) → pick t TooLong (recorded v n) ≡ Broken r → (t ≡ false) × (v ≡ Refused r)
-broken true v n r e = let z : true ≡ false = cc in (z, cc)
-broken false Accepted n r e = let z : true ≡ false = cc in (refl, cc)
-broken false (Refused q) n r e = (refl, cc)
-
-in_use : (t : Bool) (v : Verdict) (n m : ℕ) → pick t TooLong (recorded v n) ≡ Used m → (t ≡ false) × (v ≡ Accepted) × (n ≡ m)
-in_use true v n m e = let z : true ≡ false = cc in (z, cc, cc)
-in_use false Accepted n m e = (refl, refl, cc)
-in_use false (Refused q) n m e = let z : true ≡ false = cc in (refl, cc, cc)
-
-too_long : (t : Bool) (v : Verdict) (n : ℕ) → pick t TooLong (recorded v n) ≡ TooLong → t ≡ true
-too_long true v n e = refl
-too_long false Accepted n e = cc
-too_long false (Refused q) n e = cc
-
--- what an answer of the walk says of the numbers
-short : (v : Verdict) (p k : ℕ) (r : Refusal) → reached v p k ≡ Short r → v ≡ Refused r
-short Accepted p k r e = cc
-short (Refused q) p k r e = cc
-
-all_there : (v : Verdict) (p k p' k' : ℕ) → reached v p k ≡ Reached p' k' → (v ≡ Accepted) × (p ≡ p') × (k ≡ k')
-all_there Accepted p k p' k' e = (refl, cc, cc)
-all_there (Refused q) p k p' k' e = (cc, cc, cc)
+-- tests of sizes, of which one of the first three is passed
+passes :
+    (a b c e : Bool) → (a ≡ true) ⊎ ((b ≡ true) ⊎ (c ≡ true))
+    → and_then (refuse_if a Size) (and_then (refuse_if b Size) (and_then (refuse_if c Size) (refuse_if e Size))) ≡ Err Size
+passes true b c e h = refl
+passes false true c e h = refl
+passes false false true e h = refl
+passes false false false e (inl h) = cc
+passes false false false e (inr (inl h)) = cc
+passes false false false e (inr (inr h)) = cc
 
 -- a walk that ends, ends within the original, and retains no more than it passes
-pub reached_within : (len : ℕ) (es : List Edit) {at k : ℕ} → walked len es ≡ Reached at k → (at ≤ len) × (k ≤ at)
+pub reached_within : (len : ℕ) (es : List Edit) {w : Reached} → walked len es ≡ Ok w → (w.position ≤ len) × (w.kept ≤ w.position)
 unfolding walked
-reached_within len es {at} {k} w =
-    let v = all_there (numbers 0 len es) (mentioned es) (kept es) at k w in
-    (omega (arith, v.1, numbers_enough 0 len es v.0), omega (arith, v.1, v.2, kept_mentioned es))
+reached_within len es {w} e =
+    let v = answered_by (numbers 0 len es) _ w e in
+    rw (← v.1) (numbers_enough 0 len es v.0, kept_mentioned es)
 
 -- what is used passes no limit
-pub used_within : (is : List Item) {n : ℕ} → surveyed is ≡ Used n → n ≤ text_most
+pub used_within : (is : List Item) {n : ℕ} → surveyed is ≡ Ok (Ok n) → n ≤ text_most
 unfolding surveyed
 used_within is {n} e =
-    let v = in_use (ltb text_most (used is)) (records 0 is) (used is) n e in
-    omega (arith, v.2, ltb-false text_most (used is) v.0)
+    let v = answered_by (refuse_if (ltb text_most (used is)) Size) _ (Ok n) e in
+    let t = picked_accepted (ltb text_most (used is)) Size accepted v.0 in
+    let u = answered_by (records 0 is) (used is) n v.1 in
+    omega (arith, ltb-false text_most (used is) t.0)
 
 module _ (d : Diff) where
   abbrev is : List Item
   is = items_of d.items (length d.text)
 
-  pub long_original : original_most < length d.original → Stopped Size ≡ judged d
-  unfolding judged plain sizes and_then
-  long_original h = rw (lt-ltb _ _ h)
+  tests : (original_most < length d.original) ⊎ ((items_most < length d.items / 3) ⊎ (text_most < length d.text))
+      → (ltb original_most (length d.original) ≡ true) ⊎ ((ltb items_most (length is) ≡ true) ⊎ (ltb text_most (length d.text) ≡ true))
+  tests (inl h) = inl (lt-ltb _ _ h)
+  tests (inr (inl h)) = inr (inl (rw (items_length d.items (length d.text)) (lt-ltb _ _ h)))
+  tests (inr (inr h)) = inr (inr (lt-ltb _ _ h))
 
-  module _ (a : length d.original ≤ original_most) where
-    pub many_items : items_most < length d.items / 3 → Stopped Size ≡ judged d
-    unfolding judged plain sizes and_then
-    many_items h = rw (le-ltb _ _ a, items_length d.items (length d.text), lt-ltb _ _ h)
+  pub too_long : (original_most < length d.original) ⊎ ((items_most < length d.items / 3) ⊎ (text_most < length d.text)) → Err Size ≡ judged d
+  unfolding judged plain sizes
+  too_long h = rw (passes (ltb original_most (length d.original)) (ltb items_most (length is)) (ltb text_most (length d.text)) (ltb text_most (used is)) (tests h))
 
-    module _ (b : length d.items / 3 ≤ items_most) where
-      pub long_text : text_most < length d.text → Stopped Size ≡ judged d
-      unfolding judged plain sizes and_then
-      long_text h = rw (le-ltb _ _ a, items_length d.items (length d.text), le-ltb _ _ b, lt-ltb _ _ h)
+  module _ (a : length d.original ≤ original_most) (b : length d.items / 3 ≤ items_most) (c : length d.text ≤ text_most) where
+    sized : sizes d.original is d.text ≡ refuse_if (ltb text_most (used is)) Size
+    unfolding sizes
+    sized = rw (le-ltb _ _ a, items_length d.items (length d.text), le-ltb _ _ b, le-ltb _ _ c)
 
-      module _ (c : length d.text ≤ text_most) where
-        sized : {t : Bool} → ltb text_most (used is) ≡ t → sizes d.original is d.text ≡ refuse_if t Size
-        unfolding sizes and_then
-        sized e = rw (le-ltb _ _ a, items_length d.items (length d.text), le-ltb _ _ b, le-ltb _ _ c, e)
+    pub long_use : {r : Refusal} → surveyed is ≡ Err r → Err r ≡ judged d
+    unfolding judged plain surveyed
+    long_use e = rw (sized, refused_by _ _ _ e)
 
-        pub long_use : surveyed is ≡ TooLong → Stopped Size ≡ judged d
-        unfolding judged plain surveyed and_then
-        long_use e = rw (sized (too_long (ltb text_most (used is)) (records 0 is) (used is) e))
+    module _ {v : Result ℕ Refusal} (e : surveyed is ≡ Ok v) where
+      says : (sizes d.original is d.text ≡ accepted) × (and_then (records 0 is) (Ok (used is)) ≡ v)
+      unfolding surveyed
+      says = let w = answered_by (refuse_if (ltb text_most (used is)) Size) _ v e in (sized ∙ w.0, w.1)
 
-        -- with the sizes right, the code points are heard first, then the records, then the numbers
-        then-points :
-            ltb text_most (used is) ≡ false → {p : Verdict} → p ≡ points_verdict d.original d.text
-            → plain d ≡ and_then p (and_then (records 0 is) (numbers 0 (length d.original) (edits d)))
-        unfolding plain and_then
-        then-points e p = rw (sized e, p)
+      pub point_first : {r : Refusal} → points_verdict d.original d.text ≡ Err r → Err r ≡ judged d
+      unfolding judged plain
+      point_first p = rw (says.0, p)
 
-        module _ {r : Refusal} (e : surveyed is ≡ Broken r) where
-          says : (ltb text_most (used is) ≡ false) × (records 0 is ≡ Refused r)
-          unfolding surveyed
-          says = broken _ _ _ _ e
+      module _ (p : points_verdict d.original d.text ≡ accepted) where
+        pub record_broken : {r : Refusal} → v ≡ Err r → Err r ≡ judged d
+        unfolding judged plain
+        record_broken {r} f = rw (says.0, p, refused_by (records 0 is) (used is) r (says.1 ∙ f))
 
-          pub point_first : {q : Refusal} → Refused q ≡ points_verdict d.original d.text → Stopped q ≡ judged d
-          unfolding judged and_then
-          point_first p = rw (then-points says.0 p)
+        module _ {n : ℕ} (f : v ≡ Ok n) where
+          tells : (records 0 is ≡ accepted) × (used is ≡ n)
+          tells = answered_by (records 0 is) (used is) n (says.1 ∙ f)
 
-          pub record_broken : Accepted ≡ points_verdict d.original d.text → Stopped r ≡ judged d
-          unfolding judged and_then
-          record_broken p = rw (then-points says.0 p, says.1)
+          then_numbers : plain d ≡ numbers 0 (length d.original) (edits d)
+          unfolding plain
+          then_numbers = rw (says.0, p, tells.0)
 
-        module _ {n : ℕ} (e : surveyed is ≡ Used n) where
-          tells : (ltb text_most (used is) ≡ false) × (records 0 is ≡ Accepted) × (used is ≡ n)
-          unfolding surveyed
-          tells = in_use _ _ _ _ e
+          pub number_short : {r : Refusal} → walked (length d.original) (edits d) ≡ Err r → Err r ≡ judged d
+          unfolding judged walked
+          number_short {r} w = rw (then_numbers, refused_by _ _ r w)
 
-          pub point_bad : {q : Refusal} → Refused q ≡ points_verdict d.original d.text → Stopped q ≡ judged d
-          unfolding judged and_then
-          point_bad p = rw (then-points tells.0 p)
+          insertions : added (edits d) ≡ n
+          unfolding edits items_of
+          insertions = added_used d.items d.text 0 (length d.items / 3) ∙ tells.1
 
-          module _ (p : Accepted ≡ points_verdict d.original d.text) where
-            then_numbers : plain d ≡ numbers 0 (length d.original) (edits d)
-            unfolding and_then
-            then_numbers = rw (then-points tells.0 p, tells.1)
-
-            pub number_short : {r : Refusal} → walked (length d.original) (edits d) ≡ Short r → Stopped r ≡ judged d
-            unfolding judged walked
-            number_short {r} w =
-                let v : numbers 0 (length d.original) (edits d) ≡ Refused r = short (numbers 0 (length d.original) (edits d))
-                (mentioned (edits d)) (kept (edits d)) r w in
-                rw (then_numbers, v)
-
-            insertions : added (edits d) ≡ n
-            unfolding edits items_of
-            insertions = added_used d.items d.text 0 (length d.items / 3) ∙ tells.2
-
-            pub all_fine : {at k : ℕ} → walked (length d.original) (edits d) ≡ Reached at k → Fine (length d.original - at) (k + n) ≡ judged d
-            unfolding judged walked left text_of
-            all_fine {at} {k} w =
-                let v = all_there (numbers 0 (length d.original) (edits d)) (mentioned (edits d)) (kept (edits d)) at k w in
-                let m : length (replayed d.original (edits d)) ≡ k + n =
-                replayed_length d.original (edits d) (numbers_enough 0 (length d.original) (edits d) v.0) ∙ rw (v.2, insertions) in
-                rw (then_numbers, v.0, v.1, m)
+          pub all_fine :
+              {w : Reached} → walked (length d.original) (edits d) ≡ Ok w
+              → Ok (record { left = length d.original - w.position; length = w.kept + n }) ≡ judged d
+          unfolding judged walked left text_of
+          all_fine {w} g =
+              let v = answered_by (numbers 0 (length d.original) (edits d)) _ w g in
+              let m : length (replayed d.original (edits d)) ≡ kept (edits d) + n =
+              replayed_length d.original (edits d) (numbers_enough 0 (length d.original) (edits d) v.0) ∙ rw (insertions) in
+              rw (← v.1, then_numbers, v.0, m)

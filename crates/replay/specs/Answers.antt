@@ -1,17 +1,13 @@
 -- What the two replays answer, and what they leave in the room.
 -- Assumes nothing.
-use Rattle.std.specs.Prelude.{◌≡◌, ℕ, List, length, ℤ}
-use Rattle.refusal.specs.declared.Counted.{Counted}
-use Rattle.refusal.specs.declared.Counted.TheVariants.{Count, Refused as NoCount}
-use Rattle.verdict.specs.declared.Verdict.{Verdict}
-use Rattle.verdict.specs.declared.Verdict.TheVariants.{Accepted, Refused}
-use Rattle.verdict.specs.Verdicts.{and_then, leaves}
+use Rattle.std.specs.Prelude.{◌≡◌, ℕ, List, length, ℤ, Result, Ok}
+use Rattle.verdict.specs.Verdicts.{and_then, leaves, Verdict, accepted}
 use Rattle.verdict.specs.Points.{points_verdict}
 use Rattle.diff.specs.Items.{items_of}
 use Rattle.replay.specs.declared.Judged.{Judged}
-use Rattle.replay.specs.declared.Judged.TheVariants.{Fine, Stopped}
 use Rattle.diff.specs.Replay.{Edit, edits_of, replayed, left}
 use Rattle.diff.specs.Checks.{sizes, records, numbers, covers, fits}
+use Rattle.refusal.specs.declared.Refusal.{Refusal}
 
 -- "diff items .. with .. code points of text": a diff as lent: the original, the numbers of the items, their text
 pub record Diff : Type 0 where
@@ -44,31 +40,25 @@ covering d = and_then (plain d) (covers (length d.original) (edits d))
 
 -- a diff whose checks are done
 unfoldable pub always : Diff → Verdict
-always d = Accepted
+always d = accepted
 
 -- "All others: the exact length of the answer": the room is checked after all else
 unfoldable pub roomed : (Diff → Verdict) → Diff → List ℕ → Verdict
 roomed check d room = and_then (check d) (fits (length (text_of d)) room)
 
 -- "its result, numbers of a refusal included": the length, or the refusal
-abbrev pub counted : Verdict → ℕ → Counted
-counted Accepted n = Count n
-counted (Refused r) n = NoCount r
+abbrev pub counted : Verdict → ℕ → Result ℕ Refusal
+counted v n = and_then v (Ok n)
 
 -- "the exact length of the answer": that of the replayed text alone
-unfoldable pub length_of : (Diff → Verdict) → Diff → Counted
+unfoldable pub length_of : (Diff → Verdict) → Diff → Result ℕ Refusal
 length_of check d = counted (check d) (length (text_of d))
 
 -- "A public call's statement covers its result, numbers of a refusal included, and the lent buffers": a replay with its checks, into a room
-pub record Replayed (check : Diff → Verdict) (d : Diff) (room : List ℕ) (r : Counted) (room' : List ℕ) : Type 0 where
+pub record Replayed (check : Diff → Verdict) (d : Diff) (room : List ℕ) (r : Result ℕ Refusal) (room' : List ℕ) : Type 0 where
   pub answer : r ≡ counted (roomed check d room) (length (text_of d))
   pub leaving : room' ≡ leaves (roomed check d room) (text_of d) room
 
 -- what the checks of a plain replay find, for both replays to go on with
-abbrev pub found : Verdict → ℕ → ℕ → Judged
-found Accepted l n = Fine l n
-found (Refused r) l n = Stopped r
-
--- the same, of a lent diff
-unfoldable pub judged : Diff → Judged
-judged d = found (plain d) (left (length d.original) (edits d)) (length (text_of d))
+unfoldable pub judged : Diff → Result Judged Refusal
+judged d = and_then (plain d) (Ok (record { left = left (length d.original) (edits d); length = length (text_of d) }))

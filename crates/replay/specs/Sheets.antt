@@ -1,17 +1,16 @@
 -- The bench sheets of a replay, as a table.
 -- Assumes nothing.
-use Rattle.std.specs.Prelude.{◌≡◌, ℕ, List, [], ◌∷◌, pos, negsuc}
+use Rattle.std.specs.Prelude.{◌≡◌, ℕ, List, [], ◌∷◌, pos, negsuc, Result, Ok, Err}
 use Rattle.refusal.specs.declared.Refusal.TheVariants.{Short, Unmentioned}
-use Rattle.refusal.specs.declared.Counted.{Counted}
-use Rattle.refusal.specs.declared.Counted.TheVariants.{Count, Refused}
 use Rattle.replay.specs.Answers.{Diff, diff, text_of, plain, covering, length_of}
+use Rattle.refusal.specs.declared.Refusal.{Refusal}
 
 -- a diff with the plain answer, the text where there is one, and the covering answer
 pub record Sheet : Type 0 where
   pub lent : Diff
-  pub plainly : Counted
+  pub plainly : Result ℕ Refusal
   pub text : List ℕ
-  pub coveringly : Counted
+  pub coveringly : Result ℕ Refusal
 
 -- the original of all rows
 abbrev pub abcde : List ℕ
@@ -23,21 +22,21 @@ unfoldable pub table : List Sheet
 table =
     record {
       lent = diff abcde (pos 0 ∷ pos 2 ∷ pos 0 ∷ pos 1 ∷ pos 0 ∷ pos 1 ∷ pos 0 ∷ negsuc 1 ∷ pos 0 ∷ []) (88 ∷ []);
-      plainly = Count 3;
+      plainly = Ok 3;
       text = 97 ∷ 98 ∷ 88 ∷ [];
-      coveringly = Refused (Unmentioned 1);
+      coveringly = Err (Unmentioned 1);
     }
     ∷ record {
       lent = diff abcde (pos 0 ∷ pos 3 ∷ pos 0 ∷ pos 0 ∷ negsuc 2 ∷ pos 0 ∷ []) [];
-      plainly = Refused (Short 3 3 2);
+      plainly = Err (Short 3 3 2);
       text = 97 ∷ 98 ∷ 99 ∷ [];
-      coveringly = Refused (Short 3 3 2);
+      coveringly = Err (Short 3 3 2);
     }
     ∷ record {
       lent = diff abcde (pos 0 ∷ negsuc 9223372036854775807 ∷ pos 0 ∷ []) [];
-      plainly = Refused (Short 0 9223372036854775808 5);
+      plainly = Err (Short 0 9223372036854775808 5);
       text = [];
-      coveringly = Refused (Short 0 9223372036854775808 5);
+      coveringly = Err (Short 0 9223372036854775808 5);
     }
     ∷ []
 

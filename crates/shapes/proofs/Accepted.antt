@@ -15,8 +15,7 @@ use Rattle.records.specs.declared.Operation.{Operation}
 use Rattle.records.specs.declared.Token.{Token}
 use Rattle.records.specs.declared.Cursor.{Cursor}
 use Rattle.records.specs.Tokens.{tokens_lent, tokens_from, spell, spelled, tokens_length}
-use Rattle.records.proofs.Tokens.{length_spell}
-use Rattle.verdict.specs.declared.Verdict.TheVariants.{Accepted, Refused}
+use Rattle.records.proofs.TokenLaws.{length_spell}
 use Rattle.sizes.specs.declared.Limits.{Limits}
 use Rattle.sizes.specs.Texts.{total, in_text, run_text, run_lent, inserted_by, retained_by, text_length, text_from, list_text}
 use Rattle.sizes.specs.Sizes.{Small, lent_fits, list_fits}
@@ -28,15 +27,17 @@ use Rattle.shapes.specs.Accepted.{Tiles, AllIn, Insert, Part, Shapes, AcceptedLi
 use Rattle.room.proofs.Choices.{no_way}
 use Rattle.room.proofs.Bools.{and_left, and_right}
 use Rattle.verdict.proofs.Chains.{never, went}
+use Rattle.std.specs.Prelude.{Err}
+use Rattle.verdict.specs.Verdicts.{accepted}
 
 -- tiling
 
-pub tiles_of : (n : ℕ) (os : List Operation) (i at : ℕ) → tiling_from n os i at ≡ Accepted → Tiles n os at
+pub tiles_of : (n : ℕ) (os : List Operation) (i at : ℕ) → tiling_from n os i at ≡ accepted → Tiles n os at
 unfolding tiling_from Tiles
 tiles_of n [] i at h =
     elim (ℕ_discrete at n) [
       | yes e ↦ e
-      | no e ↦ let z : Refused (R.Tiling i) ≡ Accepted = rw (ne_eqb at n e, tiling_from) at h in never z
+      | no e ↦ let z : Err (R.Tiling i) ≡ accepted = rw (ne_eqb at n e, tiling_from) at h in never z
     ]
 tiles_of n (o ∷ os) i at h =
     elim (ℕ_discrete o.kind 1) [
@@ -49,16 +50,16 @@ tiles_of n (o ∷ os) i at h =
                       rw (ne_eqb o.kind 1 k, Tiles)
                       (q, (w, tiles_of n os (i + 1) (at + o.length) (rw (ne_eqb o.kind 1 k, eq-eqb o.order at q, le-leb (at + o.length) n w, tiling_from) at h)))
                   | no w ↦
-                      let z : Refused (R.Tiling i) ≡ Accepted =
+                      let z : Err (R.Tiling i) ≡ accepted =
                       rw (ne_eqb o.kind 1 k, eq-eqb o.order at q, lt-leb (at + o.length) n (omega arith), tiling_from) at h
                       in
                       never z
                 ]
-            | no q ↦ let z : Refused (R.Tiling i) ≡ Accepted = rw (ne_eqb o.kind 1 k, ne_eqb o.order at q, tiling_from) at h in never z
+            | no q ↦ let z : Err (R.Tiling i) ≡ accepted = rw (ne_eqb o.kind 1 k, ne_eqb o.order at q, tiling_from) at h in never z
           ]
     ]
 
-pub tiling_yes : (n : ℕ) (os : List Operation) (i at : ℕ) → Tiles n os at → tiling_from n os i at ≡ Accepted
+pub tiling_yes : (n : ℕ) (os : List Operation) (i at : ℕ) → Tiles n os at → tiling_from n os i at ≡ accepted
 unfolding Tiles tiling_from
 tiling_yes n [] i at h = rw (eq-eqb at n h, tiling_from)
 tiling_yes n (o ∷ os) i at h =
@@ -139,7 +140,7 @@ module _ (n : ℕ) (spans keys : List ℕ) (o : Operation) where
         | no s ↦ let z : false ≡ true = rw (le-ltb o.side 2 (omega arith)) at h in no_way z
       ]
 
-pub shapes_of : (n : ℕ) (spans keys : List ℕ) (os : List Operation) (i : ℕ) → records_from n spans keys os i ≡ Accepted → Shapes n spans keys os
+pub shapes_of : (n : ℕ) (spans keys : List ℕ) (os : List Operation) (i : ℕ) → records_from n spans keys os i ≡ accepted → Shapes n spans keys os
 unfolding records_from Shapes
 shapes_of n spans keys [] i h = tt
 shapes_of n spans keys (o ∷ os) i h =
@@ -170,21 +171,21 @@ module _ (n : ℕ) (spans keys : List ℕ) where
       ))
       p.kind
 
-  pub records_yes : (os : List Operation) (i : ℕ) → Shapes n spans keys os → records_from n spans keys os i ≡ Accepted
+  pub records_yes : (os : List Operation) (i : ℕ) → Shapes n spans keys os → records_from n spans keys os i ≡ accepted
   unfolding Shapes records_from
   records_yes [] i h = refl
   records_yes (o ∷ os) i h = rw (record_yes o h.0 h.1.0, records_from) (records_yes os (i + 1) h.1.1)
 
 -- cursors
 
-pub within_of : (e : ℕ) (cs : List Cursor) (i : ℕ) → within_from e cs i ≡ Accepted → Within e cs
+pub within_of : (e : ℕ) (cs : List Cursor) (i : ℕ) → within_from e cs i ≡ accepted → Within e cs
 unfolding within_from Within
 within_of e [] i h = tt
 within_of e (c ∷ cs) i h =
     let w = went (leb c.index e) (within_from e cs (i + 1)) (R.Cursor i) h in
     (leb-true c.index e w.0, within_of e cs (i + 1) w.1)
 
-pub within_yes : (e : ℕ) (cs : List Cursor) (i : ℕ) → Within e cs → within_from e cs i ≡ Accepted
+pub within_yes : (e : ℕ) (cs : List Cursor) (i : ℕ) → Within e cs → within_from e cs i ≡ accepted
 unfolding Within within_from
 within_yes e [] i h = refl
 within_yes e (c ∷ cs) i h = rw (le-leb c.index e h.0, within_from) (within_yes e cs (i + 1) h.1)
@@ -193,14 +194,14 @@ within_yes e (c ∷ cs) i h = rw (le-leb c.index e h.0, within_from) (within_yes
 
 module _ (l : Limits) (original text spans keys : List ℕ) (os : List Operation) (cs : List Cursor) where
   -- a sized list that tiles has a text below the cap of the code's sums
-  pub text_small : Small l → lent_fits original text ≡ true → list_fits l (length text) spans keys os cs ≡ true → tiling_of (length original) os ≡ Accepted
+  pub text_small : Small l → lent_fits original text ≡ true → list_fits l (length text) spans keys os cs ≡ true → tiling_of (length original) os ≡ accepted
       → text_length (length text) spans keys os < 1000000
   text_small s f g t =
       let z = sized_of l original text spans keys os cs f g in
       omega (arith, z.original_most, z.inserted_most, s.text, retained_most (length original) os 0 (tiles_of (length original) os 0 0 t))
 
-  pub list_facts : lent_fits original text ≡ true → list_fits l (length text) spans keys os cs ≡ true → records_from (length text) spans keys os 0 ≡ Accepted
-      → tiling_of (length original) os ≡ Accepted → within_from (text_length (length text) spans keys os) cs 0 ≡ Accepted
+  pub list_facts : lent_fits original text ≡ true → list_fits l (length text) spans keys os cs ≡ true → records_from (length text) spans keys os 0 ≡ accepted
+      → tiling_of (length original) os ≡ accepted → within_from (text_length (length text) spans keys os) cs 0 ≡ accepted
       → AcceptedList l original text spans keys os cs
   list_facts f g r t w =
       let z = sized_of l original text spans keys os cs f g in

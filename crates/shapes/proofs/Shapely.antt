@@ -16,10 +16,11 @@ use Rattle.records.specs.declared.Token.{Token}
 use Rattle.records.specs.Operations.{operation_at, operations_from, operations_of}
 use Rattle.records.specs.Tokens.{token_at, tokens_from}
 use Rattle.records.proofs.Operations as O
-use Rattle.records.proofs.Tokens as T
-use Rattle.verdict.specs.declared.Verdict.TheVariants.{Accepted, Refused}
+use Rattle.records.proofs.TokenLaws as T
 use Rattle.sizes.specs.Texts.{in_text, run_lent}
 use Rattle.shapes.specs.Shapes.{run_good, is_run, is_record, records_from}
+use Rattle.std.specs.Prelude.{Err}
+use Rattle.verdict.specs.Verdicts.{accepted}
 
 -- the tokens of a run
 
@@ -113,10 +114,10 @@ module _ {n : ℕ} {spans keys xs : List ℕ} {count i : ℕ} (h : Recording n s
     unfolding records_from
     records_on b = record { most = omega arith; rest = rw (b, records_from) at whole_from }
 
-    pub records_bad : is_record n spans keys o ≡ false → Refused (Record i) ≡ records_from n spans keys (operations_of xs) 0
+    pub records_bad : is_record n spans keys o ≡ false → Err (Record i) ≡ records_from n spans keys (operations_of xs) 0
     unfolding records_from
     records_bad b = rw (b, records_from) at whole_from
 
-  pub records_end : count ≤ i → Accepted ≡ records_from n spans keys (operations_of xs) 0
+  pub records_end : count ≤ i → accepted ≡ records_from n spans keys (operations_of xs) 0
   unfolding records_from
   records_end l = rw (O.from_none xs i count l) at h.rest

@@ -14,8 +14,9 @@ use Rattle.records.specs.Operations.{operation_at, operations_from, operations_o
 use Rattle.records.specs.Cursors.{cursor_at, cursors_from, cursors_of}
 use Rattle.records.proofs.Operations as O
 use Rattle.records.proofs.Cursors as C
-use Rattle.verdict.specs.declared.Verdict.TheVariants.{Accepted, Refused}
 use Rattle.shapes.specs.Tiling.{tiling_from, tiling_of, within_from}
+use Rattle.std.specs.Prelude.{Err}
+use Rattle.verdict.specs.Verdicts.{accepted}
 
 pub record Tiled (n : ℕ) (xs : List ℕ) (count i at : ℕ) : Type 0 where
   pub most : i ≤ count
@@ -36,11 +37,11 @@ module _ {n : ℕ} {xs : List ℕ} {count i at : ℕ} (h : Tiled n xs count i at
     tiled_insert k = record { most = omega arith; inside = h.inside; rest = rw (eq-eqb _ _ k, tiling_from) at here }
 
     module _ (k : o.kind ≡ 1 → ⊥) where
-      pub tiled_order : (o.order ≡ at → ⊥) → Refused (R.Tiling i) ≡ tiling_of n (operations_of xs)
+      pub tiled_order : (o.order ≡ at → ⊥) → Err (R.Tiling i) ≡ tiling_of n (operations_of xs)
       unfolding tiling_from
       tiled_order q = rw (ne_eqb _ _ k, ne_eqb _ _ q, tiling_from) at here
 
-      pub tiled_long : o.order ≡ at → n - at < o.length → Refused (R.Tiling i) ≡ tiling_of n (operations_of xs)
+      pub tiled_long : o.order ≡ at → n - at < o.length → Err (R.Tiling i) ≡ tiling_of n (operations_of xs)
       unfolding tiling_from
       tiled_long q g = rw (ne_eqb _ _ k, eq-eqb _ _ q, lt-leb (at + o.length) n (omega (arith, h.inside)), tiling_from) at here
 
@@ -54,11 +55,11 @@ module _ {n : ℕ} {xs : List ℕ} {count i at : ℕ} (h : Tiled n xs count i at
     none : tiling_from n [] i at ≡ tiling_of n (operations_of xs)
     none = rw (O.from_none xs i count l) at h.rest
 
-    pub tiled_end : at ≡ n → Accepted ≡ tiling_of n (operations_of xs)
+    pub tiled_end : at ≡ n → accepted ≡ tiling_of n (operations_of xs)
     unfolding tiling_from
     tiled_end q = rw (eq-eqb _ _ q, tiling_from) at none
 
-    pub tiled_short : (at ≡ n → ⊥) → Refused (R.Tiling count) ≡ tiling_of n (operations_of xs)
+    pub tiled_short : (at ≡ n → ⊥) → Err (R.Tiling count) ≡ tiling_of n (operations_of xs)
     unfolding tiling_from
     tiled_short q =
         let e : i ≡ count = omega (arith, h.most) in
@@ -83,10 +84,10 @@ module _ {end : ℕ} {xs : List ℕ} {count i : ℕ} (h : Marking end xs count i
     unfolding within_from
     marks_on g = record { most = omega arith; rest = rw (le-leb _ _ g, within_from) at mark }
 
-    pub marks_past : end < c.index → Refused (R.Cursor i) ≡ within_from end (cursors_of xs) 0
+    pub marks_past : end < c.index → Err (R.Cursor i) ≡ within_from end (cursors_of xs) 0
     unfolding within_from
     marks_past g = rw (lt-leb _ _ g, within_from) at mark
 
-  pub marks_end : count ≤ i → Accepted ≡ within_from end (cursors_of xs) 0
+  pub marks_end : count ≤ i → accepted ≡ within_from end (cursors_of xs) 0
   unfolding within_from
   marks_end l = rw (C.from_none xs i count l) at h.rest

@@ -1,12 +1,11 @@
 -- Refusal 1. Assumes nothing.
-use Rattle.std.specs.Prelude.{ℕ, ◌+◌, Bool, true, false, ◌&&◌, ◌||◌, List, [], ◌∷◌, eqb, ltb}
+use Rattle.std.specs.Prelude.{ℕ, ◌+◌, Bool, true, false, ◌&&◌, ◌||◌, List, [], ◌∷◌, eqb, ltb, Err}
 use Rattle.refusal.specs.declared.Refusal.TheVariants.{Record}
 use Rattle.records.specs.declared.Operation.{Operation}
 use Rattle.records.specs.declared.Token.{Token}
 use Rattle.records.specs.Tokens.{tokens_from}
-use Rattle.verdict.specs.declared.Verdict.{Verdict}
-use Rattle.verdict.specs.declared.Verdict.TheVariants.{Accepted, Refused}
 use Rattle.sizes.specs.Texts.{in_text, run_lent}
+use Rattle.verdict.specs.Verdicts.{Verdict, accepted}
 
 -- "token of length 0", "token .. outside what was lent": no token is so
 unfoldable pub run_good : ℕ → List Token → Bool
@@ -25,6 +24,6 @@ is_record n spans keys o =
 
 -- "1: .. Carries: index of first such operation": from operation i on
 unfoldable pub records_from : ℕ → List ℕ → List ℕ → List Operation → ℕ → Verdict
-records_from n spans keys [] i = Accepted
+records_from n spans keys [] i = accepted
 records_from n spans keys (o ∷ os) i =
-    elim (is_record n spans keys o) [ true ↦ records_from n spans keys os (i + 1) | false ↦ Refused (Record i) ]
+    elim (is_record n spans keys o) [ true ↦ records_from n spans keys os (i + 1) | false ↦ Err (Record i) ]

@@ -5,7 +5,6 @@ use Rattle.numbers.specs.Points.{is_point}
 use Rattle.records.specs.Tokens.{tokens_from}
 use Rattle.overlap.proofs.Sheets.{sheets_hold as overlaps-hold}
 use Rattle.replay.proofs.Sheets.{sheets as replays-hold}
-use Rattle.verdict.specs.Verdicts.{and_then, sized}
 use Rattle.verdict.specs.Points.{points_from}
 use Rattle.sizes.specs.Texts.{total, run_text}
 use Rattle.shapes.specs.Shapes.{run_good, records_from}
@@ -18,7 +17,7 @@ use Rattle.sheets.specs.Sheets.{Accepts, Sheets}
 use Rattle.sheets.proofs.Lines.{lines_hold}
 
 merges_accepted : Accepts sheets
-unfolding lists_verdict and_then sized points_from is_point records_from run_good tiling_from within_from total run_text tokens_from
+unfolding lists_verdict points_from is_point records_from run_good tiling_from within_from total run_text tokens_from
 merges_accepted = (refl, (refl, (refl, tt)))
 
 pub all : Sheets

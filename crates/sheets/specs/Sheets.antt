@@ -3,18 +3,18 @@ use Rattle.std.specs.Prelude.{◌≡◌, List, [], ◌∷◌, map, length}
 use Rattle.overlap.specs.Overlap.{answer_of}
 use Rattle.overlap.specs.Sheets as overlaps
 use Rattle.replay.specs.Sheets as replays
-use Rattle.verdict.specs.declared.Verdict.TheVariants.{Accepted}
 use Rattle.sizes.specs.Sizes.{merging}
 use Rattle.checks.specs.Lists.{lists_verdict}
 use Rattle.merging.specs.Sheets as merges
 use Rattle.apply.specs.Sheets as views
 use Rattle.sheets.specs.Lines as program
+use Rattle.verdict.specs.Verdicts.{accepted}
 
 -- "Order for lists: 3, 4, 1, 2, 5, 7": the merge refuses no row
 abbrev pub Accepts : List merges.Sheet → Type 0
 Accepts [] = Unit
 Accepts (s ∷ ss) =
-    (lists_verdict merging s.lent.original s.lent.inserted s.lent.spans s.lent.keys s.left s.right s.left_cursors s.right_cursors ≡ Accepted)
+    (lists_verdict merging s.lent.original s.lent.inserted s.lent.spans s.lent.keys s.left s.right s.left_cursors s.right_cursors ≡ accepted)
     × Accepts ss
 
 -- "★ proved, one statement over the table"

@@ -11,19 +11,14 @@ pub fn abcdef() -> bool {
 }
 
 pub fn nothing() -> bool {
-    writes(
-        b"",
-        b"form=1\noriginal=0\nresult=0\nitems=0\nend=0\n",
-        b"form=1\noriginal=0\nresult=0\nitems=0\nend=0\n",
-        b"form=1\noriginal=0\nresult=0\nitems=0\nend=0\n",
-    )
+    let none = b"form=1\noriginal=0\nresult=0\nitems=0\nend=0\n";
+    writes(b"", none, none, none)
 }
 
 fn writes(original: &[u8], left: &[u8], right: &[u8], due: &[u8]) -> bool {
     let mut out = [0u8; 256];
     match merge_files(original, left, right, &mut out) {
-        Outcome::Merged(n) => n == due.len() && vectors::same_u8(&out, due, n),
-        Outcome::Refused(_) => false,
-        Outcome::Room => false,
+        Outcome::Merged(n) => n == due.len() && out.starts_with(due),
+        Outcome::Refused(_) | Outcome::Room => false,
     }
 }

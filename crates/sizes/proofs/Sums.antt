@@ -15,7 +15,7 @@ use Rattle.records.specs.declared.Token.{Token}
 use Rattle.records.specs.Operations.{operation_at, operations_from, operations_of}
 use Rattle.records.specs.Tokens.{tokens_lent, token_at, tokens_from}
 use Rattle.records.proofs.Operations as O
-use Rattle.records.proofs.Tokens as T
+use Rattle.records.proofs.TokenLaws as T
 use Rattle.sizes.specs.Texts.{total, in_text, run_text, run_lent, inserted_by, retained_by}
 use Rattle.numbers.proofs.Orders.{leb_same}
 

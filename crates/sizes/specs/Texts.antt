@@ -1,5 +1,5 @@
 -- How much text a list has, counted, and that text. Assumes nothing.
-use Rattle.std.specs.Prelude.{ℕ, ◌+◌, Bool, true, false, ◌&&◌, List, [], ◌∷◌, ◌++◌, eqb, leb, take, drop}
+use Rattle.std.specs.Prelude.{◌≡◌, ℕ, ◌+◌, min, Bool, true, false, ◌&&◌, List, [], ◌∷◌, ◌++◌, eqb, leb, take, drop}
 use Rattle.room.specs.Choice.{pick}
 use Rattle.records.specs.declared.Operation.{Operation}
 use Rattle.records.specs.declared.Token.{Token}
@@ -9,6 +9,10 @@ use Rattle.records.specs.Tokens.{tokens_lent, tokens_from, spelling}
 unfoldable pub total : (Operation → ℕ) → List Operation → ℕ
 total f [] = 0
 total f (o ∷ os) = f o + total f os
+
+-- a measure of operations gives what f says, as far as the cap tells
+abbrev pub Measures : {M : Type 0} → (M → Operation → ℕ → Type 0) → M → (Operation → ℕ) → Type 0
+Measures post m f = (o : Operation) (y : ℕ) → post m o y → min 1000000 y ≡ min 1000000 (f o)
 
 -- "token or range outside what was lent": inside exactly when its end is not above what was lent, n code points
 abbrev pub in_text : ℕ → Token → Bool

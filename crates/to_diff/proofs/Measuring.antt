@@ -5,6 +5,7 @@ use mathlib.Core.Path.{◌≡◌, refl, sym, ◌∙◌, ap}
 use mathlib.Core.Bool.{Bool, true, false}
 use mathlib.Core.List.{List, [], ◌∷◌}
 use native.Mathlib.Omega.{arith}
+use native.Mathlib.Nat.{sub-zero}
 use lib.ListN.{length}
 use Rattle.merging.specs.Lent.{lent_of}
 use Rattle.diff.specs.Replay.{Edit}
@@ -127,42 +128,38 @@ module _ (text spans keys : List ℕ) (os : List Operation) where
         record { at = h.at + 0; many = omega arith; adds = omega arith; spells = (rw e at h.spells).1 }
 
 -- the loop, i of the operations being counted
-pub record Counting (text spans keys ops : List ℕ) (count i found size : ℕ) (j : Bool) : Type 0 where
-  pub whole : count ≡ length ops / 6
-  pub most : i ≤ count
-  pub left : Measuring text spans keys (operations_of ops) (operations_from ops i (count - i)) found size j
+pub record Counting (text spans keys ops : List ℕ) (i found size : ℕ) (j : Bool) : Type 0 where
+  pub left : Measuring text spans keys (operations_of ops) (operations_from ops i (length ops / 6 - i)) found size j
 
-module _ {text spans keys ops : List ℕ} {count : ℕ} where
-  pub count_begins : count ≡ length ops / 6 → Ready text spans keys (operations_of ops) → Counting text spans keys ops count 0 0 0 false
+module _ {text spans keys ops : List ℕ} where
+  pub count_begins : Ready text spans keys (operations_of ops) → Counting text spans keys ops 0 0 0 false
   unfolding operations_of
-  count_begins e h =
-      let z : count - 0 ≡ length ops / 6 = omega arith in
-      record { whole = e; most = omega arith; left = rw z (measure_begins text spans keys (operations_of ops) h) }
+  count_begins h = record { left = rw sub-zero (measure_begins text spans keys (operations_of ops) h) }
 
-  module _ {i found size : ℕ} {j : Bool} (h : Counting text spans keys ops count i found size j) where
-    pub count_ends : count ≤ i → Measures (items text spans keys (operations_of ops)) (record { items = found; text = size })
-    count_ends l = measure_ends text spans keys (operations_of ops) found size j (rw (from_none ops i count l) at h.left)
+  module _ {i found size : ℕ} {j : Bool} (h : Counting text spans keys ops i found size j) where
+    pub count_ends : length ops / 6 ≤ i → Measures (items text spans keys (operations_of ops)) (record { items = found; text = size })
+    count_ends l = measure_ends text spans keys (operations_of ops) found size j (rw (from_none ops i (length ops / 6) l) at h.left)
 
     pub count_few : Ready text spans keys (operations_of ops) → found ≤ 8192
     count_few y = omega (arith, h.left.many, y.many)
 
-    module _ (o : Operation) (l : i < count) (e : o ≡ operation_at ops i) where
+    module _ (o : Operation) (l : i < length ops / 6) (e : o ≡ operation_at ops i) where
       abbrev rest : List Operation
-      rest = operations_from ops (i + 1) (count - (i + 1))
+      rest = operations_from ops (i + 1) (length ops / 6 - (i + 1))
 
       next : Measuring text spans keys (operations_of ops) (o ∷ rest) found size j
-      next = rw (at_place ops i count o l e) at h.left
+      next = rw (at_place ops i (length ops / 6) o l e) at h.left
 
-      pub count_delete : o.kind ≡ 0 → Counting text spans keys ops count (i + 1) (found + 1) size false
-      count_delete k = record { whole = h.whole; most = omega arith; left = measure_delete text spans keys (operations_of ops) o rest found size j next k }
+      pub count_delete : o.kind ≡ 0 → Counting text spans keys ops (i + 1) (found + 1) size false
+      count_delete k = record { left = measure_delete text spans keys (operations_of ops) o rest found size j next k }
 
-      pub count_retain : (o.kind ≡ 1 → ⊥) → (o.kind ≡ 0 → ⊥) → j ≡ false → Counting text spans keys ops count (i + 1) (found + 1) size true
+      pub count_retain : (o.kind ≡ 1 → ⊥) → (o.kind ≡ 0 → ⊥) → j ≡ false → Counting text spans keys ops (i + 1) (found + 1) size true
       count_retain k m f =
-          record { whole = h.whole; most = omega arith; left = measure_retain text spans keys (operations_of ops) o rest found size j next k m f }
+          record { left = measure_retain text spans keys (operations_of ops) o rest found size j next k m f }
 
-      pub count_joined : (o.kind ≡ 1 → ⊥) → (o.kind ≡ 0 → ⊥) → j ≡ true → Counting text spans keys ops count (i + 1) found size j
+      pub count_joined : (o.kind ≡ 1 → ⊥) → (o.kind ≡ 0 → ⊥) → j ≡ true → Counting text spans keys ops (i + 1) found size j
       count_joined k m f =
-          record { whole = h.whole; most = omega arith; left = measure_joined text spans keys (operations_of ops) o rest found size j next k m f }
+          record { left = measure_joined text spans keys (operations_of ops) o rest found size j next k m f }
 
       pub count_spells : o.kind ≡ 1 → Spells text spans keys o.first o.count
       count_spells k = insert_spells text spans keys (operations_of ops) o rest found size j next k
@@ -176,6 +173,6 @@ module _ {text spans keys ops : List ℕ} {count : ℕ} where
           pub count_adds : size + r ≤ 131070
           count_adds = omega (arith, long, insert_adds text spans keys (operations_of ops) o rest found size j next k, y.adds)
 
-          pub count_insert : Counting text spans keys ops count (i + 1) (found + 1) (size + r) false
+          pub count_insert : Counting text spans keys ops (i + 1) (found + 1) (size + r) false
           count_insert =
-              record { whole = h.whole; most = omega arith; left = measure_insert text spans keys (operations_of ops) o rest found size j next k r long }
+              record { left = measure_insert text spans keys (operations_of ops) o rest found size j next k r long }

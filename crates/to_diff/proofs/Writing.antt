@@ -4,6 +4,7 @@ use Prim.Native.Nat.{ℕ, zero, suc, ◌+◌, ◌-◌, ◌*◌, ◌/◌, ◌≤�
 use mathlib.Core.Path.{◌≡◌, refl, sym, ◌∙◌, ap, subst}
 use mathlib.Core.List.{List, [], ◌∷◌, ◌++◌, append_assoc, append-nil}
 use native.Mathlib.Omega.{arith}
+use native.Mathlib.Nat.{sub-zero}
 use lib.ListN.{length, length-append}
 use lib.IntN.{ℤ}
 use Rattle.merging.specs.Lent.{lent_of}
@@ -335,40 +336,35 @@ module _
         }
 
 -- the loop, i of the operations being taken
-pub record Taking (text spans keys ops : List ℕ) (d₀ : List ℤ) (e₀ : List ℕ) (count i kept place at : ℕ) (d : List ℤ) (e : List ℕ) : Type 0 where
+pub record Taking (text spans keys ops : List ℕ) (d₀ : List ℤ) (e₀ : List ℕ) (i kept place at : ℕ) (d : List ℤ) (e : List ℕ) : Type 0 where
   pub n : ℕ
   pub few : n ≤ 65535
   pub many : length (items text spans keys (operations_of ops)) ≤ 8192
   pub fits : Fits (items text spans keys (operations_of ops)) d₀ e₀
-  pub whole : count ≡ length ops / 6
-  pub most : i ≤ count
-  pub left : Writing text spans keys (operations_of ops) n d₀ e₀ (operations_from ops i (count - i)) kept place at d e
+  pub left : Writing text spans keys (operations_of ops) n d₀ e₀ (operations_from ops i (length ops / 6 - i)) kept place at d e
 
-module _ {text spans keys ops : List ℕ} {d₀ : List ℤ} {e₀ : List ℕ} {count : ℕ} where
-  pub take_begins : count ≡ length ops / 6 → Ready text spans keys (operations_of ops) → Fits (items text spans keys (operations_of ops)) d₀ e₀
-      → Taking text spans keys ops d₀ e₀ count 0 0 0 0 d₀ e₀
+module _ {text spans keys ops : List ℕ} {d₀ : List ℤ} {e₀ : List ℕ} where
+  pub take_begins : Ready text spans keys (operations_of ops) → Fits (items text spans keys (operations_of ops)) d₀ e₀
+      → Taking text spans keys ops d₀ e₀ 0 0 0 0 d₀ e₀
   unfolding operations_of
-  take_begins e y f =
-      let z : count - 0 ≡ length ops / 6 = omega arith in
+  take_begins y f =
       record {
         n = y.n;
         few = y.few;
         many = y.many;
         fits = f;
-        whole = e;
-        most = omega arith;
-        left = rw z (write_begins text spans keys (operations_of ops) y.n d₀ e₀ y.tiled y.spells);
+        left = rw sub-zero (write_begins text spans keys (operations_of ops) y.n d₀ e₀ y.tiled y.spells);
       }
 
-  module _ {i kept place at : ℕ} {d : List ℤ} {e : List ℕ} (h : Taking text spans keys ops d₀ e₀ count i kept place at d e) where
-    pub take_first : (o : Operation) → i < count → o ≡ operation_at ops i
-        → Writing text spans keys (operations_of ops) h.n d₀ e₀ (o ∷ operations_from ops (i + 1) (count - (i + 1))) kept place at d e
-    take_first o l q = rw (at_place ops i count o l q) at h.left
+  module _ {i kept place at : ℕ} {d : List ℤ} {e : List ℕ} (h : Taking text spans keys ops d₀ e₀ i kept place at d e) where
+    pub take_first : (o : Operation) → i < length ops / 6 → o ≡ operation_at ops i
+        → Writing text spans keys (operations_of ops) h.n d₀ e₀ (o ∷ operations_from ops (i + 1) (length ops / 6 - (i + 1))) kept place at d e
+    take_first o l q = rw (at_place ops i (length ops / 6) o l q) at h.left
 
-    pub take_none : count ≤ i → Writing text spans keys (operations_of ops) h.n d₀ e₀ [] kept place at d e
-    take_none l = rw (from_none ops i count l) at h.left
+    pub take_none : length ops / 6 ≤ i → Writing text spans keys (operations_of ops) h.n d₀ e₀ [] kept place at d e
+    take_none l = rw (from_none ops i (length ops / 6) l) at h.left
 
-    pub take_again : {kept' place' at' : ℕ} {d' : List ℤ} {e' : List ℕ} → i < count
-        → Writing text spans keys (operations_of ops) h.n d₀ e₀ (operations_from ops (i + 1) (count - (i + 1))) kept' place' at' d' e'
-        → Taking text spans keys ops d₀ e₀ count (i + 1) kept' place' at' d' e'
-    take_again l w = record { n = h.n; few = h.few; many = h.many; fits = h.fits; whole = h.whole; most = omega arith; left = w }
+    pub take_again : {kept' place' at' : ℕ} {d' : List ℤ} {e' : List ℕ} → i < length ops / 6
+        → Writing text spans keys (operations_of ops) h.n d₀ e₀ (operations_from ops (i + 1) (length ops / 6 - (i + 1))) kept' place' at' d' e'
+        → Taking text spans keys ops d₀ e₀ (i + 1) kept' place' at' d' e'
+    take_again l w = record { n = h.n; few = h.few; many = h.many; fits = h.fits; left = w }

@@ -9,7 +9,7 @@ use Rattle.edit_format.specs.Items.{Item, Keep, Add, added, texts}
 use Rattle.edit_format.specs.Records.{record_of, records_of}
 use Rattle.merging.specs.Operations.{ops_from}
 use Rattle.merging.specs.Tiling.{Tiled, Inserts}
-use Rattle.to_diff.specs.declared.Sizes.{Sizes}
+use Rattle.item_records.specs.declared.Counts.{Counts}
 use Rattle.to_diff.specs.Items.{diff_of}
 
 -- "retains positive with neighbours joined": a joined retain that is not written yet; 0 is none
@@ -47,7 +47,7 @@ pub record Inserted (s : List ℕ) (place at : ℕ) (d d' : List ℤ) (e e' : Li
   pub stands : d' ≡ placed d (place * 3) (record_of at (Add s))
 
 -- how many items and code points
-pub record Measures (is : List Item) (r : Sizes) : Type 0 where
+pub record Measures (is : List Item) (r : Counts) : Type 0 where
   pub items : r.items ≡ length is
   pub text : r.text ≡ added is
 
@@ -57,7 +57,7 @@ pub record Fits (is : List Item) (d : List ℤ) (e : List ℕ) : Type 0 where
   pub text : added is ≤ length e
 
 -- what the writing leaves in both rooms, and counts
-pub record Wrote (is : List Item) (d : List ℤ) (e : List ℕ) (d' : List ℤ) (e' : List ℕ) (r : Sizes) : Type 0 where
+pub record Wrote (is : List Item) (d : List ℤ) (e : List ℕ) (d' : List ℤ) (e' : List ℕ) (r : Counts) : Type 0 where
   pub sizes : Measures is r
   pub items : d' ≡ answered (records_of is) d
   pub text : e' ≡ answered (texts is) e

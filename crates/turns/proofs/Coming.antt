@@ -1,5 +1,6 @@
 -- Shown: what `ahead_of` and `advance` answer, each way through them by itself.
 -- How: the records from a place on are one record and those behind it, or none.
+use Rattle.std.specs.Prelude.{Some, None}
 use Prim.Native.Nat.{ℕ, ◌+◌, ◌/◌, ◌≤◌, ◌<◌}
 use mathlib.Core.Path.{◌≡◌, refl, sym}
 use mathlib.Core.List.{List, [], ◌∷◌}
@@ -9,11 +10,10 @@ use Rattle.records.specs.Operations.{operation_at}
 use Rattle.records.proofs.Operations.{from_more, from_none}
 use Rattle.merging.specs.declared.Op.{Op}
 use Rattle.merging.specs.Operations.{span_of, op_of, ops_from}
-use Rattle.operation.specs.declared.Next.TheVariants.{Here, Done}
 use Rattle.numbers.specs.Sizes.{most}
 use Rattle.turns.specs.Looking.{list_from, FirstFits, Looks}
 
-never : {A : Type 0} (op : Op) → Here op ≡ Done → A
+never : {A : Type 0} (op : Op) → Some op ≡ None → A
 never op e = let z : ◌≡◌ {A = ℕ} 0 1 = cc in absurd (omega arith)
 
 module _ (ops : List ℕ) (behind at : ℕ) where
@@ -30,7 +30,7 @@ module _ (ops : List ℕ) (behind at : ℕ) where
   first_fits h f = rw (list_more h) at f
 
   pub looks_here : (op : Op) (end : ℕ) → behind < length ops / 6 → op ≡ op_of at (operation_at ops behind) → end ≡ at + span_of op
-      → Looks ops Done behind at (record { next = Here op; behind = behind + 1; at = end })
+      → Looks ops None behind at (record { next = Some op; behind = behind + 1; at = end })
   looks_here op end h eo ee =
       record {
         view = rw (ee, eo) (sym (list_more h));
@@ -38,8 +38,8 @@ module _ (ops : List ℕ) (behind at : ℕ) where
         from = λ p e. omega arith;
       }
 
-  pub looks_done : length ops / 6 ≤ behind → Looks ops Done behind at (record { next = Done; behind = behind; at = at })
+  pub looks_done : length ops / 6 ≤ behind → Looks ops None behind at (record { next = None; behind = behind; at = at })
   looks_done h = record { view = refl; ends = λ _. list_none h; from = λ p e. e }
 
-  pub looks_tail : (op : Op) → Looks ops (Here op) behind at (record { next = Here op; behind = behind; at = at })
+  pub looks_tail : (op : Op) → Looks ops (Some op) behind at (record { next = Some op; behind = behind; at = at })
   looks_tail op = record { view = refl; ends = never op; from = λ p e. e }

@@ -16,7 +16,7 @@ use Rattle.operation.specs.declared.Last.{Last}
 use Rattle.operation.specs.declared.Last.TheVariants.{Nothing, Deleted, Retained, Inserted}
 use Rattle.operation.specs.Views.{last_of, of_spans}
 use Rattle.operation.proofs.Meeting.{lengths_of_lem}
-use Rattle.turns.specs.declared.Memory.{Memory}
+use Rattle.operation.specs.declared.Memory.{Memory}
 use Rattle.turns.specs.Remembering.{Writable, Kept, Written, kept_from, Began, Rememberable, Remembers, Since}
 use Rattle.room.proofs.Placing.{placed_length}
 use Rattle.turns.proofs.Parts.{drop_take, placed_before, placed_behind, placed_holds}

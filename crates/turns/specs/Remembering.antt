@@ -9,7 +9,7 @@ use Rattle.operation.specs.declared.Last.{Last}
 use Rattle.operation.specs.declared.Last.TheVariants.{Nothing, Deleted, Retained, Inserted}
 use Rattle.numbers.specs.Sizes.{most}
 use Rattle.operation.specs.Views.{last_of, reach, LastFits, Keyed, Lies, tokens, of_spans}
-use Rattle.turns.specs.declared.Memory.{Memory}
+use Rattle.operation.specs.declared.Memory.{Memory}
 
 -- the tokens are lent, and the work room has place for their keys in its first half and for their lengths in its second
 pub record Writable (ss ks w : List ℕ) (first count fill half : ℕ) : Type 0 where

@@ -11,15 +11,15 @@ ghost use Rattle.turns.specs.Looking.{list_from, FirstFits, Looks};
 ghost use Rattle.turns.specs.Remembering.{Writable, Written, kept_from, Rememberable, Remembers};
 ghost use Rattle.turns.specs.Emitting.{record_by, Emits};
 
-use merging::{Op, span_of};
-use operation::{Last, Next};
-use records::Operation;
+use merging::Op;
+use operation::{Last, Memory};
+use records::{Operation, Tokens};
 
 // What is next on a side, the place of the record behind it, and the original text that the list
 // consumed before that one.
 #[derive(Clone, Copy)]
 pub struct Ahead {
-    pub next: Next,
+    pub next: Option<Op>,
     pub behind: usize,
     pub at: usize,
 }
@@ -27,18 +27,18 @@ pub struct Ahead {
 // The record at a place of a list, when the list consumed `at` of the original before it.
 pub fn ahead_of(operations: &[usize], behind: usize, at: usize) -> Ahead
     requires { FirstFits at (list_from operations.now behind at) }
-    ensures { Looks operations.now Next.Done behind at result }
+    ensures { Looks operations.now None behind at result }
 {
     if behind < operations.len() / 6 {
         let op = merging::op_of(at, records::operation_at(operations, behind));
         Ahead {
-            next: Next::Here(op),
+            next: Some(op),
             behind: behind + 1,
-            at: at + span_of(op),
+            at: at + op.span(),
         }
     } else {
         Ahead {
-            next: Next::Done,
+            next: None,
             behind,
             at,
         }
@@ -46,25 +46,18 @@ pub fn ahead_of(operations: &[usize], behind: usize, at: usize) -> Ahead
 }
 
 // What is next after a taken operation, of which a tail may stay.
-pub fn advance(operations: &[usize], tail: Next, behind: usize, at: usize) -> Ahead
+pub fn advance(operations: &[usize], tail: Option<Op>, behind: usize, at: usize) -> Ahead
     requires { FirstFits at (list_from operations.now behind at) }
     ensures { Looks operations.now tail behind at result }
 {
     match tail {
-        Next::Here(op) => Ahead {
+        Some(_) => Ahead {
             next: tail,
             behind,
             at,
         },
-        Next::Done => ahead_of(operations, behind, at),
+        None => ahead_of(operations, behind, at),
     }
-}
-
-// What is remembered of a side, and how far it has filled its part of the work room.
-#[derive(Clone, Copy)]
-pub struct Memory {
-    pub last: Last,
-    pub fill: usize,
 }
 
 // The lengths of tokens into the work room at a place.
@@ -72,30 +65,26 @@ pub fn put_lengths(spans: &[u32], first: usize, count: usize, work: &mut [u32], 
     requires { ((first + count) * 2 ≤ length spans.now) × (at + count ≤ length work.old) }
     ensures { work.new ≡ placed work.old at (lengths_of (of_spans spans.now) first count) }
 {
-    let mut i: usize = 0;
-    'lengths: while i < count {
+    'lengths: for i in 0..count {
         work[at + i] = spans[(first + i) * 2 + 1];
-        i += 1;
     }
 }
 
 // The keys of tokens into the work room, behind what the side remembers there, and their lengths
 // `half` after them.
 pub fn remember_tokens(
-    spans: &[u32],
-    keys: &[u32],
+    tokens: Tokens,
     first: usize,
     count: usize,
     work: &mut [u32],
     fill: usize,
     half: usize,
 )
-    requires { Writable spans.now keys.now work.old first count fill half }
-    ensures { Written spans.now keys.now work.old work.new first count fill half }
+    requires { Writable tokens.spans.now tokens.keys.now work.old first count fill half }
+    ensures { Written tokens.entry.spans.now tokens.entry.keys.now work.old work.new first count fill half }
 {
-    let end = first + count;
-    room::put_u32(&keys[first..end], work, fill);
-    put_lengths(spans, first, count, work, half + fill);
+    room::put(&tokens.keys[first..first + count], work, fill);
+    put_lengths(tokens.spans, first, count, work, half + fill);
 }
 
 // Where the remembered tokens start once those of an insert of this order are behind them: an insert
@@ -104,27 +93,23 @@ pub fn kept_from(last: Last, order: usize, fill: usize) -> usize
     ensures { result ≡ kept_from last order fill }
 {
     match last {
-        Last::Nothing => fill,
-        Last::Deleted { order: o, length } => fill,
-        Last::Retained { order: o, length } => fill,
-        Last::Inserted { order: o, from } => { if o == order { from } else { fill } }
+        Last::Inserted { order: o, from } if o == order => from,
+        _ => fill,
     }
 }
 
 // The result of a turn is remembered, even when empty.
 pub fn remember_operation(
-    spans: &[u32],
-    keys: &[u32],
+    tokens: Tokens,
     res: Op,
     memory: Memory,
     work: &mut [u32],
     half: usize,
 ) -> Memory
-    requires { Rememberable spans.now keys.now work.old half memory res }
-    ensures { Remembers spans.now keys.now work.old work.new half memory res result }
+    requires { Rememberable tokens.spans.now tokens.keys.now work.old half memory res }
+    ensures { Remembers tokens.entry.spans.now tokens.entry.keys.now work.old work.new half memory res result }
 {
     let fill = memory.fill;
-    let last = memory.last;
     match res {
         Op::Delete { order, length } => Memory {
             last: Last::Deleted { order, length },
@@ -135,11 +120,11 @@ pub fn remember_operation(
             first,
             count,
         } => {
-            remember_tokens(spans, keys, first, count, work, fill, half);
+            remember_tokens(tokens, first, count, work, fill, half);
             Memory {
                 last: Last::Inserted {
                     order,
-                    from: kept_from(last, order, fill),
+                    from: kept_from(memory.last, order, fill),
                 },
                 fill: fill + count,
             }
@@ -156,13 +141,8 @@ pub fn is_empty(a: Op) -> bool
     ensures { result ≡ empty_op a }
 {
     match a {
-        Op::Delete { order, length } => length == 0,
-        Op::Insert {
-            order,
-            first,
-            count,
-        } => count == 0,
-        Op::Retain { order, length } => length == 0,
+        Op::Insert { count, .. } => count == 0,
+        Op::Delete { length, .. } | Op::Retain { length, .. } => length == 0,
     }
 }
 
@@ -180,11 +160,7 @@ pub fn record_of(side: usize, consumed: usize, a: Op, text: usize) -> Operation
             first: 0,
             count: 0,
         },
-        Op::Insert {
-            order,
-            first,
-            count,
-        } => Operation {
+        Op::Insert { first, count, .. } => Operation {
             kind: 1,
             order: consumed,
             length: text,

@@ -7,58 +7,54 @@ ghost use Rattle.utf8_read.specs.Reading.{points};
 ghost use Rattle.utf8_write.specs.Writing.{encode_all};
 ghost use Rattle.utf8.specs.Answers.{read_length_of, read_of, write_length_of, write_of, Answered};
 
-use refusal::{Counted, Refusal};
+use refusal::Refusal;
 
 // How many code points bytes hold: the room to lend to `read`.
-pub fn read_length(bytes: &[u8]) -> Counted
+#[tactic(auto, using(crate::proofs::Ways::length_bad, crate::proofs::Ways::length_good))]
+pub fn read_length(bytes: &[u8]) -> Result<usize, Refusal>
     ensures { result ≡ read_length_of bytes.now }
-{
-    let end = utf8_read::good_end_of(bytes);
-    if end < bytes.len() {
-        return Counted::Refused(Refusal::Utf8 { offset: end });
-    }
-    Counted::Count(utf8_points::starts_of(bytes))
-}
-
-// The code points of bytes, at the start of a room.
-pub fn read(bytes: &[u8], out: &mut [u32]) -> Counted
-    ensures { Answered (read_of bytes.now (length out.old)) result (points bytes.now) out.old out.new }
 {
     let good = utf8_read::good_end_of(bytes);
     if good < bytes.len() {
-        return Counted::Refused(Refusal::Utf8 { offset: good });
+        return Err(Refusal::Utf8 { offset: good });
     }
-    let count = utf8_points::starts_of(bytes);
+    Ok(utf8_points::starts_of(bytes))
+}
+
+// The code points of bytes, at the start of a room.
+#[tactic(auto, using(crate::proofs::Ways::counted, crate::proofs::Ways::read_refused))]
+pub fn read(bytes: &[u8], out: &mut [u32]) -> Result<usize, Refusal>
+    ensures { Answered (read_of bytes.now (length out.old)) result (points bytes.now) out.old out.new }
+{
+    let count = read_length(bytes)?;
     if out.len() < count {
-        return Counted::Refused(Refusal::Room);
+        return Err(Refusal::Room);
     }
     utf8_points::fill(bytes, out);
-    Counted::Count(count)
+    Ok(count)
 }
 
 // How many bytes code points take: the room to lend to `write`.
-pub fn write_length(text: &[u32]) -> Counted
+#[tactic(auto, using(crate::proofs::Ways::width_bad, crate::proofs::Ways::width_good))]
+pub fn write_length(text: &[u32]) -> Result<usize, Refusal>
     ensures { result ≡ write_length_of text.now }
-{
-    let end = numbers::scalars_of(text);
-    if end < text.len() {
-        return Counted::Refused(Refusal::CodePoint { index: end });
-    }
-    Counted::Count(utf8_write::width_of(text))
-}
-
-// The bytes of code points, at the start of a room.
-pub fn write(text: &[u32], out: &mut [u8]) -> Counted
-    ensures { Answered (write_of text.now (length out.old)) result (encode_all text.now) out.old out.new }
 {
     let fine = numbers::scalars_of(text);
     if fine < text.len() {
-        return Counted::Refused(Refusal::CodePoint { index: fine });
+        return Err(Refusal::CodePoint { index: fine });
     }
-    let width = utf8_write::width_of(text);
+    Ok(utf8_write::width_of(text))
+}
+
+// The bytes of code points, at the start of a room.
+#[tactic(auto, using(crate::proofs::Ways::measured, crate::proofs::Ways::write_refused))]
+pub fn write(text: &[u32], out: &mut [u8]) -> Result<usize, Refusal>
+    ensures { Answered (write_of text.now (length out.old)) result (encode_all text.now) out.old out.new }
+{
+    let width = write_length(text)?;
     if out.len() < width {
-        return Counted::Refused(Refusal::Room);
+        return Err(Refusal::Room);
     }
     utf8_write::spill(text, out, width);
-    Counted::Count(width)
+    Ok(width)
 }

@@ -12,18 +12,14 @@ fn main() {
 }
 
 fn replay(name: &[u8], bytes: &[u8]) {
-    let mut tally = vectors::no_cases();
+    let mut tally = Tally::default();
     let mut index: usize = 0;
-    let mut at = 0;
-    'runs: while at < bytes.len() {
+    vectors::each_case(bytes.len(), |at| {
         let run = run_at(bytes, at, index, tally);
         tally = run.tally;
         index = run.index;
-        if run.next <= at {
-            break 'runs;
-        }
-        at = run.next;
-    }
+        run.next
+    });
     vectors::report(name, tally);
 }
 
@@ -37,46 +33,31 @@ struct Run {
 
 fn run_at(bytes: &[u8], at: usize, index: usize, tally: Tally) -> Run {
     let mut strings = [0usize; 1];
-    let strings_line = vectors::numbers_usize(bytes, at, &mut strings);
+    let strings_line = vectors::numbers(bytes, at, &mut strings);
     let answer = vectors::due_at(bytes, strings_line.next);
     let mut points = [0u32; 2];
-    let points_line = vectors::numbers_u32(bytes, answer.next, &mut points);
-    let count = points_line.count;
-    run_of(
-        tally,
-        index,
-        strings[0],
-        answer.due,
-        &mut points[..count],
-        points_line.next,
-    )
+    let points_line = vectors::numbers(bytes, answer.next, &mut points);
+    let count = points_line.numbers.len();
+    let next = points_line.next;
+    let none = Run { tally, index, next };
+    run_of(none, strings[0], answer.due, &mut points[..count])
 }
 
-fn run_of(
-    before: Tally,
-    first: usize,
-    strings: usize,
-    due: Due,
-    points: &mut [u32],
-    next: usize,
-) -> Run {
-    let mut tally = before;
-    let mut index = first;
-    let mut left = strings;
-    'strings: while left > 0 {
-        tally = tally.with(string_agrees(index, due, points));
+// A run with so many strings more.
+fn run_of(before: Run, strings: usize, due: Due, points: &mut [u32]) -> Run {
+    let mut run = before;
+    'strings: for _ in 0..strings {
+        run.tally = run.tally.with(string_agrees(run.index, due, points));
         raise(points);
-        index = std::num::wrapping_add_usize(index, 1);
-        left -= 1;
+        run.index = run.index.wrapping_add(1);
     }
-    Run { tally, index, next }
+    run
 }
 
 // The last code point becomes the next one.
 fn raise(points: &mut [u32]) {
-    let count = points.len();
-    if count > 0 {
-        points[count - 1] = std::num::wrapping_add_u32(points[count - 1], 1);
+    if let Some(last) = points.last_mut() {
+        *last = last.wrapping_add(1);
     }
 }
 
@@ -96,12 +77,8 @@ fn string_agrees(index: usize, due: Due, points: &[u32]) -> bool {
 }
 
 fn agrees(bytes: &[u8], due: Due, points: &[u32]) -> bool {
-    if !vectors::is_counted(utf8::read_length(bytes), due) {
-        return false;
-    }
     let mut room = [0u32; 2];
-    if !vectors::is_counted(utf8::read(bytes, &mut room), due) {
-        return false;
-    }
-    vectors::same_u32(&room, points, points.len())
+    Due::from(utf8::read_length(bytes)) == due
+        && Due::from(utf8::read(bytes, &mut room)) == due
+        && room.starts_with(points)
 }

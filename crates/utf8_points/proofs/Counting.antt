@@ -1,25 +1,17 @@
 -- Bytes that are no tails, counted by blocks and one by one.
 -- The count of two runs is the sum of their counts. Assumes nothing.
-use mathlib.Core.Path.{◌≡◌, refl, ap}
+use mathlib.Core.Path.{◌≡◌, refl, sym, ap, ◌∙◌}
 use mathlib.Core.Bool.{Bool, true, false}
 use mathlib.Core.List.{List, [], ◌∷◌, ◌++◌}
-use Prim.Native.Nat.{ℕ, suc, ◌+◌, ◌-◌, ◌≤◌, ◌<◌}
+use Prim.Native.Nat.{ℕ, suc, ◌+◌, ◌≤◌, ◌<◌}
 use native.Mathlib.Omega.{arith}
 use native.Mathlib.Numerals.{add-one}
-use lib.ListN.{length, get_or, take, drop, take-append-drop, length-take, drop_of_length-le}
-use lib.Seq.{take-suc, drop-drop}
+use lib.ListN.{length, get_or, take}
+use lib.Seq.{take-suc}
 use Rattle.room.specs.Choice.{pick}
 use Rattle.utf8_read.specs.Grammar.{tail}
 use Rattle.utf8_read.specs.Window.{starts}
 use Rattle.room.proofs.Choices.{pick_elim}
-
-pub of_tail : (b : ℕ) → tail b ≡ true → 0 ≡ starts (b ∷ [])
-unfolding starts
-of_tail b e = rw e
-
-pub of_start : (b : ℕ) → tail b ≡ false → 1 ≡ starts (b ∷ [])
-unfolding starts
-of_start b e = rw e
 
 pub none : 0 ≡ starts []
 unfolding starts
@@ -46,31 +38,10 @@ both (b ∷ s) t = go (tail b) refl (both s t)
 pub one_more : (s : List ℕ) (k n m : ℕ) → k < length s → n ≡ starts (take k s) → m ≡ starts (get_or s k 0 ∷ []) → n + m ≡ starts (take (k + 1) s)
 one_more s k n m h e g = rw (add-one k, take-suc s k 0 h, both (take k s) (get_or s k 0 ∷ []), e, g)
 
-pub record Counted (s : List ℕ) (at n : ℕ) : Type 0 where
-  pub most : at ≤ length s
-  pub few : n ≤ at
-  pub sum : n + starts (drop at s) ≡ starts s
+-- a block more
+pub block_more : (s b r : List ℕ) → s ≡ b ++ r → starts s ≡ starts b + starts r
+block_more s b r e = ap starts e ∙ both b r
 
-pub begins : (s : List ℕ) → Counted s 0 0
-begins s = record { most = omega arith; few = omega arith; sum = omega arith }
-
--- the bytes from a place to another, counted
-pub by_block : {s : List ℕ} {at n : ℕ} (e m : ℕ) → Counted s at n → at ≤ e → e ≤ length s → m ≡ starts (take (e - at) (drop at s)) → Counted s e (n + m)
-by_block {s} {at} {n} e m c l h q =
-    let k : ℕ = e - at in
-    let z : at + k ≡ e = omega arith in
-    record {
-      most = h;
-      few = omega (arith, c.few, at_most (take k (drop at s)), length-take k (drop at s));
-      sum = omega (
-        arith,
-        c.sum,
-        ap starts (take-append-drop k (drop at s)),
-        both (take k (drop at s)) (drop k (drop at s)),
-        ap starts (drop-drop k at s),
-        ap (λ (i : ℕ). starts (drop i s)) z,
-      );
-    }
-
-pub ends : {s : List ℕ} {n : ℕ} → Counted s (length s) n → n ≡ starts s
-ends {s} {n} c = omega (arith, c.sum, ap starts (drop_of_length-le s {i = length s} (omega arith)), none)
+pub none_left : (s : List ℕ) → length s ≡ 0 → starts s ≡ 0
+none_left [] h = sym none
+none_left (b ∷ s) h = absurd (omega arith)

@@ -63,6 +63,11 @@ pub record Filling (s d o : List ℕ) (at n : ℕ) : Type 0 where
   pub count : n ≤ length (points s)
   pub room : o ≡ answered (take n (points s)) d
 
+-- a place of the bytes with its sequence, and a place of the room for its code point
+pub record Next (s o : List ℕ) (at n l : ℕ) : Type 0 where
+  pub past : (1 ≤ l) × (at + l ≤ length s)
+  pub left : n < length o
+
 pub begins : (s d : List ℕ) → good_end s ≡ length s → Filling s d d 0 0
 begins s d g = record { most = omega arith; good = omega (arith, g); rest = refl; count = omega arith; room = refl }
 

@@ -3,20 +3,21 @@
 #![tactic(auto)]
 
 ghost use Rattle.std.specs.Prelude.{◌≡◌, [], ◌∷◌, ◌+◌, ◌%◌, ◌<◌, ◌≤◌, ◌^◌, length, drop};
-ghost use Rattle.room.specs.Placed.{Put, answered};
+ghost use Rattle.room.specs.Placed.{answered};
 ghost use Rattle.utf8_read.specs.Grammar.{utf8_char};
 ghost use Rattle.utf8_read.specs.Table.{more};
 ghost use Rattle.utf8_read.specs.Reading.{good_end, points};
 ghost use Rattle.utf8_read.specs.Window.{Ascii, starts};
 ghost use Rattle.utf8_points.specs.Found.{Pointed};
 
-use numbers::bytes::wide;
+use utf8_read::ascii::{all_ascii, ascii_end, put_as};
 
 // 1 for a byte that is no tail.
+#[tactic(auto, unfolding(utf8_read::specs::Window::starts))]
 fn start_of(b: u8) -> u8
     ensures { result ≡ starts (b ∷ []) }
 {
-    if utf8_read::is_tail(b) { 0 } else { 1 }
+    u8::from(!utf8_read::is_tail(b))
 }
 
 // How many of at most 192 bytes are no tails: in a byte, so that 16 are counted at a time.
@@ -25,10 +26,8 @@ fn starts_block(src: &[u8]) -> u8
     ensures { result ≡ starts src.now }
 {
     let mut n: u8 = 0;
-    let mut k: usize = 0;
-    'block: while k < src.len() {
-        n += start_of(src[k]);
-        k += 1;
+    'block: for b in src {
+        n += start_of(*b);
     }
     n
 }
@@ -38,13 +37,10 @@ pub fn starts_of(bytes: &[u8]) -> usize
     ensures { result ≡ starts bytes.now }
 {
     let mut n: usize = 0;
-    let mut at: usize = 0;
-    'many: while 192 < bytes.len() - at {
-        let next = at + 192;
-        n += starts_block(&bytes[at..next]) as usize;
-        at = next;
+    'many: for block in bytes.chunks(192) {
+        n += usize::from(starts_block(block));
     }
-    n + starts_block(&bytes[at..]) as usize
+    n
 }
 
 // A code point and how many bytes it takes.
@@ -59,26 +55,27 @@ fn push(x: u32, b: u8) -> u32
     requires { x < 2 ^ 15 }
     ensures { result ≡ more x b }
 {
-    (x << 6) | wide(b & 0x3f)
+    (x << 6) | u32::from(b & 0x3f)
 }
 
 // The numbers of two, three and four bytes.
+// Kept so: the new form is no plainer, since mask, bound and number of tails hang together.
 fn two_of(a: u8, b: u8) -> u32
     ensures { result ≡ more (a % 32) b }
 {
-    push(wide(a & 0x1f), b)
+    push(u32::from(a & 0x1f), b)
 }
 
 fn three_of(a: u8, b: u8, c: u8) -> u32
     ensures { result ≡ more (more (a % 16) b) c }
 {
-    push(push(wide(a & 0x0f), b), c)
+    push(push(u32::from(a & 0x0f), b), c)
 }
 
 fn four_of(a: u8, b: u8, c: u8, d: u8) -> u32
     ensures { result ≡ more (more (more (a % 8) b) c) d }
 {
-    push(push(push(wide(a & 0x07), b), c), d)
+    push(push(push(u32::from(a & 0x07), b), c), d)
 }
 
 // The code point of the good sequence at a place.
@@ -88,7 +85,7 @@ fn point_at(bytes: &[u8], at: usize) -> Point
 {
     let a = bytes[at];
     if a < 0x80 {
-        let code = wide(a);
+        let code = u32::from(a);
         return Point { code, len: 1 };
     }
     if a < 0xe0 {
@@ -113,26 +110,15 @@ fn calm_end(bytes: &[u8], at: usize) -> usize
         return at;
     }
     let mut end = at;
+    // Kept so: here and below a `while`, since how far a step goes is found in the bytes; no range counts it.
     'calm: while 16 <= bytes.len() - end {
-        if !utf8_read::calm(bytes, end) {
+        let next = end + 16;
+        if !all_ascii(&bytes[end..next]) {
             return end;
         }
-        end = utf8_read::calm_far(bytes, end + 16);
+        end = ascii_end::<u8, 64>(bytes, next);
     }
     end
-}
-
-// Bytes as code points, put at a place of a room.
-fn widen(src: &[u8], out: &mut [u32], at: usize) -> usize
-    requires { at + length src.now ≤ length out.old }
-    ensures { Put src.now out.old at out.new result }
-{
-    let mut j = 0;
-    'put: while j < src.len() {
-        out[at + j] = wide(src[j]);
-        j += 1;
-    }
-    at + j
 }
 
 // The code points of a good text, put into a room that holds them: ASCII by blocks, and where a block
@@ -145,7 +131,7 @@ pub fn fill(bytes: &[u8], out: &mut [u32])
     let mut n = 0;
     'fill: while at < bytes.len() {
         let end = calm_end(bytes, at);
-        n = widen(&bytes[at..end], out, n);
+        n = put_as(&bytes[at..end], out, n, |b| u32::from(b));
         at = end;
         let stop = utf8_read::near(bytes.len(), at, 32);
         'some: while at < stop {

@@ -1,25 +1,23 @@
 -- The ways through the judge of one sequence and of many, over plain lists.
 -- A test that held makes the sequence of its kind; one that failed leaves no kind that the first byte allows. Assumes nothing.
 use mathlib.Core.Path.{◌≡◌, refl, sym, ◌∙◌}
-use mathlib.Core.Bool.{Bool, true, false, ◌&&◌, ◌||◌}
+use mathlib.Core.Bool.{true, false}
 use mathlib.Core.List.{List}
 use Prim.Native.Nat.{ℕ, zero, suc, ◌+◌, ◌-◌, ◌≤◌, ◌<◌}
 use native.Mathlib.Omega.{arith}
 use native.Mathlib.Decide.{dec_lt}
-use lib.Dec.{ltb}
-use borrow.Author.Tests.{ltb-true}
-use lib.ListN.{length, get_or, drop}
+use lib.ListN.{length, get_or, take, drop}
+use Rattle.std.specs.List.{All}
+use Rattle.utf8_read.proofs.Runs.{part_within}
 use Rattle.utf8_read.specs.Grammar.{tail, utf8_2, utf8_3, utf8_4, utf8_char}
 use Rattle.utf8_read.specs.Reading.{good_end}
-use Rattle.utf8_read.specs.Window.{ones, misfit, Local, Ascii, Clean, Stretch, Reached, Walked}
-use Rattle.room.proofs.Bools.{and_left, and_right}
+use Rattle.utf8_read.specs.Window.{ones, Ascii, Clean, Stretch, Reached, Walked}
 use Rattle.room.proofs.Choices.{never}
-use Rattle.utf8_read.proofs.Tests.{or_none}
 use Rattle.utf8_read.proofs.Rules.{in_two, in_three, in_four}
 use Rattle.utf8_read.proofs.Sequences.{At, stands, none, found, fits}
 use Rattle.utf8_read.proofs.Leads.{lead, says_2, says-3, says-4, says_none}
 use Rattle.utf8_read.proofs.Steps.{next_good, stop_good, end_good}
-use Rattle.utf8_read.proofs.Walk.{clean_next, clean_start, starts_here, clean_here, walked, local_join, local_none, ascii_local}
+use Rattle.utf8_read.proofs.Walk.{clean_next, clean_start, clean_here, walked, local_join, ascii_local}
 
 module _ (s : List ℕ) (at : ℕ) (h : at < length s) where
   pub long_1 : ones (get_or s at 0) ≡ 0 → 1 ≡ utf8_char (drop at s)
@@ -55,60 +53,24 @@ module _ (s : List ℕ) (at : ℕ) (h : at < length s) where
   pub no_first : (n : ℕ) → n ≡ ones (get_or s at 0) → (n ≡ 0 → ⊥) → (n ≡ 2 → ⊥) → (n ≡ 3 → ⊥) → (n ≡ 4 → ⊥) → 0 ≡ utf8_char (drop at s)
   no_first n o z t r f = sym (none s at (omega arith) (λ l a. says_none a n (lead (get_or s at 0) n (sym o)) z t r f))
 
--- one byte more of a window
-pub local-more :
-    (s : List ℕ) (a p e : ℕ) (bad m : Bool) → (bad ≡ false → Local s a (p + 3))
-    → m ≡ misfit (get_or s p 0) (get_or s (p + 1) 0) (get_or s (p + 2) 0) (get_or s (p + 3) 0) → e ≡ p + 4 → (bad || m) ≡ false → Local s a e
-local-more s a p e bad m f g q n i l h =
-    let o = or_none bad m n in
-    elim (dec_lt (i + 3) (p + 3)) [ yes k ↦ f o.0 i l k | no k ↦ (let z : i ≡ p = omega arith in rw z (sym g ∙ o.1)) ]
-
--- a stretch of ASCII: none, one more, two joined
-pub ascii_none : (s : List ℕ) (a e : ℕ) → e ≤ a → Ascii s a e
-ascii_none s a e h k l m = absurd (omega arith)
-
-pub ascii_more : (s : List ℕ) (a p e : ℕ) (ok : Bool) → (ok ≡ true → Ascii s a p) → e ≡ p + 1 → (ok && ltb (get_or s p 0) 0x80) ≡ true → Ascii s a e
-ascii_more s a p e ok f q n k l h =
-    elim (dec_lt k p) [
-      | yes w ↦ f (and_left ok (ltb (get_or s p 0) 0x80) n) k l w
-      | no w ↦ (let z : k ≡ p = omega arith in rw z (ltb-true (get_or s p 0) 0x80 (and_right ok (ltb (get_or s p 0) 0x80) n)))
-    ]
+-- a part that is ASCII, and two parts joined
+part_ascii : (s : List ℕ) (a n : ℕ) → All (λ x. x < 0x80) (take n (drop a s)) → a + n ≤ length s → Ascii s a (a + n)
+part_ascii s a n f h k l m = part_within (λ (x : ℕ). x < 0x80) s a n f h k 0 l m
 
 pub ascii_join : (s : List ℕ) (a b c d : ℕ) → c ≤ b → Ascii s a b → Ascii s c d → Ascii s a d
 ascii_join s a b c d m f g k l h = elim (dec_lt k b) [ yes n ↦ f k l n | no n ↦ g k (omega arith) h ]
 
-pub three-calm :
-    (s : List ℕ) (j : ℕ) (a b c : Bool) → (a ≡ true → Ascii s j (j + 16)) → (b ≡ true → Ascii s (j + 16) (j + 16 + 16))
-    → (c ≡ true → Ascii s (j + 19) (j + 19 + 16)) → (a && b && c) ≡ true → Ascii s j (j + 35)
-three-calm s j a b c fa fb fc t k l h =
-    let t₁ = and_left (a && b) c t in
-    let b₁ = ascii_join s j (j + 16) (j + 16) (j + 16 + 16) (omega arith) (fa (and_left a b t₁)) (fb (and_right a b t₁)) in
-    ascii_join s j (j + 16 + 16) (j + 19) (j + 19 + 16) (omega arith) b₁ (fc (and_right (a && b) c t)) k l (omega arith)
+abbrev pub Part : List ℕ → ℕ → ℕ → Type 0
+Part s a e = All (λ x. x < 0x80) (take (e - a) (drop a s))
 
-pub four-calm :
-    (s : List ℕ) (j : ℕ) (a b c d : Bool) → (a ≡ true → Ascii s j (j + 16)) → (b ≡ true → Ascii s (j + 16) (j + 16 + 16))
-    → (c ≡ true → Ascii s (j + 32) (j + 32 + 16)) → (d ≡ true → Ascii s (j + 48) (j + 48 + 16)) → (a && b && c && d) ≡ true → Ascii s j (j + 64)
-four-calm s j a b c d fa fb fc fd t k l h =
-    let t₂ = and_left (a && b && c) d t in
-    let t₁ = and_left (a && b) c t₂ in
-    let b₁ = ascii_join s j (j + 16) (j + 16) (j + 16 + 16) (omega arith) (fa (and_left a b t₁)) (fb (and_right a b t₁)) in
-    let b₂ = ascii_join s j (j + 16 + 16) (j + 32) (j + 32 + 16) (omega arith) b₁ (fc (and_right (a && b) c t₂)) in
-    ascii_join s j (j + 32 + 16) (j + 48) (j + 48 + 16) (omega arith) b₂ (fd (and_right (a && b && c) d t)) k l (omega arith)
+pub part_to : (s : List ℕ) (a e : ℕ) → a ≤ e → e ≤ length s → Part s a e → Ascii s a e
+part_to s a e l h f k i m = part_ascii s a (e - a) f (omega arith) k i (omega arith)
 
 pub here : (s : List ℕ) (at : ℕ) → at ≤ length s → Clean s at → Reached s at at
 here s at m c = record { least = omega arith; most = m; clean = c; good = refl }
 
 -- going back from the end of a stretch
 module _ {s : List ℕ} {at e : ℕ} (t : Stretch s at e) where
-  pub not_first : (p : ℕ) → at ≤ p → p < e → tail (get_or s p 0) ≡ true → at < p
-  not_first p l h y = elim (dec_lt at p) [
-    | yes k ↦ k
-    | no k ↦ (let z : at ≡ p = omega arith in never (sym y ∙ rw (← z) (starts_here s at e t.third (omega arith) t.fit t.clean)))
-  ]
-
-  pub stayed : Reached s at at
-  stayed = here s at (omega (arith, t.least, t.most)) t.clean
-
   pub came : (p : ℕ) → at ≤ p → p < e → tail (get_or s p 0) ≡ false → Reached s at p
   came p l h y =
       let m = t.most in
@@ -121,23 +83,7 @@ module _ {s : List ℕ} {at e : ℕ} (t : Stretch s at e) where
         good = walked s at p o l (omega arith) (λ j a b. t.fit j a (omega arith)) t.clean c;
       }
 
-pub stretch_none : (s : List ℕ) (at : ℕ) → 3 ≤ at → at ≤ length s → Clean s at → Stretch s at at
-stretch_none s at h m c = record { third = h; least = omega arith; most = m; clean = c; fit = local_none s at }
-
--- a stretch goes on by what fits, and by ASCII
-pub stretch_on : {s : List ℕ} {at e : ℕ} → Stretch s at e → 32 ≤ length s - e → Local s (e - 3 + 3) (e - 3 + 35) → Stretch s at (e + 32)
-stretch_on {s} {at} {e} t h loc =
-    let l = t.least in
-    let m = t.most in
-    let o = t.third in
-    record {
-      third = o;
-      least = omega arith;
-      most = omega arith;
-      clean = t.clean;
-      fit = local_join s at e (e + 32) t.fit (λ j a b. loc j (omega arith) (omega arith));
-    }
-
+-- a stretch goes on by ASCII
 pub stretch-calm :
     {s : List ℕ} {at e : ℕ} (f : ℕ) → Stretch s at e → Ascii s (e - 3) (e - 3 + 35) → e + 32 ≤ f → f ≤ length s → Ascii s (e + 32) f → Stretch s at f
 stretch-calm {s} {at} {e} f t w n k p =
@@ -157,14 +103,14 @@ pub on_from : {s : List ℕ} {a b c : ℕ} → Reached s a b → Reached s b c �
 on_from r q = record { least = omega (arith, r.least, q.least); most = q.most; clean = q.clean; good = r.good ∙ q.good }
 
 -- one sequence more
-pub by_one : {s : List ℕ} {a at : ℕ} (n : ℕ) → Reached s a at → n ≡ utf8_char (drop at s) → (n ≡ 0 → ⊥) → Reached s a (at + n) × (0 < n)
-by_one zero r e z = absurd (z refl)
-by_one {s} {a} {at} (suc k) r e z =
+pub by_one : {s : List ℕ} {a at n : ℕ} → Reached s a at → n ≡ utf8_char (drop at s) → 0 < n → Reached s a (at + n)
+by_one {n = zero} r e z = absurd (omega arith)
+by_one {s = s} {at = at} {n = suc k} r e z =
     let q = found s at k r.most (sym e) in
-    (record { least = omega (arith, r.least); most = (fits q).ends; clean = clean_next q r.clean; good = r.good ∙ next_good q }, omega arith)
+    record { least = omega (arith, r.least); most = (fits q).ends; clean = clean_next q r.clean; good = r.good ∙ next_good q }
 
 pub by_plain : {s : List ℕ} {a at : ℕ} → Reached s a at → at < length s → get_or s at 0 < 0x80 → Reached s a (at + 1)
-by_plain {s} {a} {at} r l h = (by_one 1 r (sym (stands {s = s} {at = at} (At.one h (omega arith)))) (λ z. omega arith)).0
+by_plain {s} {a} {at} r l h = by_one r (sym (stands {s = s} {at = at} (At.one h (omega arith)))) (omega arith)
 
 pub begun : (s : List ℕ) → Reached s 0 0
 begun s = here s 0 (omega arith) (clean_start s)

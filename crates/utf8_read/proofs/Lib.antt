@@ -2,6 +2,7 @@ pub mod Bytes
 pub mod Judging
 pub mod Leads
 pub mod Rules
+pub mod Runs
 pub mod Sequences
 pub mod Steps
 pub mod Tests

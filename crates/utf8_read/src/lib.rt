@@ -3,12 +3,19 @@
 // not fit.
 #![tactic(auto)]
 
-ghost use Rattle.std.specs.Prelude.{◌≡◌, true, false, ◌+◌, ◌<◌, ◌≤◌, min, length, drop};
+ghost use Rattle.std.specs.Prelude.{◌≡◌, true, false, ◌+◌, ◌<◌, ◌≤◌, min, length, drop, MatchOption};
 ghost use Rattle.utf8_read.specs.Grammar.{tail, utf8_2, utf8_3, utf8_4, utf8_char};
 ghost use Rattle.utf8_read.specs.Reading.{good_end};
 ghost use Rattle.utf8_read.specs.Window.{ones, misfit, Local, Ascii, Clean, Reached, Walked, Stretch};
 
+pub mod ascii;
+
+use ascii::{all_ascii, ascii_end};
+use std::cmp::min;
+
 // The one bits at the top of a byte: the zero bits at the top of its complement.
+// Kept so: what may not change, the line on leading ones of docs/STATEMENTS.md.
+#[tactic(auto, using(crate::proofs::Bytes::ones_law))]
 fn ones_of(b: u8) -> u32
     ensures { result ≡ ones b }
 {
@@ -16,6 +23,7 @@ fn ones_of(b: u8) -> u32
 }
 
 // A byte under the mark 10.
+#[tactic(auto, using(crate::proofs::Bytes::tail_law))]
 pub fn is_tail(b: u8) -> bool
     ensures { result ≡ tail b }
 {
@@ -23,12 +31,14 @@ pub fn is_tail(b: u8) -> bool
 }
 
 // The grammar's rules for two, three and four bytes.
+#[tactic(auto, unfolding(crate::specs::Grammar::utf8_2))]
 fn is_two(a: u8, b: u8) -> bool
     ensures { result ≡ utf8_2 a b }
 {
     ((0xc2 <= a) & (a <= 0xdf)) & is_tail(b)
 }
 
+#[tactic(auto, unfolding(crate::specs::Grammar::utf8_3))]
 fn is_three(a: u8, b: u8, c: u8) -> bool
     ensures { result ≡ utf8_3 a b c }
 {
@@ -40,6 +50,7 @@ fn is_three(a: u8, b: u8, c: u8) -> bool
                 | (((0xee <= a) & (a <= 0xef)) & (tb & tc))))
 }
 
+#[tactic(auto, unfolding(crate::specs::Grammar::utf8_4))]
 fn is_four(a: u8, b: u8, c: u8, d: u8) -> bool
     ensures { result ≡ utf8_4 a b c d }
 {
@@ -50,48 +61,24 @@ fn is_four(a: u8, b: u8, c: u8, d: u8) -> bool
             | ((a == 0xf4) & (((0x80 <= b) & (b <= 0x8f)) & tcd)))
 }
 
-// How many bytes the sequence at a place takes; 0 where none stands there.
-fn length_at(bytes: &[u8], at: usize) -> usize
+// How many bytes the sequence at a place takes, where one stands there.
+fn length_at(bytes: &[u8], at: usize) -> Option<usize>
     requires { at < length bytes.now }
-    ensures { result ≡ utf8_char (drop at bytes.now) }
+    ensures { MatchOption result (utf8_char (drop at bytes.now) ≡ 0) (λ n. (n ≡ utf8_char (drop at bytes.now)) × (0 < n)) }
 {
     let left = bytes.len() - at;
     let a = bytes[at];
-    let n = ones_of(a);
-    match n {
-        0 => 1,
-        2 => {
-            if left < 2 {
-                return 0;
-            }
-            if is_two(a, bytes[at + 1]) {
-                return 2;
-            }
-            0
-        }
-        3 => {
-            if left < 3 {
-                return 0;
-            }
-            if is_three(a, bytes[at + 1], bytes[at + 2]) {
-                return 3;
-            }
-            0
-        }
-        4 => {
-            if left < 4 {
-                return 0;
-            }
-            if is_four(a, bytes[at + 1], bytes[at + 2], bytes[at + 3]) {
-                return 4;
-            }
-            0
-        }
-        _ => 0,
+    match ones_of(a) {
+        0 => Some(1),
+        2 if 2 <= left && is_two(a, bytes[at + 1]) => Some(2),
+        3 if 3 <= left && is_three(a, bytes[at + 1], bytes[at + 2]) => Some(3),
+        4 if 4 <= left && is_four(a, bytes[at + 1], bytes[at + 2], bytes[at + 3]) => Some(4),
+        _ => None,
     }
 }
 
 // Whether d cannot stand after a, b and c. No way out before the end: a loop over it is made of vectors.
+#[tactic(auto, unfolding(crate::specs::Window::misfit))]
 fn misfit_of(a: u8, b: u8, c: u8, d: u8) -> bool
     ensures { result ≡ misfit a b c d }
 {
@@ -111,31 +98,16 @@ fn misfits(bytes: &[u8], j: usize) -> bool
     ensures { result ≡ false → Local bytes.now (j + 3) (j + 35) }
 {
     let mut bad = false;
-    let mut k: usize = 0;
-    'window: while k < 32 {
+    // Kept so: tried, and slower, with the places themselves as the range: bytes are then carried from one to the next.
+    'window: for k in 0..32 {
         let p = j + k;
-        bad = bad | misfit_of(bytes[p], bytes[p + 1], bytes[p + 2], bytes[p + 3]);
-        k += 1;
+        bad |= misfit_of(bytes[p], bytes[p + 1], bytes[p + 2], bytes[p + 3]);
     }
     bad
 }
 
-// Whether the 16 bytes from a place on are ASCII.
-pub fn calm(bytes: &[u8], at: usize) -> bool
-    requires { at + 16 ≤ length bytes.now }
-    ensures { result ≡ true → Ascii bytes.now at (at + 16) }
-{
-    let mut ok = true;
-    let mut k: usize = 0;
-    'calm: while k < 16 {
-        ok = ok & (bytes[at + k] < 0x80);
-        k += 1;
-    }
-    ok
-}
-
-// Whether the 35 bytes of a window are: three blocks, the last one over the end of the second. The first
-// byte past three is asked first, for where it is not ASCII this is all that the question costs.
+// Whether the 35 bytes of a window are ASCII. The first byte past three is asked first, for where it is not
+// ASCII this is all that the question costs.
 fn calm_window(bytes: &[u8], j: usize) -> bool
     requires { j + 35 ≤ length bytes.now }
     ensures { result ≡ true → Ascii bytes.now j (j + 35) }
@@ -143,26 +115,7 @@ fn calm_window(bytes: &[u8], j: usize) -> bool
     if 0x80 <= bytes[j + 3] {
         return false;
     }
-    calm(bytes, j) & calm(bytes, j + 16) & calm(bytes, j + 19)
-}
-
-// How far 64 ASCII bytes at a time go from a place on.
-pub fn calm_far(bytes: &[u8], at: usize) -> usize
-    requires { at ≤ length bytes.now }
-    ensures { (at ≤ result) × (result ≤ length bytes.now) × Ascii bytes.now at result }
-{
-    let mut end = at;
-    'far: while 64 <= bytes.len() - end {
-        let four = calm(bytes, end)
-            & calm(bytes, end + 16)
-            & calm(bytes, end + 32)
-            & calm(bytes, end + 48);
-        if !four {
-            return end;
-        }
-        end += 64;
-    }
-    end
+    all_ascii(&bytes[j..j + 35])
 }
 
 // The last first byte of a sequence before e, all bytes from at to e fitting.
@@ -170,14 +123,12 @@ fn back(bytes: &[u8], at: usize, e: usize) -> usize
     requires { Stretch bytes.now at e }
     ensures { Reached bytes.now at result }
 {
-    if e == at {
-        return at;
+    'back: for p in (at..e).rev() {
+        if !is_tail(bytes[p]) {
+            return p;
+        }
     }
-    let mut p = e - 1;
-    'back: while is_tail(bytes[p]) {
-        p -= 1;
-    }
-    p
+    at
 }
 
 // A place that good sequences from at reach, as far on as windows fit.
@@ -186,11 +137,12 @@ fn run(bytes: &[u8], at: usize) -> usize
     ensures { Reached bytes.now at result }
 {
     let mut e = at;
+    // Kept so: here and below a `while`, since how far a step goes is found in the bytes; no range counts it.
     'run: while 32 <= bytes.len() - e {
         let j = e - 3;
         let next = e + 32;
         if calm_window(bytes, j) {
-            e = calm_far(bytes, next);
+            e = ascii_end::<u8, 64>(bytes, next);
         } else {
             if misfits(bytes, j) {
                 return back(bytes, at, e);
@@ -211,11 +163,10 @@ fn one_by_one(bytes: &[u8], from: usize, until: usize) -> usize
         if bytes[at] < 0x80 {
             at += 1;
         } else {
-            let n = length_at(bytes, at);
-            if n == 0 {
-                return at;
+            match length_at(bytes, at) {
+                Some(n) => at += n,
+                None => return at,
             }
-            at += n;
         }
     }
     at
@@ -223,6 +174,7 @@ fn one_by_one(bytes: &[u8], from: usize, until: usize) -> usize
 
 // The offset of the first byte of the first bad sequence; the length where none is bad. A window looks back
 // three bytes, so that the first ones go one sequence at a time, and so do those behind the last window.
+#[tactic(auto, using(crate::proofs::Judging::at_last, crate::proofs::Judging::at_bad, crate::proofs::Judging::begun, crate::proofs::Judging::on_from, crate::proofs::Walk::clean_start))]
 pub fn good_end_of(bytes: &[u8]) -> usize
     ensures { result ≡ good_end bytes.now }
 {
@@ -242,5 +194,5 @@ pub fn near(len: usize, at: usize, step: usize) -> usize
     requires { at ≤ len }
     ensures { result ≡ min len (at + step) }
 {
-    if len - at < step { len } else { at + step }
+    at + min(step, len - at)
 }

@@ -3,6 +3,8 @@
 // `0 count` or `10 offset`, and the code points.
 #![tactic(auto)]
 
+use vectors::{Case, Due};
+
 fn main() {
     let mut space = io::large_buffer();
     let n = io::read_full(0, &mut space);
@@ -13,47 +15,22 @@ fn replay(name: &[u8], bytes: &[u8]) {
     let mut text = [0u8; 1024];
     let mut points = [0u32; 1024];
     let mut room = [0u32; 1024];
-    let mut tally = vectors::no_cases();
-    let mut at = 0;
-    'cases: while at < bytes.len() {
-        let case = case_at(bytes, at, &mut text, &mut points, &mut room);
-        tally = tally.with(case.agrees);
-        if case.next <= at {
-            break 'cases;
-        }
-        at = case.next;
-    }
-    vectors::report(name, tally);
-}
-
-// Whether the calls give the case's answer, and the offset behind the case.
-#[derive(Clone, Copy)]
-struct Case {
-    agrees: bool,
-    next: usize,
+    vectors::replay(
+        name,
+        bytes.len(),
+        |at| case_at(bytes, at, &mut text, &mut points, &mut room),
+    );
 }
 
 fn case_at(bytes: &[u8], at: usize, text: &mut [u8], points: &mut [u32], room: &mut [u32]) -> Case {
-    let text_line = vectors::numbers_u8(bytes, at, text);
+    let text_line = vectors::numbers(bytes, at, text);
     let answer = vectors::due_at(bytes, text_line.next);
-    let points_line = vectors::numbers_u32(bytes, answer.next, points);
-    let text_count = text_line.count;
-    let points_count = points_line.count;
-    let next = points_line.next;
-    if !vectors::is_counted(utf8::read_length(&text[..text_count]), answer.due) {
-        return Case {
-            agrees: false,
-            next,
-        };
-    }
-    if !vectors::is_counted(utf8::read(&text[..text_count], room), answer.due) {
-        return Case {
-            agrees: false,
-            next,
-        };
-    }
+    let points_line = vectors::numbers(bytes, answer.next, points);
+    let agrees = Due::from(utf8::read_length(text_line.numbers)) == answer.due
+        && Due::from(utf8::read(text_line.numbers, room)) == answer.due
+        && room.starts_with(points_line.numbers);
     Case {
-        agrees: vectors::same_u32(room, points, points_count),
-        next,
+        agrees,
+        next: points_line.next,
     }
 }

@@ -1,13 +1,10 @@
 -- The bytes of a code point by how many it takes, and the bytes of a text part by part.
--- The table's row is chosen by orders of the number; a run of stores is a part put at a place. Assumes nothing.
+-- The table's row is chosen by orders of the number. Assumes nothing.
 use mathlib.Core.Path.{◌≡◌, refl, sym, ap, ◌∙◌}
 use mathlib.Core.List.{List, [], ◌∷◌, ◌++◌, append_assoc, append-nil}
 use Prim.Native.Nat.{ℕ, ◌+◌, ◌/◌, ◌≤◌, ◌<◌}
 use native.Mathlib.Omega.{arith}
-use lib.ListN.{length}
-use lib.Seq.{sets, sets-eq}
 use borrow.Author.Tests.{lt-ltb, le-ltb}
-use Rattle.room.specs.Placed.{placed}
 use Rattle.utf8_read.specs.Table.{encode, six}
 use Rattle.utf8_write.specs.Writing.{encode_all}
 
@@ -26,10 +23,6 @@ row_3 x g h = rw (le-ltb x 0x80 (omega arith), le-ltb x 0x800 g, lt-ltb x 0x1000
 pub row_4 : (x : ℕ) → 0x10000 ≤ x → encode x ≡ (0xf0 + x / 262144) ∷ six (x / 4096) ∷ six (x / 64) ∷ six x ∷ []
 unfolding encode
 row_4 x g = rw (le-ltb x 0x80 (omega arith), le-ltb x 0x800 (omega arith), le-ltb x 0x10000 g)
-
-pub stores : (vs d : List ℕ) (at : ℕ) → at + length vs ≤ length d → sets d at vs ≡ placed d at vs
-unfolding placed
-stores vs d at h = sets-eq vs d at h
 
 pub none : encode_all [] ≡ []
 unfolding encode_all

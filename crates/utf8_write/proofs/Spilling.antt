@@ -6,10 +6,12 @@ use Prim.Native.Nat.{ℕ, zero, suc, ◌+◌, ◌*◌, ◌-◌, ◌≤◌, ◌<�
 use native.Mathlib.Omega.{arith}
 use native.Mathlib.Decide.{dec_lt}
 use native.Mathlib.Numerals.{add-one}
-use lib.ListN.{length, get_or, take, drop, length-append, take-append-drop, length-drop, drop_of_length-le}
-use lib.Seq.{take-suc, take-add, take_all, get_or-drop, get_or-take, drop-drop, length-take-le}
+use lib.ListN.{length, get_or, take, drop, length-append, take-append-drop, length-drop, length-take}
+use lib.Seq.{take-suc, take-add, take_all, get_or-drop, get_or-take, length-take-le}
 use Rattle.numbers.specs.Steps.{step}
 use Rattle.numbers.proofs.Steps.{step_yes, step_no}
+use Rattle.std.specs.List.{All}
+use Rattle.std.proofs.lemmas.List.Elements.{All-from_get_or}
 use Rattle.room.specs.Placed.{placed, answered, Put}
 use Rattle.room.proofs.Answers.{at_start, one_more, same_room}
 use Rattle.utf8_read.specs.Table.{encode}
@@ -77,33 +79,13 @@ number_more s k n m h e g =
     let t : take (k + 1) s ≡ take k s ++ (get_or s k 0 ∷ []) = rw (add-one k, take-suc s k 0 h) in
     omega (arith, ap (λ (r : List ℕ). wide r) t, wide_both (take k s) (get_or s k 0 ∷ []), wide_one (get_or s k 0))
 
-pub record Measured (s : List ℕ) (at n : ℕ) : Type 0 where
-  pub most : at ≤ length s
-  pub sum : n + wide (drop at s) ≡ wide s
+-- a block more, measured
+pub block_more : (s b r : List ℕ) → s ≡ b ++ r → wide s ≡ wide b + wide r
+block_more s b r e = ap (λ (t : List ℕ). wide t) e ∙ wide_both b r
 
--- the numbers from a place to another, measured
-pub by_block : {s : List ℕ} {at n : ℕ} (e m : ℕ) → Measured s at n → at ≤ e → e ≤ length s → m ≡ wide (take (e - at) (drop at s)) → Measured s e (n + m)
-by_block {s} {at} {n} e m c l h q =
-    let k : ℕ = e - at in
-    let z : at + k ≡ e = omega arith in
-    record {
-      most = h;
-      sum =
-          omega (
-            arith,
-            c.sum,
-            ap (λ (r : List ℕ). wide r) (take-append-drop k (drop at s)),
-            wide_both (take k (drop at s)) (drop k (drop at s)),
-            ap (λ (r : List ℕ). wide r) (drop-drop k at s),
-            ap (λ (i : ℕ). wide (drop i s)) z,
-          );
-    }
-
-pub measured : {s : List ℕ} {n : ℕ} → Measured s (length s) n → n ≡ wide s
-measured {s} {n} c = omega (arith, c.sum, ap (λ (r : List ℕ). wide r) (drop_of_length-le s {i = length s} (omega arith)), wide_none)
-
-pub within : {s : List ℕ} {at n : ℕ} → Measured s at n → n ≤ 4 * length s
-within {s} c = omega (arith, c.sum, wide_most s)
+pub none_left : (s : List ℕ) → length s ≡ 0 → wide s ≡ 0
+none_left [] h = sym wide_none
+none_left (x ∷ s) h = absurd (omega arith)
 
 -- ASCII numbers are their own bytes
 plain_all : (l : List ℕ) → Ascii l 0 (length l) → encode_all l ≡ l
@@ -118,18 +100,21 @@ part_ascii s i e l h f k a m =
     let w = length-take-le (e - i) (drop i s) (rw length-drop (omega arith)) in
     rw (get_or-take (e - i) (drop i s) k 0 (omega arith), get_or-drop i s k 0) (f (i + k) (omega arith) (omega arith))
 
-pub plain_measured : (s : List ℕ) (e : ℕ) → e ≤ length s → Ascii s 0 e → Measured s e e
-plain_measured s e h f = record {
-  most = h;
-  sum =
-      omega (
-        arith,
-        ap (λ (r : List ℕ). wide r) (take-append-drop e s),
-        wide_both (take e s) (drop e s),
-        ap length (plain_all (take e s) (λ k a m. rw (get_or-take e s k 0 (omega (arith, length-take-le e s h))) (f k a (omega (arith, length-take-le e s h))))),
-        length-take-le e s h,
-      );
-}
+pub plain_measured : (s : List ℕ) (e : ℕ) → e ≤ length s → Ascii s 0 e → e + wide (drop e s) ≡ wide s
+plain_measured s e h f =
+    omega (
+      arith,
+      ap (λ (r : List ℕ). wide r) (take-append-drop e s),
+      wide_both (take e s) (drop e s),
+      ap length (plain_all (take e s) (λ k a m. rw (get_or-take e s k 0 (omega (arith, length-take-le e s h))) (f k a (omega (arith, length-take-le e s h))))),
+      length-take-le e s h,
+    )
+
+-- a number of a part is one of the whole
+pub part_at : (s : List ℕ) (e f k : ℕ) → k < length (take (f - e) (drop e s)) → (e + k < length s) × (get_or (take (f - e) (drop e s)) k 0 ≡ get_or s (e + k) 0)
+part_at s e f k h =
+    let l : k < f - e = omega (arith, length-take (f - e) (drop e s)) in
+    (omega (arith, length-take (f - e) (drop e s), length-drop e s), rw (get_or-take (f - e) (drop e s) k 0 l, get_or-drop e s k 0) refl)
 
 -- a text whose bytes are as many as its numbers is ASCII
 at_least_1 : (x : ℕ) → (1 ≤ length (encode x)) × (length (encode x) ≤ 1 → x < 0x80)
@@ -148,7 +133,7 @@ wide_least : (s : List ℕ) → length s ≤ wide s
 wide_least [] = omega arith
 wide_least (x ∷ s) = omega (arith, wide_both (x ∷ []) s, wide_one x, (at_least_1 x).0, wide_least s)
 
-pub narrow_text : (s : List ℕ) → wide s ≡ length s → Ascii s 0 (length s)
+narrow_text : (s : List ℕ) → wide s ≡ length s → Ascii s 0 (length s)
 narrow_text [] e k l h = absurd (omega arith)
 narrow_text (x ∷ s) e zero l h = (at_least_1 x).1 (omega (arith, wide_both (x ∷ []) s, wide_one x, wide_least s))
 narrow_text (x ∷ s) e (suc k) l h =
@@ -157,8 +142,8 @@ narrow_text (x ∷ s) e (suc k) l h =
 pub narrow_room : (s d d' : List ℕ) (r : ℕ) → wide s ≡ length s → Put s d 0 d' r → d' ≡ answered (encode_all s) d
 narrow_room s d d' r e w = w.stands ∙ at_start s d ∙ ap (λ (a : List ℕ). answered a d) (sym (plain_all s (narrow_text s e)))
 
-pub narrow_long : (s d d' : List ℕ) (r : ℕ) → wide s ≡ length s → Put s d 0 d' r → wide s ≤ length d → length d' ≡ length d
-narrow_long s d d' r e w h = rw (narrow_room s d d' r e w) (same_room (encode_all s) d h)
+pub narrow_all : (s : List ℕ) → wide s ≡ length s → All (λ x. x < 0x80) s
+narrow_all s e = All-from_get_or (λ (x : ℕ). x < 0x80) s 0 (λ k h. narrow_text s e k (omega arith) h)
 
 -- how far the room is filled
 pub record Spilling (s d o : List ℕ) (i at : ℕ) : Type 0 where

@@ -3,14 +3,17 @@
 // blocks of ASCII that a text begins with.
 #![tactic(auto)]
 
-ghost use Rattle.std.specs.Prelude.{◌≡◌, true, [], ◌∷◌, ◌+◌, ◌/◌, ◌<◌, ◌≤◌, ◌^◌, length};
+ghost use Rattle.std.specs.Prelude.{◌≡◌, ◌+◌, ◌/◌, ◌<◌, ◌≤◌, ◌^◌, length};
 ghost use Rattle.room.specs.Placed.{Put, answered};
 ghost use Rattle.utf8_read.specs.Table.{six, encode};
-ghost use Rattle.utf8_read.specs.Window.{Ascii};
 ghost use Rattle.numbers.specs.Points.{scalars};
 ghost use Rattle.utf8_write.specs.Writing.{encode_all};
 
+use room::put;
+use utf8_read::ascii::{ascii_end, put_as};
+
 // How many bytes a number takes: a sum, so that a loop over it is made of vectors.
+#[tactic(auto, using(crate::proofs::Spilling::steps, numbers::proofs::Steps::step_most))]
 fn width(x: u32) -> u32
     ensures { result ≡ length (encode x) }
 {
@@ -23,10 +26,8 @@ fn width_block(src: &[u32]) -> u32
     ensures { result ≡ length (encode_all src.now) }
 {
     let mut n: u32 = 0;
-    let mut k: usize = 0;
-    'block: while k < src.len() {
-        n += width(src[k]);
-        k += 1;
+    'block: for x in src {
+        n += width(*x);
     }
     n
 }
@@ -35,15 +36,12 @@ fn width_block(src: &[u32]) -> u32
 pub fn width_of(text: &[u32]) -> usize
     ensures { result ≡ length (encode_all text.now) }
 {
-    let plain = plain_end(text, 0);
+    let plain = ascii_end::<u32, 16>(text, 0);
     let mut n = plain;
-    let mut at = plain;
-    'many: while 65536 < text.len() - at {
-        let next = at + 65536;
-        n += width_block(&text[at..next]) as usize;
-        at = next;
+    'many: for block in text[plain..].chunks(65536) {
+        n += width_block(block) as usize;
     }
-    n + width_block(&text[at..]) as usize
+    n
 }
 
 // The six low bits under the mark 10.
@@ -54,6 +52,7 @@ fn six_of(x: u32) -> u8
 }
 
 // The first byte of two, of three and of four.
+// Kept so: the new form is no plainer, since mark, shift and bound hang together.
 fn lead_two(x: u32) -> u8
     requires { x < 2 ^ 11 }
     ensures { result ≡ 0xc0 + x / 64 }
@@ -75,116 +74,34 @@ fn lead_four(x: u32) -> u8
     (0xf0 | x >> 18) as u8
 }
 
-// Bytes at a place of a room.
-fn put_one(out: &mut [u8], at: usize, a: u8) -> usize
-    requires { at + 1 ≤ length out.old }
-    ensures { Put (a ∷ []) out.old at out.new result }
-{
-    out[at] = a;
-    at + 1
-}
-
-fn put_two(out: &mut [u8], at: usize, a: u8, b: u8) -> usize
-    requires { at + 2 ≤ length out.old }
-    ensures { Put (a ∷ b ∷ []) out.old at out.new result }
-{
-    out[at] = a;
-    out[at + 1] = b;
-    at + 2
-}
-
-fn put_three(out: &mut [u8], at: usize, a: u8, b: u8, c: u8) -> usize
-    requires { at + 3 ≤ length out.old }
-    ensures { Put (a ∷ b ∷ c ∷ []) out.old at out.new result }
-{
-    out[at] = a;
-    out[at + 1] = b;
-    out[at + 2] = c;
-    at + 3
-}
-
-fn put_four(out: &mut [u8], at: usize, a: u8, b: u8, c: u8, d: u8) -> usize
-    requires { at + 4 ≤ length out.old }
-    ensures { Put (a ∷ b ∷ c ∷ d ∷ []) out.old at out.new result }
-{
-    out[at] = a;
-    out[at + 1] = b;
-    out[at + 2] = c;
-    out[at + 3] = d;
-    at + 4
-}
-
 // The bytes of a code point at a place of a room; the next place is handed back.
+#[tactic(auto, using(crate::proofs::Encodes::row_1, crate::proofs::Encodes::row_2, crate::proofs::Encodes::row_3, crate::proofs::Encodes::row_4))]
 fn put_code(out: &mut [u8], at: usize, x: u32) -> usize
     requires { (x < 2 ^ 21) × (at + length (encode x) ≤ length out.old) }
     ensures { Put (encode x) out.old at out.new result }
 {
     if x < 0x80 {
-        return put_one(out, at, x as u8);
+        return put(&[x as u8], out, at);
     }
     if x < 0x800 {
-        return put_two(out, at, lead_two(x), six_of(x));
+        return put(&[lead_two(x), six_of(x)], out, at);
     }
     if x < 0x10000 {
-        return put_three(out, at, lead_three(x), six_of(x >> 6), six_of(x));
+        return put(&[lead_three(x), six_of(x >> 6), six_of(x)], out, at);
     }
-    put_four(
+    put(
+        &[lead_four(x), six_of(x >> 12), six_of(x >> 6), six_of(x)],
         out,
         at,
-        lead_four(x),
-        six_of(x >> 12),
-        six_of(x >> 6),
-        six_of(x),
     )
 }
 
-// Whether the 16 numbers from a place on are ASCII.
-fn plain(text: &[u32], at: usize) -> bool
-    requires { at + 16 ≤ length text.now }
-    ensures { result ≡ true → Ascii text.now at (at + 16) }
-{
-    let mut ok = true;
-    let mut k: usize = 0;
-    'plain: while k < 16 {
-        ok = ok & (text[at + k] < 0x80);
-        k += 1;
-    }
-    ok
-}
-
-// How far blocks of 16 ASCII numbers go from a place on.
-fn plain_end(text: &[u32], at: usize) -> usize
-    requires { at ≤ length text.now }
-    ensures { (at ≤ result) × (result ≤ length text.now) × Ascii text.now at result }
-{
-    let mut end = at;
-    'many: while 16 <= text.len() - end {
-        if !plain(text, end) {
-            return end;
-        }
-        end += 16;
-    }
-    end
-}
-
+// An ASCII number as a byte.
 fn low(x: u32) -> u8
     requires { x < 0x80 }
     ensures { result ≡ x }
 {
     x as u8
-}
-
-// ASCII numbers as bytes, put at a place of a room.
-fn narrow(src: &[u32], out: &mut [u8], at: usize) -> usize
-    requires { Ascii src.now 0 (length src.now) × (at + length src.now ≤ length out.old) }
-    ensures { Put src.now out.old at out.new result }
-{
-    let mut j = 0;
-    'put: while j < src.len() {
-        out[at + j] = low(src[j]);
-        j += 1;
-    }
-    at + j
 }
 
 // How many numbers go one at a time before ASCII is looked for again: few where the width says that nearly
@@ -202,20 +119,19 @@ pub fn spill(text: &[u32], out: &mut [u8], width: usize)
     ensures { out.new ≡ answered (encode_all text.now) out.old }
 {
     if width == text.len() {
-        narrow(text, out, 0);
+        put_as(text, out, 0, low);
         return;
     }
     let step = pace(text.len(), width);
     let mut i = 0;
     let mut at = 0;
+    // Kept so: a `while`, since how far a step goes is found in the text; no range counts it.
     'spill: while i < text.len() {
-        let end = plain_end(text, i);
-        at = narrow(&text[i..end], out, at);
-        i = end;
-        let stop = utf8_read::near(text.len(), i, step);
-        'some: while i < stop {
-            at = put_code(out, at, text[i]);
-            i += 1;
+        let end = ascii_end::<u32, 16>(text, i);
+        at = put_as(&text[i..end], out, at, low);
+        i = utf8_read::near(text.len(), end, step);
+        'some: for x in &text[end..i] {
+            at = put_code(out, at, *x);
         }
     }
 }

@@ -3,6 +3,8 @@
 // answer `0 count` or `4 index`, and the bytes.
 #![tactic(auto)]
 
+use vectors::{Case, Due};
+
 fn main() {
     let mut space = io::large_buffer();
     let n = io::read_full(0, &mut space);
@@ -13,47 +15,22 @@ fn replay(name: &[u8], bytes: &[u8]) {
     let mut text = [0u32; 1024];
     let mut written = [0u8; 1024];
     let mut room = [0u8; 1024];
-    let mut tally = vectors::no_cases();
-    let mut at = 0;
-    'cases: while at < bytes.len() {
-        let case = case_at(bytes, at, &mut text, &mut written, &mut room);
-        tally = tally.with(case.agrees);
-        if case.next <= at {
-            break 'cases;
-        }
-        at = case.next;
-    }
-    vectors::report(name, tally);
-}
-
-// Whether the calls give the case's answer, and the offset behind the case.
-#[derive(Clone, Copy)]
-struct Case {
-    agrees: bool,
-    next: usize,
+    vectors::replay(
+        name,
+        bytes.len(),
+        |at| case_at(bytes, at, &mut text, &mut written, &mut room),
+    );
 }
 
 fn case_at(bytes: &[u8], at: usize, text: &mut [u32], written: &mut [u8], room: &mut [u8]) -> Case {
-    let text_line = vectors::numbers_u32(bytes, at, text);
+    let text_line = vectors::numbers(bytes, at, text);
     let answer = vectors::due_at(bytes, text_line.next);
-    let written_line = vectors::numbers_u8(bytes, answer.next, written);
-    let text_count = text_line.count;
-    let written_count = written_line.count;
-    let next = written_line.next;
-    if !vectors::is_counted(utf8::write_length(&text[..text_count]), answer.due) {
-        return Case {
-            agrees: false,
-            next,
-        };
-    }
-    if !vectors::is_counted(utf8::write(&text[..text_count], room), answer.due) {
-        return Case {
-            agrees: false,
-            next,
-        };
-    }
+    let written_line = vectors::numbers(bytes, answer.next, written);
+    let agrees = Due::from(utf8::write_length(text_line.numbers)) == answer.due
+        && Due::from(utf8::write(text_line.numbers, room)) == answer.due
+        && room.starts_with(written_line.numbers);
     Case {
-        agrees: vectors::same_u8(room, written, written_count),
-        next,
+        agrees,
+        next: written_line.next,
     }
 }

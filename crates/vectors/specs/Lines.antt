@@ -3,6 +3,6 @@ use Rattle.std.specs.Prelude.{ℕ, ◌<◌, ◌≤◌, List, length}
 use Rattle.vectors.specs.declared.number.Line.{Line}
 
 -- a line was read: what was put fits the room, and within the bytes the offset grows
-pub record Read {A : Type 0} (bytes : List ℕ) (room : List A) (at : ℕ) (r : Line) : Type 0 where
-  pub fits : r.count ≤ length room
+pub record Read {A : Type 0} (bytes : List ℕ) (room : List A) (at : ℕ) (r : Line A) : Type 0 where
+  pub fits : length r.numbers.now ≤ length room
   pub grows : at < length bytes → at < r.next

@@ -1,13 +1,11 @@
-// What a case's answer line says, and whether a call's answer is that.
-use refusal::{Counted, Refusal};
+// What a case's answer line says, and what a call's answer is in the same words.
+use refusal::{Refusal, Values};
 
 // An answer, as its line says it: 0 and the counts, or a refusal's number and values; 0 after the last.
-#[derive(Clone, Copy)]
+#[derive(Clone, Copy, Debug, PartialEq, Eq)]
 pub struct Due {
     pub number: usize,
-    pub first: usize,
-    pub second: usize,
-    pub third: usize,
+    pub values: Values,
 }
 
 #[derive(Clone, Copy)]
@@ -18,41 +16,55 @@ pub struct DueLine {
 }
 
 pub fn due_at(bytes: &[u8], at: usize) -> DueLine {
-    let mut answer = [0usize; 4];
-    let line = crate::number::numbers_usize(bytes, at, &mut answer);
-    let due = Due {
-        number: answer[0],
-        first: answer[1],
-        second: answer[2],
-        third: answer[3],
-    };
+    let mut answer = [0u64; 4];
+    let next = crate::number::numbers(bytes, at, &mut answer).next;
+    let [number, first, second, third] = answer;
     DueLine {
-        due,
-        next: line.next,
+        due: Due {
+            number: number as usize,
+            values: Values {
+                first,
+                second,
+                third,
+            },
+        },
+        next,
     }
 }
 
-// Refusal 7, which no line says: it is due where a room is lent too short.
-pub fn room_due() -> Due {
-    Due {
-        number: 7,
-        first: 0,
-        second: 0,
-        third: 0,
+impl Due {
+    // An answer of so many counts, 0 after the last.
+    pub fn counts(first: usize, second: usize, third: usize) -> Due {
+        Due {
+            number: 0,
+            values: Values {
+                first: first as u64,
+                second: second as u64,
+                third: third as u64,
+            },
+        }
+    }
+
+    pub fn is_refusal(self) -> bool {
+        self.number != 0
     }
 }
 
-pub fn is_refusal(why: Refusal, due: Due) -> bool {
-    let values = refusal::values_of(why);
-    refusal::number_of(why) == due.number
-        && values.first == due.first as u64
-        && values.second == due.second as u64
-        && values.third == due.third as u64
+impl From<Refusal> for Due {
+    fn from(why: Refusal) -> Due {
+        Due {
+            number: why.number(),
+            values: why.values(),
+        }
+    }
 }
 
-pub fn is_counted(answer: Counted, due: Due) -> bool {
-    match answer {
-        Counted::Count(n) => due.number == 0 && due.first == n,
-        Counted::Refused(why) => is_refusal(why, due),
+// What an answer of one count is due as.
+impl From<Result<usize, Refusal>> for Due {
+    fn from(answer: Result<usize, Refusal>) -> Due {
+        match answer {
+            Ok(count) => Due::counts(count, 0, 0),
+            Err(why) => Due::from(why),
+        }
     }
 }

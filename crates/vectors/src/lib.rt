@@ -6,82 +6,11 @@
 mod due;
 mod number;
 
-pub use due::{Due, DueLine, due_at, is_counted, is_refusal, room_due};
-pub use number::{
-    Line, as_u8, as_u32, behind, numbers_i64, numbers_u8, numbers_u32, numbers_usize,
-};
-
-// Whether two slices begin alike for a count, and both have it.
-pub fn same_u32(a: &[u32], b: &[u32], count: usize) -> bool {
-    if a.len() < count {
-        return false;
-    }
-    if b.len() < count {
-        return false;
-    }
-    let mut i = 0;
-    'same: while i < count {
-        if a[i] != b[i] {
-            return false;
-        }
-        i += 1;
-    }
-    true
-}
-
-pub fn same_usize(a: &[usize], b: &[usize], count: usize) -> bool {
-    if a.len() < count {
-        return false;
-    }
-    if b.len() < count {
-        return false;
-    }
-    let mut i = 0;
-    'same: while i < count {
-        if a[i] != b[i] {
-            return false;
-        }
-        i += 1;
-    }
-    true
-}
-
-pub fn same_u8(a: &[u8], b: &[u8], count: usize) -> bool {
-    if a.len() < count {
-        return false;
-    }
-    if b.len() < count {
-        return false;
-    }
-    let mut i = 0;
-    'same: while i < count {
-        if a[i] != b[i] {
-            return false;
-        }
-        i += 1;
-    }
-    true
-}
-
-pub fn same_i64(a: &[i64], b: &[i64], count: usize) -> bool {
-    if a.len() < count {
-        return false;
-    }
-    if b.len() < count {
-        return false;
-    }
-    let mut i = 0;
-    'same: while i < count {
-        if a[i] != b[i] {
-            return false;
-        }
-        i += 1;
-    }
-    true
-}
+pub use due::{Due, DueLine, due_at};
+pub use number::{FromDecimal, Line, behind, numbers};
 
 // How many cases agree, and how many differ.
-#[derive(Clone, Copy)]
+#[derive(Clone, Copy, Default)]
 pub struct Tally {
     pub agree: u64,
     pub differ: u64,
@@ -92,26 +21,55 @@ impl Tally {
     pub fn with(self, agrees: bool) -> Tally {
         if agrees {
             Tally {
-                agree: std::num::wrapping_add_u64(self.agree, 1),
-                differ: self.differ,
+                agree: self.agree.wrapping_add(1),
+                ..self
             }
         } else {
             Tally {
-                agree: self.agree,
-                differ: std::num::wrapping_add_u64(self.differ, 1),
+                differ: self.differ.wrapping_add(1),
+                ..self
             }
         }
     }
 }
 
-pub fn no_cases() -> Tally {
-    Tally {
-        agree: 0,
-        differ: 0,
+// Calls at each case from the first offset on; the closure gives the offset behind the case. One that does not go on is the last.
+// Kept so: a `while`, since a step is as long as the case that was read; no range counts it.
+pub fn each_case<F: FnMut(usize) -> usize>(end: usize, mut case_at: F)
+    requires { (state : F) (x : _) → F.pre state x }
+{
+    let mut at = 0;
+    'cases: while at < end {
+        let next = case_at(at);
+        if next <= at {
+            break 'cases;
+        }
+        at = next;
     }
 }
 
+// Whether a call gives the case's answer, and the offset behind the case.
+#[derive(Clone, Copy)]
+pub struct Case {
+    pub agrees: bool,
+    pub next: usize,
+}
+
+// Runs each case, and tells how many agree.
+pub fn replay<F: FnMut(usize) -> Case>(name: &[u8], end: usize, mut case_at: F)
+    requires { (state : F) (x : _) → F.pre state x }
+{
+    let mut tally = Tally::default();
+    each_case(end, |at| {
+        let case = case_at(at);
+        tally = tally.with(case.agrees);
+        case.next
+    });
+    report(name, tally);
+}
+
 // `name: A agree, D differ`, on standard output.
+// Kept so: written piece by piece, since `Display` asks each program for a handle of its runtime and is no plainer.
 pub fn report(name: &[u8], tally: Tally) {
     io::write_all(1, name);
     io::write_all(1, b": ");

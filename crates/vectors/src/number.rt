@@ -1,180 +1,136 @@
-// A number of a line, and a line of numbers for each width.
-ghost use Rattle.std.specs.Prelude.{◌<◌, length};
+// A number of a line, and a line of numbers of any width.
+ghost use Rattle.std.specs.Prelude.{◌<◌, length, IfSome};
 ghost use Rattle.vectors.specs.Lines.{Read};
 
+// The numbers of a line that the room had place for, and the offset behind the line.
 #[derive(Clone, Copy)]
-pub struct Line {
-    // How many numbers were put into the room.
-    pub count: usize,
-    // The offset behind the line.
+pub struct Line<'a, T> {
+    pub numbers: &'a [T],
     pub next: usize,
 }
 
-// A number at an offset, or none where the line ends; next is behind what was read.
+// A number of a line, and the offset behind what was read.
 #[derive(Clone, Copy)]
-pub struct Number {
-    pub here: bool,
-    pub negative: bool,
-    pub magnitude: u64,
-    pub next: usize,
+struct Number {
+    negative: bool,
+    magnitude: u64,
+    next: usize,
+}
+
+// What a number is read into.
+pub trait FromDecimal: Copy {
+    fn from_decimal(magnitude: u64, negative: bool) -> Self;
+}
+
+// The largest where a number does not fit; a sign is left out.
+impl FromDecimal for u8 {
+    fn from_decimal(magnitude: u64, _negative: bool) -> u8 {
+        u8::try_from(magnitude).unwrap_or(u8::MAX)
+    }
+}
+
+impl FromDecimal for u32 {
+    fn from_decimal(magnitude: u64, _negative: bool) -> u32 {
+        u32::try_from(magnitude).unwrap_or(u32::MAX)
+    }
+}
+
+impl FromDecimal for u64 {
+    fn from_decimal(magnitude: u64, _negative: bool) -> u64 {
+        magnitude
+    }
+}
+
+impl FromDecimal for usize {
+    fn from_decimal(magnitude: u64, _negative: bool) -> usize {
+        magnitude as usize
+    }
+}
+
+// The least where a number does not fit, of either sign.
+impl FromDecimal for i64 {
+    fn from_decimal(magnitude: u64, negative: bool) -> i64 {
+        if negative {
+            0i64.saturating_sub_unsigned(magnitude)
+        } else {
+            i64::try_from(magnitude).unwrap_or(i64::MIN)
+        }
+    }
 }
 
 // One digit more; what is no digit, or does not fit, changes nothing.
 fn with_digit(value: u64, byte: u8) -> u64 {
-    if byte < b'0' {
+    if !byte.is_ascii_digit() {
         return value;
     }
-    if byte > b'9' {
-        return value;
+    let digit = u64::from(byte - b'0');
+    match value.checked_mul(10) {
+        Some(tens) => tens.checked_add(digit).unwrap_or(value),
+        None => value,
     }
-    let digit = (byte - b'0') as u64;
-    if value < 1844674407370955161 {
-        return value * 10 + digit;
-    }
-    if value > 1844674407370955161 {
-        return value;
-    }
-    if digit > 5 {
-        return value;
-    }
-    value * 10 + digit
 }
 
-fn number_at(bytes: &[u8], at: usize) -> Number
+// The number at an offset, or none where the line ends there.
+fn number_at(bytes: &[u8], at: usize) -> Option<Number>
     requires { at < length bytes.now }
-    ensures { at < result.next }
+    ensures { IfSome result (λ n. at < n.next) }
 {
     let first = bytes[at];
-    let mut i = at + 1;
     if first == b'\n' {
-        return Number {
-            here: false,
-            negative: false,
-            magnitude: 0,
-            next: i,
-        };
+        return None;
     }
-    let mut value = with_digit(0, first);
-    'digits: while i < bytes.len() {
-        let b = bytes[i];
-        if b == b'\n' {
-            break 'digits;
-        }
-        i += 1;
-        if b == b' ' {
-            break 'digits;
-        }
-        value = with_digit(value, b);
-    }
-    Number {
-        here: true,
-        negative: first == b'-',
-        magnitude: value,
-        next: i,
-    }
-}
-
-// The largest where a number does not fit.
-pub fn as_u8(n: u64) -> u8 {
-    if n < 256 { n as u8 } else { 255 }
-}
-
-pub fn as_u32(n: u64) -> u32 {
-    if n < 4294967296 { n as u32 } else { 4294967295 }
-}
-
-fn as_i64(n: u64, negative: bool) -> i64 {
-    if n < 9223372036854775808 {
-        if negative { -(n as i64) } else { n as i64 }
+    let rest = &bytes[at + 1..];
+    let length = rest
+        .iter()
+        .position(|b| *b == b' ' || *b == b'\n')
+        .unwrap_or(rest.len());
+    let (digits, behind) = rest.split_at(length);
+    let magnitude = digits
+        .iter()
+        .fold(with_digit(0, first), |value, b| with_digit(value, *b));
+    let end = at + 1 + length;
+    let next = if behind.first() == Some(&b' ') {
+        end + 1
     } else {
-        -9223372036854775808
-    }
+        end
+    };
+    Some(Number {
+        negative: first == b'-',
+        magnitude,
+        next,
+    })
 }
 
-pub fn numbers_u8(bytes: &[u8], at: usize, room: &mut [u8]) -> Line
-    ensures { Read bytes.now room.new at result }
+// Reads a line into the room; what the room has no place for is left out.
+// Kept so: a `while`, since a step is as long as the number that was read; an iterator of numbers is no plainer.
+pub fn numbers<'a, T: FromDecimal>(bytes: &[u8], at: usize, room: &'a mut [T]) -> Line<'a, T>
+    ensures { Read bytes.now room.old at result }
 {
-    let mut n = 0;
-    let mut i = at;
-    'line: while i < bytes.len() {
-        let found = number_at(bytes, i);
-        i = found.next;
-        if !found.here {
+    let mut count = 0;
+    let mut next = at;
+    'line: while next < bytes.len() {
+        let Some(number) = number_at(bytes, next) else {
+            next += 1;
             break 'line;
-        }
-        if n < room.len() {
-            room[n] = as_u8(found.magnitude);
-            n += 1;
+        };
+        next = number.next;
+        if count < room.len() {
+            room[count] = T::from_decimal(number.magnitude, number.negative);
+            count += 1;
         }
     }
-    Line { count: n, next: i }
-}
-
-pub fn numbers_u32(bytes: &[u8], at: usize, room: &mut [u32]) -> Line
-    ensures { Read bytes.now room.new at result }
-{
-    let mut n = 0;
-    let mut i = at;
-    'line: while i < bytes.len() {
-        let found = number_at(bytes, i);
-        i = found.next;
-        if !found.here {
-            break 'line;
-        }
-        if n < room.len() {
-            room[n] = as_u32(found.magnitude);
-            n += 1;
-        }
+    Line {
+        numbers: &room[..count],
+        next,
     }
-    Line { count: n, next: i }
-}
-
-pub fn numbers_usize(bytes: &[u8], at: usize, room: &mut [usize]) -> Line
-    ensures { Read bytes.now room.new at result }
-{
-    let mut n = 0;
-    let mut i = at;
-    'line: while i < bytes.len() {
-        let found = number_at(bytes, i);
-        i = found.next;
-        if !found.here {
-            break 'line;
-        }
-        if n < room.len() {
-            room[n] = found.magnitude as usize;
-            n += 1;
-        }
-    }
-    Line { count: n, next: i }
-}
-
-pub fn numbers_i64(bytes: &[u8], at: usize, room: &mut [i64]) -> Line
-    ensures { Read bytes.now room.new at result }
-{
-    let mut n = 0;
-    let mut i = at;
-    'line: while i < bytes.len() {
-        let found = number_at(bytes, i);
-        i = found.next;
-        if !found.here {
-            break 'line;
-        }
-        if n < room.len() {
-            room[n] = as_i64(found.magnitude, found.negative);
-            n += 1;
-        }
-    }
-    Line { count: n, next: i }
 }
 
 // The offset behind so many lines.
 pub fn behind(bytes: &[u8], at: usize, lines: usize) -> usize {
     let mut next = at;
-    let mut i = 0;
-    'lines: while i < lines {
-        let mut numbers = [0usize; 0];
-        next = numbers_usize(bytes, next, &mut numbers).next;
-        i += 1;
+    for _ in 0..lines {
+        let mut none = [0usize; 0];
+        next = numbers(bytes, next, &mut none).next;
     }
     next
 }

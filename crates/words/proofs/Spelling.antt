@@ -10,21 +10,21 @@ use Rattle.room.specs.Placed.{placed, Put}
 use Rattle.room.proofs.Placing.{placed_length, placed_more}
 use Rattle.records.specs.declared.Token.{Token}
 use Rattle.records.specs.Tokens.{token_at, tokens_from, spelled, spelling}
-use Rattle.records.proofs.Tokens.{from_more, from_none, length_spell}
+use Rattle.records.proofs.TokenLaws.{from_more, from_none, length_spell}
 use Rattle.shapes.specs.Accepted.{AllIn}
 use Rattle.words.specs.Words.{Lends, first_start}
 
 -- where the first token begins
 
-pub start_none : (spans keys : List ℕ) (first count : ℕ) → count ≡ 0 → 0 ≡ first_start (tokens_from spans keys first count)
+pub start_none : (spans keys : List ℕ) (first count : ℕ) → count ≡ 0 → first_start (tokens_from spans keys first count) ≡ 0
 unfolding tokens_from first_start
 start_none spans keys first count e = rw e
 
-pub start_some : (spans keys : List ℕ) (first count : ℕ) (t : Token) (r : ℕ) → (count ≡ 0 → ⊥) → t ≡ token_at spans keys first → r ≡ t.start
-    → r ≡ first_start (tokens_from spans keys first count)
+pub start_some : (spans keys : List ℕ) (first count : ℕ) → (count ≡ 0 → ⊥)
+    → first_start (tokens_from spans keys first count) ≡ (token_at spans keys first).start
 unfolding tokens_from first_start
-start_some spans keys first zero t r h e f = absurd (h refl)
-start_some spans keys first (suc k) t r h e f = f ∙ rw e
+start_some spans keys first zero h = absurd (h refl)
+start_some spans keys first (suc k) h = refl
 
 start_inside : (n : ℕ) (ts : List Token) → AllIn n ts → first_start ts ≤ n
 unfolding AllIn first_start
@@ -69,11 +69,11 @@ module _ (text spans keys : List ℕ) (first count : ℕ) (d : List ℕ) (at : �
     long = length_spell text (record { start = from; length = held; key = 0 }) s.inside
 
     -- the range that is held back can be put
-    pub asks : (from + held ≤ length text) × (to + held ≤ length o)
+    asks : (from + held ≤ length text) × (to + held ≤ length o)
     asks = (s.inside, omega (arith, s.ends, s.same, h.place))
 
     module _ {o' : List ℕ} {r : ℕ} (p : Put (range from held) o to o' r) where
-      pub kept : length o' ≡ length d
+      kept : length o' ≡ length d
       kept = ap length p.stands ∙ placed_length o to (range from held) (omega (arith, long, asks.1)) ∙ s.same
 
       put_more : placed o' r (rest i) ≡ placed d at (spelling text spans keys first count)
@@ -88,7 +88,7 @@ module _ (text spans keys : List ℕ) (first count : ℕ) (d : List ℕ) (at : �
             stands = p.stands ∙ ap (placed o to) (sym (append-nil (range from held)) ∙ ap (λ (r : List ℕ). range from held ++ r) (sym n)) ∙ s.stands;
           }
 
-    module _ (l : i < first + count) (t : Token) (f n : ℕ) (et : t ≡ token_at spans keys i) (ef : f ≡ t.start) (en : n ≡ t.length) where
+    module _ (l : i < first + count) (t : Token) (et : t ≡ token_at spans keys i) where
       more : tokens_from spans keys i (first + count - i) ≡ t ∷ tokens_from spans keys (i + 1) (first + count - (i + 1))
       more = rw et (from_more spans keys i (first + count) l)
 
@@ -96,18 +96,18 @@ module _ (text spans keys : List ℕ) (first count : ℕ) (d : List ℕ) (at : �
       unfolding AllIn
       good = rw more at s.tokens
 
-      -- the token's range, as it was read
-      words : rest i ≡ range f n ++ rest (i + 1)
+      -- the token's range
+      words : rest i ≡ range t.start t.length ++ rest (i + 1)
       unfolding spelled
-      words = rw (ef, en) (ap (spelled text) more)
+      words = ap (spelled text) more
 
-      size : length (rest i) ≡ n + length (rest (i + 1))
-      size = omega (arith, simp length-append at (ap length words), length_spell text t good.1.0, ap (λ (k : ℕ). length (take k (drop f text))) en, ap (λ (k : ℕ). length (take t.length (drop k text))) ef)
+      size : length (rest i) ≡ t.length + length (rest (i + 1))
+      size = omega (arith, simp length-append at (ap length words), length_spell text t good.1.0)
 
-      pub joins : f ≡ from + held → Spelling o (i + 1) to from (held + n)
+      pub joins : t.start ≡ from + held → Spelling o (i + 1) to from (held + t.length)
       joins e =
-          let w : range from held ++ rest i ≡ range from (held + n) ++ rest (i + 1)
-          = rw (words, e, ranges text from held n) (sym (append_assoc (range from held) (range (from + held) n) (rest (i + 1)))) in
+          let w : range from held ++ rest i ≡ range from (held + t.length) ++ rest (i + 1)
+          = rw (words, e, ranges text from held t.length) (sym (append_assoc (range from held) (range (from + held) t.length) (rest (i + 1)))) in
           record {
             most = omega arith;
             tokens = good.1.1;
@@ -117,7 +117,7 @@ module _ (text spans keys : List ℕ) (first count : ℕ) (d : List ℕ) (at : �
             stands = ap (placed o to) (sym w) ∙ s.stands;
           }
 
-      pub goes_on : {o' : List ℕ} {r : ℕ} → Put (range from held) o to o' r → Spelling o' (i + 1) r f n
+      pub goes_on : {o' : List ℕ} {r : ℕ} → Put (range from held) o to o' r → Spelling o' (i + 1) r t.start t.length
       goes_on {o'} {r} p =
           record {
             most = omega arith;

@@ -7,7 +7,7 @@ ghost use Rattle.room.specs.Placed.{Put};
 ghost use Rattle.records.specs.Tokens.{tokens_lent, tokens_from, spelling};
 ghost use Rattle.words.specs.Words.{Lends, first_start};
 
-use numbers::wide;
+use records::Tokens;
 
 // So many code points of the original from a place on.
 pub fn put_original(
@@ -20,55 +20,49 @@ pub fn put_original(
     requires { (from + count ≤ length original.now) × (at + count ≤ length out.old) }
     ensures { Put (take count (drop from original.now)) out.old at out.new result }
 {
-    let end = from + count;
-    room::put_u32(&original[from..end], out, at)
+    room::put(&original[from..from + count], out, at)
 }
 
 // Where the first of so many tokens starts; 0 where there is none.
-fn first_start(spans: &[u32], keys: &[u32], first: usize, count: usize) -> usize
-    requires { first + count ≤ tokens_lent spans.now keys.now }
-    ensures { result ≡ first_start (tokens_from spans.now keys.now first count) }
+// Kept so: an Option is no plainer, since nothing is held back there and any start will do.
+#[tactic(auto, using(crate::proofs::Spelling::start_none, crate::proofs::Spelling::start_some))]
+fn first_start(tokens: Tokens, first: usize, count: usize) -> usize
+    requires { first + count ≤ tokens_lent tokens.spans.now tokens.keys.now }
+    ensures { result ≡ first_start (tokens_from tokens.entry.spans.now tokens.entry.keys.now first count) }
 {
     if count == 0 {
         return 0;
     }
-    let t = records::token_at(spans, keys, first);
-    wide(t.start)
+    tokens.at(first).start as usize
 }
 
 // The spelling of so many tokens from the first on. Tokens that follow each other in the text are held
 // back and put at once, as most of an insert's are.
 pub fn put_tokens(
     text: &[u32],
-    spans: &[u32],
-    keys: &[u32],
+    tokens: Tokens,
     first: usize,
     count: usize,
     out: &mut [u32],
     at: usize,
 ) -> usize
-    requires { Lends text.now spans.now keys.now first count out.old at }
-    ensures { Put (spelling text.now spans.now keys.now first count) out.old at out.new result }
+    requires { Lends text.now tokens.spans.now tokens.keys.now first count out.old at }
+    ensures { Put (spelling text.now tokens.entry.spans.now tokens.entry.keys.now first count) out.old at out.new result }
 {
-    let end = first + count;
-    let mut i = first;
     let mut to = at;
-    let mut from = first_start(spans, keys, first, count);
+    let mut from = first_start(tokens, first, count);
     let mut held = 0;
-    'tokens: while i < end {
-        let t = records::token_at(spans, keys, i);
-        let start = wide(t.start);
-        let length = wide(t.length);
-        let next = i + 1;
+    'tokens: for i in first..first + count {
+        let token = tokens.at(i);
+        let start = token.start as usize;
+        let length = token.length as usize;
         if start == from + held {
             held += length;
-            i = next;
-            continue 'tokens;
+        } else {
+            to = put_original(text, from, held, out, to);
+            from = start;
+            held = length;
         }
-        to = put_original(text, from, held, out, to);
-        from = start;
-        held = length;
-        i = next;
     }
     put_original(text, from, held, out, to)
 }

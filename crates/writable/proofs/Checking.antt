@@ -10,25 +10,23 @@ use lib.ListN.{length, take, drop, length-take, length-drop}
 use lib.IntN.{ℤ}
 use lib.Dec.{ltb}
 use borrow.Author.Tests.{lt-ltb, le-ltb, lt-leb, le-leb}
-use Rattle.room.specs.Choice.{pick}
-use Rattle.refusal.specs.declared.Refusal.TheVariants.{Record, Size, CodePoint}
-use Rattle.verdict.specs.Verdicts.{and_then}
+use Rattle.refusal.specs.declared.Refusal.TheVariants.{Record, Size}
+use Rattle.refusal.specs.declared.Refusal.{Refusal}
+use Rattle.std.specs.Prelude.{Ok, Err}
+use Rattle.diff.proofs.Laws.{refused_by, answered_by}
+use Rattle.verdict.specs.Verdicts.{and_then, accepted}
 use Rattle.verdict.specs.Points.{points_from}
 use Rattle.diff.specs.declared.diff.Item.{Item as Lent}
 use Rattle.diff.specs.declared.diff.Item.TheVariants.{Retain, Delete, Insert, Neither}
-use Rattle.diff.specs.declared.diff.Bad.TheVariants.{At, Nowhere}
 use Rattle.diff.specs.Items.{item_at, items_of, items_from}
 use Rattle.diff.specs.Checks.{refuse_if}
-use Rattle.diff.specs.Passes.{pointed}
 use Rattle.diff.proofs.Decoding.{items_more, items_none, items_length, insert_within}
 use Rattle.edit_format.specs.Items.{Item, kept, dropped, added}
 use Rattle.edit_format.specs.Written.{item_lines}
 use Rattle.written_lines.specs.Lengths.{cap}
 use Rattle.writable.specs.Writable.{file_item, file_items, file_of, sizes, shapes, writable}
-use Rattle.writable.specs.Passes.{sums_of, tally_of, shaped, checked_by}
+use Rattle.writable.specs.Passes.{sums_of, tally_of, checked_by}
 use Rattle.writable.specs.declared.Sums.{Sums}
-use Rattle.writable.specs.declared.Tally.TheVariants.{TooBig, Fits}
-use Rattle.writable.specs.declared.Checked.TheVariants.{Fine, Refused}
 
 -- the file's items from the lent item i on
 abbrev pub rest : List ℤ → List ℕ → ℕ → List Item
@@ -68,15 +66,15 @@ tally_begins xs text = record {
   added_sum = omega (arith, ap added (rest_all xs text));
 }
 
-over_text : (is : List Item) → 131070 < added is → TooBig ≡ tally_of is
+over_text : (is : List Item) → 131070 < added is → Err Size ≡ tally_of is
 unfolding tally_of
 over_text is h = rw (lt-ltb 131070 (added is) h)
 
-over_used : (is : List Item) → 65535 < kept is + dropped is → TooBig ≡ tally_of is
+over_used : (is : List Item) → 65535 < kept is + dropped is → Err Size ≡ tally_of is
 unfolding tally_of
 over_used is h = rw (lt-ltb 65535 (kept is + dropped is) h) (go (ltb 131070 (added is)))
   where
-    go : (t : Bool) → TooBig ≡ pick t TooBig TooBig
+    go : (t : Bool) → Err Size ≡ and_then (and_then (refuse_if t Size) (Err Size)) (Ok (sums_of is))
     go true = refl
     go false = refl
 
@@ -134,22 +132,22 @@ module _ {xs : List ℤ} {text : List ℕ} {i k u a : ℕ} (t : Tallying xs text
         added_sum = omega (arith, t.added_sum, ap added r);
       }
 
-  pub retain_over : {n : ℕ} → i < length xs / 3 → item_at xs (length text) i ≡ Retain n → 65535 - u < n → TooBig ≡ tally_of (file_of xs text)
+  pub retain_over : {n : ℕ} → i < length xs / 3 → item_at xs (length text) i ≡ Retain n → 65535 - u < n → Err Size ≡ tally_of (file_of xs text)
   unfolding file_item kept dropped
   retain_over h e g = let r = rest_at xs text i h e in over_used (file_of xs text) (omega (arith, t.uses, t.used_sum, ap kept r, ap dropped r))
 
-  pub delete_over : {n : ℕ} → i < length xs / 3 → item_at xs (length text) i ≡ Delete n → 65535 - u < n → TooBig ≡ tally_of (file_of xs text)
+  pub delete_over : {n : ℕ} → i < length xs / 3 → item_at xs (length text) i ≡ Delete n → 65535 - u < n → Err Size ≡ tally_of (file_of xs text)
   unfolding file_item kept dropped
   delete_over h e g = let r = rest_at xs text i h e in over_used (file_of xs text) (omega (arith, t.uses, t.used_sum, ap kept r, ap dropped r))
 
-  pub insert_over : {s n : ℕ} → i < length xs / 3 → item_at xs (length text) i ≡ Insert s n → 131070 - a < n → TooBig ≡ tally_of (file_of xs text)
+  pub insert_over : {s n : ℕ} → i < length xs / 3 → item_at xs (length text) i ≡ Insert s n → 131070 - a < n → Err Size ≡ tally_of (file_of xs text)
   unfolding file_item added
   insert_over {s} {n} h e g =
       let r = rest_at xs text i h e in
       let l : length (take n (drop s text)) ≡ n = text_length_lem xs text i e in
       over_text (file_of xs text) (omega (arith, t.adds, t.added_sum, ap added r))
 
-  pub tally_ends : length xs / 3 ≤ i → Fits (record { kept = k; used = u; added = a }) ≡ tally_of (file_of xs text)
+  pub tally_ends : length xs / 3 ≤ i → Ok (record { kept = k; used = u; added = a }) ≡ tally_of (file_of xs text)
   unfolding tally_of kept dropped added
   tally_ends h =
       let r = rest_none xs text i h in
@@ -169,11 +167,11 @@ module _ {xs : List ℤ} {text : List ℕ} {j : Bool} {i : ℕ} (t : Shaping xs 
   here : {x : Lent} → i < length xs / 3 → item_at xs (length text) i ≡ x → shapes j i (file_item text x ∷ rest xs text (i + 1)) ≡ shapes false 0 (file_of xs text)
   here h e = ap (shapes j i) (sym (rest_at xs text i h e)) ∙ t.same
 
-  pub retain_none : {n : ℕ} → i < length xs / 3 → item_at xs (length text) i ≡ Retain n → n < 1 → shaped (At i) ≡ shapes false 0 (file_of xs text)
+  pub retain_none : {n : ℕ} → i < length xs / 3 → item_at xs (length text) i ≡ Retain n → n < 1 → Err (Record i) ≡ shapes false 0 (file_of xs text)
   unfolding file_item shapes
   retain_none {n} h e g = rw (lt-leb 1 n g) at (here h e)
 
-  pub retain_joined : {n : ℕ} → i < length xs / 3 → item_at xs (length text) i ≡ Retain n → 1 ≤ n → j ≡ true → shaped (At i) ≡ shapes false 0 (file_of xs text)
+  pub retain_joined : {n : ℕ} → i < length xs / 3 → item_at xs (length text) i ≡ Retain n → 1 ≤ n → j ≡ true → Err (Record i) ≡ shapes false 0 (file_of xs text)
   unfolding file_item shapes
   retain_joined {n} h e g f = rw (le-leb 1 n g, f) at (here h e)
 
@@ -181,7 +179,7 @@ module _ {xs : List ℤ} {text : List ℕ} {j : Bool} {i : ℕ} (t : Shaping xs 
   unfolding file_item shapes
   retain_on {n} h e g f = record { same = rw (le-leb 1 n g, f) at (here h e) }
 
-  pub delete_none : {n : ℕ} → i < length xs / 3 → item_at xs (length text) i ≡ Delete n → n < 1 → shaped (At i) ≡ shapes false 0 (file_of xs text)
+  pub delete_none : {n : ℕ} → i < length xs / 3 → item_at xs (length text) i ≡ Delete n → n < 1 → Err (Record i) ≡ shapes false 0 (file_of xs text)
   unfolding file_item shapes
   delete_none {n} h e g = rw (lt-leb 1 n g) at (here h e)
 
@@ -189,7 +187,7 @@ module _ {xs : List ℤ} {text : List ℕ} {j : Bool} {i : ℕ} (t : Shaping xs 
   unfolding file_item shapes
   delete_on {n} h e g = record { same = rw (le-leb 1 n g) at (here h e) }
 
-  pub insert_none : {s n : ℕ} → i < length xs / 3 → item_at xs (length text) i ≡ Insert s n → n < 1 → shaped (At i) ≡ shapes false 0 (file_of xs text)
+  pub insert_none : {s n : ℕ} → i < length xs / 3 → item_at xs (length text) i ≡ Insert s n → n < 1 → Err (Record i) ≡ shapes false 0 (file_of xs text)
   unfolding file_item shapes
   insert_none {s} {n} h e g = rw (text_length_lem xs text i e, lt-leb 1 n g) at (here h e)
 
@@ -197,11 +195,11 @@ module _ {xs : List ℤ} {text : List ℕ} {j : Bool} {i : ℕ} (t : Shaping xs 
   unfolding file_item shapes
   insert_on {s} {n} h e g = record { same = rw (text_length_lem xs text i e, le-leb 1 n g) at (here h e) }
 
-  pub neither_bad : i < length xs / 3 → item_at xs (length text) i ≡ Neither → shaped (At i) ≡ shapes false 0 (file_of xs text)
+  pub neither_bad : i < length xs / 3 → item_at xs (length text) i ≡ Neither → Err (Record i) ≡ shapes false 0 (file_of xs text)
   unfolding file_item shapes
   neither_bad h e = here h e
 
-  pub shape_ends : length xs / 3 ≤ i → shaped Nowhere ≡ shapes false 0 (file_of xs text)
+  pub shape_ends : length xs / 3 ≤ i → accepted ≡ shapes false 0 (file_of xs text)
   unfolding shapes
   shape_ends h = ap (shapes j i) (sym (rest_none xs text i h)) ∙ t.same
 
@@ -216,45 +214,36 @@ unfolding file_of
 file_length xs text = file_length' text (items_of xs (length text)) ∙ items_length xs (length text)
 
 module _ (xs : List ℤ) (text : List ℕ) where
-  pub many_items : 8192 < length xs / 3 → Refused Size ≡ checked_by (writable (file_of xs text) text) (file_of xs text)
-  unfolding writable sizes and_then
+  pub many_items : 8192 < length xs / 3 → Err Size ≡ checked_by (writable (file_of xs text) text) (file_of xs text)
+  unfolding writable sizes
   many_items h = rw (lt-ltb 8192 (length (file_of xs text)) (omega (arith, file_length xs text)))
 
-  pub long_text : length xs / 3 ≤ 8192 → 131070 < length text → Refused Size ≡ checked_by (writable (file_of xs text) text) (file_of xs text)
-  unfolding writable sizes and_then
+  pub long_text : length xs / 3 ≤ 8192 → 131070 < length text → Err Size ≡ checked_by (writable (file_of xs text) text) (file_of xs text)
+  unfolding writable sizes
   long_text h g = rw (le-ltb 8192 (length (file_of xs text)) (omega (arith, file_length xs text)), lt-ltb 131070 (length text) g)
 
   sized : length xs / 3 ≤ 8192 → length text ≤ 131070 → writable (file_of xs text) text ≡ and_then (and_then (refuse_if (ltb 131070 (added (file_of xs text))) Size) (refuse_if (ltb 65535 (kept (file_of xs text) + dropped (file_of xs text))) Size)) (and_then (points_from text 0) (shapes false 0 (file_of xs text)))
-  unfolding writable sizes and_then
+  unfolding writable sizes
   sized h g = rw (le-ltb 8192 (length (file_of xs text)) (omega (arith, file_length xs text)), le-ltb 131070 (length text) g)
 
-  pub too_big : length xs / 3 ≤ 8192 → length text ≤ 131070 → TooBig ≡ tally_of (file_of xs text) → Refused Size ≡ checked_by (writable (file_of xs text) text) (file_of xs text)
-  unfolding tally_of and_then
-  too_big h g e = rw (sized h g) (go (ltb 131070 (added (file_of xs text))) (ltb 65535 (kept (file_of xs text) + dropped (file_of xs text))) e)
-    where
-      go : (a b : Bool) → TooBig ≡ pick a TooBig (pick b TooBig (Fits (sums_of (file_of xs text)))) → Refused Size ≡ checked_by (and_then (and_then (refuse_if a Size) (refuse_if b Size)) (and_then (points_from text 0) (shapes false 0 (file_of xs text)))) (file_of xs text)
-      go true b e = refl
-      go false true e = refl
-      go false false e = let z : ◌≡◌ {A = ℕ} 0 1 = cc in absurd (omega arith)
+  -- what the sums say of the sizes
+  module _ (h : length xs / 3 ≤ 8192) (g : length text ≤ 131070) where
+    pub too_big : {r : Refusal} → Err r ≡ tally_of (file_of xs text) → Err r ≡ checked_by (writable (file_of xs text) text) (file_of xs text)
+    unfolding tally_of
+    too_big {r} e = rw (sized h g, refused_by _ (sums_of (file_of xs text)) r (sym e))
 
-  module _ (h : length xs / 3 ≤ 8192) (g : length text ≤ 131070) {s : Sums} (e : Fits s ≡ tally_of (file_of xs text)) where
-    fitted : (writable (file_of xs text) text ≡ and_then (points_from text 0) (shapes false 0 (file_of xs text))) × (s ≡ sums_of (file_of xs text))
-    unfolding tally_of and_then
-    fitted = rw (sized h g) (go (ltb 131070 (added (file_of xs text))) (ltb 65535 (kept (file_of xs text) + dropped (file_of xs text))) e)
-      where
-        go : (a b : Bool) → Fits s ≡ pick a TooBig (pick b TooBig (Fits (sums_of (file_of xs text)))) → (and_then (and_then (refuse_if a Size) (refuse_if b Size)) (and_then (points_from text 0) (shapes false 0 (file_of xs text))) ≡ and_then (points_from text 0) (shapes false 0 (file_of xs text))) × (s ≡ sums_of (file_of xs text))
-        go true b e = let z : ◌≡◌ {A = ℕ} 0 1 = cc in absurd (omega arith)
-        go false true e = let z : ◌≡◌ {A = ℕ} 0 1 = cc in absurd (omega arith)
-        go false false e = (refl, cc)
+    module _ {s : Sums} (e : Ok s ≡ tally_of (file_of xs text)) where
+      fitted : (writable (file_of xs text) text ≡ and_then (points_from text 0) (shapes false 0 (file_of xs text))) × (sums_of (file_of xs text) ≡ s)
+      unfolding tally_of
+      fitted = let w = answered_by _ (sums_of (file_of xs text)) s (sym e) in (rw (sized h g, w.0), w.1)
 
-    pub bad_point : {i : ℕ} → pointed (At i) ≡ points_from text 0 → Refused (CodePoint i) ≡ checked_by (writable (file_of xs text) text) (file_of xs text)
-    unfolding and_then
-    bad_point f = rw (fitted.0, ← f)
+      pub bad_point : {r : Refusal} → Err r ≡ points_from text 0 → Err r ≡ checked_by (writable (file_of xs text) text) (file_of xs text)
+      bad_point f = rw (fitted.0, ← f)
 
-    pub bad_shape : {i : ℕ} → pointed Nowhere ≡ points_from text 0 → shaped (At i) ≡ shapes false 0 (file_of xs text) → Refused (Record i) ≡ checked_by (writable (file_of xs text) text) (file_of xs text)
-    unfolding and_then
-    bad_shape f d = rw (fitted.0, ← f, ← d)
+      module _ (f : accepted ≡ points_from text 0) where
+        pub bad_shape : {r : Refusal} → Err r ≡ shapes false 0 (file_of xs text) → Err r ≡ checked_by (writable (file_of xs text) text) (file_of xs text)
+        bad_shape d = rw (fitted.0, ← f, ← d)
 
-    pub all_fine : {n : ℕ} → pointed Nowhere ≡ points_from text 0 → shaped Nowhere ≡ shapes false 0 (file_of xs text) → n ≡ cap (length (item_lines (file_of xs text))) → Fine s n ≡ checked_by (writable (file_of xs text) text) (file_of xs text)
-    unfolding and_then
-    all_fine f d w = rw (fitted.0, ← f, ← d, fitted.1, w)
+        pub all_fine : {n : ℕ} → accepted ≡ shapes false 0 (file_of xs text) → n ≡ cap (length (item_lines (file_of xs text)))
+            → Ok (record { sums = s; lines = n }) ≡ checked_by (writable (file_of xs text) text) (file_of xs text)
+        all_fine d w = rw (fitted.0, ← f, ← d, fitted.1, w)

@@ -1,6 +1,7 @@
 -- The lengths of all items, as the code sums them up to the cap.
 -- What is summed so far and what is left give the whole length, capped. Assumes nothing.
 use mathlib.Core.Path.{◌≡◌, refl, ap, ◌∙◌}
+use mathlib.Core.Logic.{◌⊎◌, inl, inr}
 use mathlib.Core.List.{List, []}
 use Prim.Native.Nat.{ℕ, ◌+◌, ◌-◌, ◌/◌, ◌≤◌, ◌<◌, zero-le}
 use native.Mathlib.Omega.{arith}
@@ -45,13 +46,17 @@ items_end {xs} {text} {sum} {i} p h = omega (arith, p.small, p.same, ap (λ (l :
 
 -- the length of a lent item's line, by what the item is
 module _ (xs : List ℤ) (text : List ℕ) (i : ℕ) {r n : ℕ} where
-  pub retain_length : item_at xs (length text) i ≡ Retain n → r ≡ cap (5 + length (digits 10 n) + 1) → r ≡ cap (length (item_line (file_item text (item_at xs (length text) i))))
+  retain_length : item_at xs (length text) i ≡ Retain n → r ≡ cap (5 + length (digits 10 n) + 1) → r ≡ cap (length (item_line (file_item text (item_at xs (length text) i))))
   unfolding file_item
   retain_length e f = rw e (omega (arith, keep_length n))
 
-  pub delete_length : item_at xs (length text) i ≡ Delete n → r ≡ cap (5 + length (digits 10 n) + 1) → r ≡ cap (length (item_line (file_item text (item_at xs (length text) i))))
+  delete_length : item_at xs (length text) i ≡ Delete n → r ≡ cap (5 + length (digits 10 n) + 1) → r ≡ cap (length (item_line (file_item text (item_at xs (length text) i))))
   unfolding file_item
   delete_length e f = rw e (omega (arith, drop_length n))
+
+  pub number_length : (item_at xs (length text) i ≡ Retain n) ⊎ (item_at xs (length text) i ≡ Delete n) → r ≡ cap (5 + length (digits 10 n) + 1) → r ≡ cap (length (item_line (file_item text (item_at xs (length text) i))))
+  number_length (inl e) f = retain_length e f
+  number_length (inr e) f = delete_length e f
 
   pub insert_length : {s m : ℕ} → item_at xs (length text) i ≡ Insert s n → m ≡ cap (length (points (take (s + n - s) (drop s text)))) → r ≡ cap (5 + m) → r ≡ cap (length (item_line (file_item text (item_at xs (length text) i))))
   unfolding file_item

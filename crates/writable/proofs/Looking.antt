@@ -1,6 +1,6 @@
 -- One look at all items: sums, shapes and the length of their lines, where their texts follow one another over all that is lent.
 -- What is summed so far and what is left of the text and of the items give the whole length. Assumes nothing.
-use mathlib.Core.Path.{◌≡◌, refl, sym, ap, ◌∙◌}
+use mathlib.Core.Path.{◌≡◌, refl, ap, ◌∙◌}
 use mathlib.Core.Bool.{Bool, true, false}
 use mathlib.Core.List.{List, [], ◌∷◌}
 use Prim.Native.Nat.{ℕ, zero, suc, ◌+◌, ◌*◌, ◌-◌, ◌/◌, ◌≤◌, ◌<◌, zero-le}
@@ -20,8 +20,6 @@ use Rattle.written_lines.proofs.Numbers.{few_digits}
 use Rattle.written_lines.proofs.Counting.{add_length, points_further, no_point}
 use Rattle.writable.specs.Writable.{file_item, file_of}
 use Rattle.writable.specs.Passes.{Sound}
-use Rattle.writable.specs.declared.Sums.{Sums}
-use Rattle.writable.specs.declared.Looked.TheVariants.{Unsure, Sure}
 use Rattle.writable.proofs.Checking.{rest, rest_all, rest_at, rest_none, text_length_lem, Tallying, tally_begins, tally_retain, tally_delete, tally_insert, tally_ends, Shaping, shape_begins, retain_on, delete_on, insert_on, shape_ends}
 use Rattle.writable.proofs.Counting.{keep_length, drop_length}
 
@@ -115,13 +113,3 @@ module _ {xs : List ℤ} {text : List ℕ} {i k u a m : ℕ} {j : Bool} (t : Loo
     good = shape_ends t.shape h;
     lines = omega (arith, t.measured, ap length (no_point text a g), ap (λ (l : List Item). length (item_lines l)) (rest_none xs text i h));
   }
-
--- who says nothing says nothing false
-pub unsure : {is : List Item} {s : Sums} {n : ℕ} → Unsure ≡ Sure s n → Sound is s n
-unsure e = let z : ◌≡◌ {A = ℕ} 0 1 = cc in absurd (omega arith)
-
-pub sure : {is : List Item} {s s' : Sums} {n n' : ℕ} → Sound is s n → Sure s n ≡ Sure s' n' → Sound is s' n'
-sure {is} {s} {s'} {n} {n'} p e =
-    let x : s ≡ s' = cc in
-    let y : n ≡ n' = cc in
-    record { fits = rw (sym x) p.fits; good = p.good; lines = sym y ∙ p.lines }

@@ -1,10 +1,8 @@
 -- What a diff must be to be written as an edit file. Assumes nothing.
-use Rattle.std.specs.Prelude.{ℕ, ◌+◌, Bool, true, false, not, ◌&&◌, List, [], ◌∷◌, length, take, drop, ℤ, ltb, leb}
+use Rattle.std.specs.Prelude.{ℕ, ◌+◌, Bool, true, false, not, ◌&&◌, List, [], ◌∷◌, length, take, drop, ℤ, ltb, leb, Err}
 use Rattle.room.specs.Choice.{pick}
 use Rattle.refusal.specs.declared.Refusal.TheVariants.{Record, Size}
-use Rattle.verdict.specs.declared.Verdict.{Verdict}
-use Rattle.verdict.specs.declared.Verdict.TheVariants.{Accepted, Refused}
-use Rattle.verdict.specs.Verdicts.{and_then}
+use Rattle.verdict.specs.Verdicts.{and_then, Verdict, accepted}
 use Rattle.verdict.specs.Points.{points_from}
 use Rattle.diff.specs.declared.diff.Item.{Item as Lent}
 use Rattle.diff.specs.declared.diff.Item.TheVariants.{Retain, Delete, Insert, Neither}
@@ -40,10 +38,10 @@ sizes is text =
 -- 1: "it refuses 1 at a zero, an empty text or a second neighbouring keep"; "unknown kind [..]; token or range outside what was lent" is an
 -- empty text here. The "index of first such [..] item"; k: the item before was a keep
 unfoldable pub shapes : Bool → ℕ → List Item → Verdict
-shapes k i [] = Accepted
-shapes k i (Keep n ∷ is) = pick (leb 1 n && not k) (shapes true (i + 1) is) (Refused (Record i))
-shapes k i (Drop n ∷ is) = pick (leb 1 n) (shapes false (i + 1) is) (Refused (Record i))
-shapes k i (Add cs ∷ is) = pick (leb 1 (length cs)) (shapes false (i + 1) is) (Refused (Record i))
+shapes k i [] = accepted
+shapes k i (Keep n ∷ is) = pick (leb 1 n && not k) (shapes true (i + 1) is) (Err (Record i))
+shapes k i (Drop n ∷ is) = pick (leb 1 n) (shapes false (i + 1) is) (Err (Record i))
+shapes k i (Add cs ∷ is) = pick (leb 1 (length cs)) (shapes false (i + 1) is) (Err (Record i))
 
 -- "order 3, 4, 1, 7"
 unfoldable pub writable : List Item → List ℕ → Verdict

@@ -2,157 +2,117 @@
 // items and the text.
 #![tactic(auto)]
 
-ghost use Rattle.std.specs.Prelude.{◌≡◌, false, ℕ, ◌+◌, ◌*◌, ◌/◌, ◌≤◌, length};
+ghost use Rattle.std.specs.Prelude.{◌≡◌, false, ◌/◌, ◌<◌, ◌≤◌, length, IfSome};
 ghost use Rattle.edit_format.specs.Written.{item_line, item_lines};
 ghost use Rattle.diff.specs.Items.{item_at};
 ghost use Rattle.written_lines.specs.Lengths.{cap, further};
 ghost use Rattle.writable.specs.Writable.{file_item, file_of, shapes, writable};
-ghost use Rattle.writable.specs.Passes.{tally_of, shaped, checked_by, Sound};
-ghost use Rattle.writable.specs.declared.Sums.{Sums};
-ghost use Rattle.writable.specs.declared.Looked.TheVariants.{Sure};
+ghost use Rattle.writable.specs.Passes.{tally_of, checked_by, Sound};
 
-use diff::diff::{Bad, Item};
+use diff::diff::{Item, Items};
 use refusal::Refusal;
 
 // What the items keep of an original, use of it, and add.
-#[derive(Clone, Copy)]
+#[derive(Clone, Copy, Debug, PartialEq, Eq)]
 pub struct Sums {
     pub kept: u64,
     pub used: u64,
     pub added: usize,
 }
 
-#[derive(Clone, Copy)]
-pub enum Tally {
-    TooBig,
-    Fits(Sums),
-}
-
-// What one look at the items shows: nothing to refuse, with the sums and the length of all items' lines, or nothing at all.
-#[derive(Clone, Copy)]
-pub enum Looked {
-    Unsure,
-    Sure { sums: Sums, lines: usize },
-}
-
-#[derive(Clone, Copy)]
-pub enum Checked {
-    Fine { sums: Sums, lines: usize },
-    Refused(Refusal),
+// What is known of items that can be written: their sums, and the length of all their lines.
+#[derive(Clone, Copy, Debug, PartialEq, Eq)]
+pub struct Checked {
+    pub sums: Sums,
+    pub lines: usize,
 }
 
 // Refusal 3 by the items: the sums stop at the first step that passes a size.
-fn sum_items(items: &[i64], text: &[u32]) -> Tally
-    ensures { result ≡ tally_of (file_of items.now text.now) }
+fn sum_items(items: Items) -> Result<Sums, Refusal>
+    ensures { result ≡ tally_of (file_of items.entry.numbers.now items.entry.text.now) }
 {
-    let lent = text.len();
-    let count = items.len() / 3;
     let mut kept: u64 = 0;
     let mut used: u64 = 0;
     let mut added: usize = 0;
-    let mut i: usize = 0;
-    'items: while i < count {
-        let next = i + 1;
-        match diff::diff::item_at(items, lent, i) {
+    'items: for i in 0..items.count() {
+        match items.at(i) {
             Item::Retain(n) => {
                 if 65535 - used < n {
-                    return Tally::TooBig;
+                    return Err(Refusal::Size);
                 }
                 kept += n;
                 used += n;
-                i = next;
             }
             Item::Delete(n) => {
                 if 65535 - used < n {
-                    return Tally::TooBig;
+                    return Err(Refusal::Size);
                 }
                 used += n;
-                i = next;
             }
             Item::Insert { start: _, length } => {
                 if 131070 - added < length {
-                    return Tally::TooBig;
+                    return Err(Refusal::Size);
                 }
                 added += length;
-                i = next;
             }
-            Item::Neither => {
-                i = next;
-            }
+            Item::Neither => {}
         }
     }
-    Tally::Fits(Sums { kept, used, added })
+    Ok(Sums { kept, used, added })
 }
 
 // Refusal 1: the first item that no line can say.
-fn first_bad(items: &[i64], text: &[u32]) -> Bad
-    ensures { shaped result ≡ shapes false 0 (file_of items.now text.now) }
+fn first_bad(items: Items) -> Result<(), Refusal>
+    ensures { result ≡ shapes false 0 (file_of items.entry.numbers.now items.entry.text.now) }
 {
-    let lent = text.len();
-    let count = items.len() / 3;
     let mut joined = false;
-    let mut i: usize = 0;
-    'items: while i < count {
-        let next = i + 1;
-        match diff::diff::item_at(items, lent, i) {
+    'items: for i in 0..items.count() {
+        match items.at(i) {
             Item::Retain(n) => {
-                if n < 1 {
-                    return Bad::At(i);
-                }
-                if joined {
-                    return Bad::At(i);
+                if n < 1 || joined {
+                    return Err(Refusal::Record { index: i });
                 }
                 joined = true;
-                i = next;
             }
             Item::Delete(n) => {
                 if n < 1 {
-                    return Bad::At(i);
+                    return Err(Refusal::Record { index: i });
                 }
                 joined = false;
-                i = next;
             }
             Item::Insert { start: _, length } => {
                 if length < 1 {
-                    return Bad::At(i);
+                    return Err(Refusal::Record { index: i });
                 }
                 joined = false;
-                i = next;
             }
-            Item::Neither => {
-                return Bad::At(i);
-            }
+            Item::Neither => return Err(Refusal::Record { index: i }),
         }
     }
-    Bad::Nowhere
+    Ok(())
 }
 
-fn item_length(items: &[i64], text: &[u32], i: usize) -> usize
-    requires { i * 3 + 3 ≤ length items.now }
-    ensures { result ≡ cap (length (item_line (file_item text.now (item_at items.now (length text.now) i)))) }
+// The length of an item's line.
+fn item_length(items: Items, i: usize) -> usize
+    requires { i < length items.numbers.now / 3 }
+    ensures { result ≡ cap (length (item_line (file_item items.entry.text.now (item_at items.entry.numbers.now (length items.entry.text.now) i)))) }
 {
-    let lent = text.len();
-    match diff::diff::item_at(items, lent, i) {
-        Item::Retain(n) => written_lines::line_length(5, n),
-        Item::Delete(n) => written_lines::line_length(5, n),
-        Item::Insert { start, length } => {
-            let end = start + length;
-            written_lines::plus(5, written_lines::points_length(&text[start..end]))
-        }
+    match items.at(i) {
+        Item::Retain(n) | Item::Delete(n) => written_lines::line_length(5, n),
+        Item::Insert { start, length } => written_lines::plus(
+            5,
+            written_lines::points_length(&items.text[start..start + length]),
+        ),
         Item::Neither => 5,
     }
 }
 
-fn items_length(items: &[i64], text: &[u32]) -> usize
-    ensures { result ≡ cap (length (item_lines (file_of items.now text.now))) }
+fn items_length(items: Items) -> usize
+    ensures { result ≡ cap (length (item_lines (file_of items.entry.numbers.now items.entry.text.now))) }
 {
-    let count = items.len() / 3;
     let mut sum: usize = 0;
-    let mut i: usize = 0;
-    'items: while i < count {
-        let n = item_length(items, text, i);
-        sum = written_lines::plus(sum, n);
-        i += 1;
+    'items: for i in 0..items.count() {
+        sum = written_lines::plus(sum, item_length(items, i));
     }
     sum
 }
@@ -161,118 +121,91 @@ fn items_length(items: &[i64], text: &[u32]) -> usize
 fn parted_length(text: &[u32]) -> usize
     ensures { result ≡ cap (length (further text.now)) }
 {
-    if text.len() == 0 {
+    if text.is_empty() {
         return 0;
     }
     written_lines::plus(1, written_lines::points_length(text))
 }
 
-// One pass for all that most diffs need. Their texts follow one another over all that is lent, so that it is measured at once.
-fn look(items: &[i64], text: &[u32]) -> Looked
-    requires { (length items.now / 3 ≤ 8192) × (length text.now ≤ 131070) }
-    ensures { (s : Sums) (n : ℕ) → result ≡ Sure s n → Sound (file_of items.now text.now) s n }
+// One pass for all that most diffs need: nothing to refuse, or none where that does not show. The texts of such a diff follow one another
+// over all that is lent, so that it is measured at once.
+fn look(items: Items) -> Option<Checked>
+    requires { (length items.numbers.now / 3 ≤ 8192) × (length items.text.now ≤ 131070) }
+    ensures { IfSome result (λ c. Sound (file_of items.entry.numbers.now items.entry.text.now) c.sums c.lines) }
 {
-    let lent = text.len();
-    let count = items.len() / 3;
     let mut kept: u64 = 0;
     let mut used: u64 = 0;
     let mut added: usize = 0;
     let mut lines: usize = 0;
     let mut keeps = false;
-    let mut i: usize = 0;
-    'look: while i < count {
-        let next = i + 1;
-        match diff::diff::item_at(items, lent, i) {
+    'look: for i in 0..items.count() {
+        match items.at(i) {
             Item::Retain(n) => {
-                if 65535 - used < n {
-                    return Looked::Unsure;
-                }
-                if n < 1 {
-                    return Looked::Unsure;
-                }
-                if keeps {
-                    return Looked::Unsure;
+                if 65535 - used < n || n < 1 || keeps {
+                    return None;
                 }
                 lines += written_lines::line_length(5, n);
                 kept += n;
                 used += n;
                 keeps = true;
-                i = next;
             }
             Item::Delete(n) => {
-                if 65535 - used < n {
-                    return Looked::Unsure;
-                }
-                if n < 1 {
-                    return Looked::Unsure;
+                if 65535 - used < n || n < 1 {
+                    return None;
                 }
                 lines += written_lines::line_length(5, n);
                 used += n;
                 keeps = false;
-                i = next;
             }
             Item::Insert { start, length } => {
-                if start != added {
-                    return Looked::Unsure;
-                }
-                if length < 1 {
-                    return Looked::Unsure;
+                if start != added || length < 1 {
+                    return None;
                 }
                 lines += 4;
                 added += length;
                 keeps = false;
-                i = next;
             }
-            Item::Neither => {
-                return Looked::Unsure;
-            }
+            Item::Neither => return None,
         }
     }
-    if added < lent {
-        return Looked::Unsure;
+    if added < items.text.len() {
+        return None;
     }
-    let all = written_lines::plus(lines, parted_length(text));
-    Looked::Sure {
+    Some(Checked {
         sums: Sums { kept, used, added },
-        lines: all,
-    }
+        lines: written_lines::plus(lines, parted_length(items.text)),
+    })
 }
 
 // Refusals 3, 4 and 1 of few items and a short text, each by a pass of its own.
-fn inspect(items: &[i64], text: &[u32]) -> Checked
-    requires { (length items.now / 3 ≤ 8192) × (length text.now ≤ 131070) }
-    ensures { result ≡ checked_by (writable (file_of items.now text.now) text.now) (file_of items.now text.now) }
+fn inspect(items: Items) -> Result<Checked, Refusal>
+    requires { (length items.numbers.now / 3 ≤ 8192) × (length items.text.now ≤ 131070) }
+    ensures { result ≡ checked_by (writable (file_of items.entry.numbers.now items.entry.text.now) items.entry.text.now) (file_of items.entry.numbers.now items.entry.text.now) }
 {
-    match sum_items(items, text) {
-        Tally::TooBig => Checked::Refused(Refusal::Size),
-        Tally::Fits(sums) => match diff::diff::bad_point(text) {
-            Bad::At(index) => Checked::Refused(Refusal::CodePoint { index }),
-            Bad::Nowhere => match first_bad(items, text) {
-                Bad::At(at) => Checked::Refused(Refusal::Record { index: at }),
-                Bad::Nowhere => {
-                    let lines = items_length(items, text);
-                    Checked::Fine { sums, lines }
-                }
-            },
-        },
-    }
+    let sums = sum_items(items)?;
+    verdict::check_text(items.text)?;
+    first_bad(items)?;
+    Ok(Checked {
+        sums,
+        lines: items_length(items),
+    })
 }
 
 // Refusals 3, 4 and 1.
-pub fn check(items: &[i64], text: &[u32]) -> Checked
-    ensures { result ≡ checked_by (writable (file_of items.now text.now) text.now) (file_of items.now text.now) }
+pub fn check(items: Items) -> Result<Checked, Refusal>
+    ensures { result ≡ checked_by (writable (file_of items.entry.numbers.now items.entry.text.now) items.entry.text.now) (file_of items.entry.numbers.now items.entry.text.now) }
 {
-    if 8192 < items.len() / 3 {
-        return Checked::Refused(Refusal::Size);
+    if 8192 < items.count() {
+        return Err(Refusal::Size);
     }
-    if 131070 < text.len() {
-        return Checked::Refused(Refusal::Size);
+    if 131070 < items.text.len() {
+        return Err(Refusal::Size);
     }
-    match look(items, text) {
-        Looked::Unsure => inspect(items, text),
-        Looked::Sure { sums, lines } => match diff::diff::bad_point(text) {
-            Bad::At(index) => Checked::Refused(Refusal::CodePoint { index }),
-            Bad::Nowhere => Checked::Fine { sums, lines },
-        },
+    match look(items) {
+        Some(checked) => {
+            verdict::check_text(items.text)?;
+            Ok(checked)
+        }
+        None => inspect(items),
     }
 }

@@ -1,6 +1,6 @@
 -- The lengths of a line of a number and of a line of code points; the code points of a line, one after the other.
 -- A line is its key, what it says and LF. Assumes nothing.
-use mathlib.Core.Path.{◌≡◌, refl, sym, ap, ◌∙◌}
+use mathlib.Core.Path.{◌≡◌, sym, ap, ◌∙◌}
 use mathlib.Core.List.{List, [], ◌∷◌, ◌++◌, append-nil}
 use Prim.Native.Nat.{ℕ, ◌+◌, ◌≤◌, ◌<◌}
 use native.Mathlib.Numerals.{add-one}
@@ -10,7 +10,7 @@ use lib.Seq.{drop-cons}
 use Rattle.edit_format.specs.Digits.{digits}
 use Rattle.edit_format.specs.Items.{Add}
 use Rattle.edit_format.specs.Written.{points, number_line, add_key, item_line}
-use Rattle.written_lines.specs.Lengths.{cap, further}
+use Rattle.written_lines.specs.Lengths.{further}
 
 pub line_length : (k : List ℕ) (n : ℕ) → length (number_line k n) ≡ length k + length (digits 10 n) + 1
 unfolding number_line
@@ -26,10 +26,6 @@ unfolding points further
 points_further c [] = sym (append-nil (digits 16 c))
 points_further c (d ∷ cs) = ap (λ (l : List ℕ). digits 16 c ++ 32 ∷ l) (points_further d cs)
 
-pub first_point : (t : List ℕ) → 0 < length t → points t ≡ digits 16 (get_or t 0 0) ++ further (drop 1 t)
-first_point [] h = absurd (omega arith)
-first_point (c ∷ cs) h = points_further c cs
-
 pub next_point : (t : List ℕ) (i : ℕ) → i < length t → further (drop i t) ≡ 32 ∷ digits 16 (get_or t i 0) ++ further (drop (i + 1) t)
 unfolding further
 next_point t i h = rw (add-one i, drop-cons t i 0 h)
@@ -37,8 +33,3 @@ next_point t i h = rw (add-one i, drop-cons t i 0 h)
 pub no_point : (t : List ℕ) (i : ℕ) → length t ≤ i → further (drop i t) ≡ []
 unfolding further
 no_point t i h = rw (drop_of_length-le t h)
-
-pub points_none : (t : List ℕ) → length t ≡ 0 → 0 ≡ cap (length (points t))
-unfolding points
-points_none [] h = refl
-points_none (c ∷ cs) h = absurd (omega arith)

@@ -5,7 +5,6 @@ use mathlib.Core.List.{List, [], ◌∷◌, ◌++◌, append_assoc, append-nil}
 use Prim.Native.Nat.{ℕ, suc, ◌+◌, ◌/◌, ◌%◌, ◌≤◌, ◌<◌}
 use native.Mathlib.Numerals.{add-one}
 use native.Mathlib.Omega.{arith}
-use native.Mathlib.Decide.{dec_lt}
 use lib.ListN.{length, get_or, drop, take, set, length-append, length-set}
 use lib.Seq.{set_split}
 use Rattle.room.specs.Placed.{placed, Put}
@@ -15,8 +14,8 @@ use Rattle.edit_format.specs.Items.{Add}
 use Rattle.edit_format.specs.Written.{points, number_line, add_key, item_line}
 use Rattle.written_lines.specs.Lengths.{further, last_two}
 use Rattle.edit_format.proofs.DigitLaws.{digits_one, digits_last}
-use Rattle.written_lines.proofs.Numbers.{one_digit}
-use Rattle.written_lines.proofs.Counting.{line_length, add_length, first_point, next_point, no_point}
+use Rattle.written_lines.proofs.Numbers.{one_digit, one_less}
+use Rattle.written_lines.proofs.Counting.{line_length, add_length, points_further, next_point, no_point}
 
 pub put_length : {s d d₁ : List ℕ} {at a : ℕ} → Put s d at d₁ a → at + length s ≤ length d → length d₁ ≡ length d
 put_length {s} {d} {d₁} {at} p h = ap length p.stands ∙ placed_length d at s h
@@ -34,10 +33,26 @@ one_byte d a v h = record { next = refl; stands = set_split d a v h ∙ rw (add-
 pub put_byte : {s d d₁ : List ℕ} {at a : ℕ} (v : ℕ) → Put s d at d₁ a → at + length s < length d → Put (s ++ v ∷ []) d at (set d₁ a v) (a + 1)
 put_byte {s} {d} {d₁} {at} {a} v p h = put_then (omega arith) p (one_byte d₁ a v (omega (arith, put_length p (omega arith), p.next)))
 
--- numbers in hexadecimal, two digits at a time
-pub one_hex : (d : List ℕ) (at c : ℕ) → c < 16 → at + length (digits 16 c) ≤ length d → Put (digits 16 c) d at (set d at (digit c)) (at + 1)
-one_hex d at c h g = rw (digits_one 16 c h) (one_byte d at (digit c) (omega (arith, one_digit 16 c h)))
+-- the place of the next byte
+pub next_in : {s d d₁ : List ℕ} {at a : ℕ} → Put s d at d₁ a → at + length s < length d → a < length d₁
+next_in p h = omega (arith, put_length p (omega arith), p.next)
 
+-- a number of one digit
+pub one_put : (m : ℕ) (d : List ℕ) (at c : ℕ) → c < m → at + length (digits m c) ≤ length d → Put (digits m c) d at (set d at (digit c)) (at + 1)
+one_put m d at c h g = rw (digits_one m c h) (one_byte d at (digit c) (omega (arith, one_digit m c h)))
+
+-- a number in decimal, and its last digit behind the others
+module _ (n : ℕ) (big : 10 ≤ n) {d d₁ : List ℕ} {at a : ℕ} (fits : at + length (digits 10 n) ≤ length d) (p : Put (digits 10 (n / 10)) d at d₁ a) where
+  pub last_in : a < length d₁
+  last_in = next_in p (omega (arith, one_less 10 n (omega arith) big))
+
+  pub decimal_put : Put (digits 10 n) d at (set d₁ a (digit (n % 10))) (a + 1)
+  decimal_put = rw (digits_last 10 n (omega arith) big) (put_byte (digit (n % 10)) p (omega (arith, one_less 10 n (omega arith) big)))
+
+  pub decimal_long : length (set d₁ a (digit (n % 10))) ≡ length d
+  decimal_long = put_length decimal_put fits
+
+-- numbers in hexadecimal, two digits at a time
 pub pair_put : (d : List ℕ) (at c : ℕ) → at + 2 ≤ length d → Put (last_two c) d at (set (set d at (digit (c / 16 % 16))) (at + 1) (digit (c % 16))) (at + 2)
 unfolding last_two
 pair_put d at c h =
@@ -78,10 +93,6 @@ module _ (c : ℕ) (big : 256 ≤ c) {d d₁ : List ℕ} {at a : ℕ} (fits : at
   pub hex_put : {d₂ : List ℕ} {b : ℕ} → Put (last_two c) d₁ a d₂ b → Put (digits 16 c) d at d₂ b
   hex_put q = rw (more_hex c big) (put_then (omega arith) p q)
 
--- the place of the next byte
-pub next_in : {s d d₁ : List ℕ} {at a : ℕ} → Put s d at d₁ a → at + length s < length d → a < length d₁
-next_in p h = omega (arith, put_length p (omega arith), p.next)
-
 pub put_number_line : (k : List ℕ) (n : ℕ) {d d₁ d₂ : List ℕ} {at a b : ℕ} → at + length (number_line k n) ≤ length d → Put k d at d₁ a → Put (digits 10 n) d₁ a d₂ b → Put (number_line k n) d at (set d₂ b 10) (b + 1)
 unfolding number_line
 put_number_line k n h p q = put_byte 10 (put_then (omega arith) p q) (omega (arith, length-append k (digits 10 n), length-append (k ++ digits 10 n) (10 ∷ [])))
@@ -119,13 +130,13 @@ put_add_line cs h p q = put_byte 10 (put_then (omega arith) p q) (omega (arith, 
 pub record Pointing (t d : List ℕ) (at : ℕ) (o : List ℕ) (k i : ℕ) : Type 0 where
   pub done : List ℕ
   pub put : Put done d at o k
-  pub whole : further (drop 1 t) ≡ done ++ further (drop i t)
+  pub whole : further t ≡ done ++ further (drop i t)
   pub same : length o ≡ length d
 
-pub points_begin : (t d : List ℕ) (at : ℕ) → Pointing t d at d at 1
+pub points_begin : (t d : List ℕ) (at : ℕ) → Pointing t d at d at 0
 points_begin t d at = record { done = []; put = put_none d at; whole = refl; same = refl }
 
-module _ {t d : List ℕ} {at : ℕ} {o : List ℕ} {k i : ℕ} (p : Pointing t d at o k i) (fits : at + length (further (drop 1 t)) ≤ length d) where
+module _ {t d : List ℕ} {at : ℕ} {o : List ℕ} {k i : ℕ} (p : Pointing t d at o k i) (fits : at + length (further t) ≤ length d) where
   left : i < length t → at + length p.done + 1 + length (digits 16 (get_or t i 0)) ≤ length d
   left h = omega (arith, simp length-append at (ap length p.whole), simp length-append at (ap length (next_point t i h)))
 
@@ -145,31 +156,27 @@ module _ {t d : List ℕ} {at : ℕ} {o : List ℕ} {k i : ℕ} (p : Pointing t 
         same = put_length s (omega (arith, left h, length-append (p.done ++ 32 ∷ []) (digits 16 (get_or t i 0)), length-append p.done (32 ∷ [])));
       }
 
-  pub points_end : length t ≤ i → Put (further (drop 1 t)) d at o k
+  pub points_end : length t ≤ i → Put (further t) d at o k
   points_end h = rw (p.whole, no_point t i h, append-nil p.done) p.put
 
 -- the first code point, and the others after it
-pub no_points : (t d : List ℕ) (at : ℕ) → length t ≡ 0 → Put (points t) d at d at
+pub no_points : (d : List ℕ) (at : ℕ) → Put (points []) d at d at
 unfolding points
-no_points [] d at h = put_none d at
-no_points (c ∷ cs) d at h = absurd (omega arith)
+no_points d at = put_none d at
 
-some : (n : ℕ) → (n ≡ 0 → ⊥) → 0 < n
-some n g = elim (dec_lt 0 n) [ yes a ↦ a | no a ↦ absurd (g (omega arith)) ]
+module _ (x : ℕ) (xs d : List ℕ) (at : ℕ) (g : at + length (points (x ∷ xs)) ≤ length d) where
+  split : length (points (x ∷ xs)) ≡ length (digits 16 x) + length (further xs)
+  split = ap length (points_further x xs) ∙ length-append (digits 16 x) (further xs)
 
-module _ (t d : List ℕ) (at : ℕ) (h : length t ≡ 0 → ⊥) (g : at + length (points t) ≤ length d) where
-  split : length (points t) ≡ length (digits 16 (get_or t 0 0)) + length (further (drop 1 t))
-  split = ap length (first_point t (some (length t) h)) ∙ length-append (digits 16 (get_or t 0 0)) (further (drop 1 t))
-
-  pub first_in : at + length (digits 16 (get_or t 0 0)) ≤ length d
+  pub first_in : at + length (digits 16 x) ≤ length d
   first_in = omega (arith, split)
 
-  module _ {d₁ : List ℕ} {a : ℕ} (p : Put (digits 16 (get_or t 0 0)) d at d₁ a) where
-    pub further_in : a + length (further (drop 1 t)) ≤ length d₁
+  module _ {d₁ : List ℕ} {a : ℕ} (p : Put (digits 16 x) d at d₁ a) where
+    pub further_in : a + length (further xs) ≤ length d₁
     further_in = omega (arith, split, p.next, put_length p first_in)
 
-    pub all_points_lem : {d₂ : List ℕ} {b : ℕ} → Put (further (drop 1 t)) d₁ a d₂ b → Put (points t) d at d₂ b
-    all_points_lem {d₂} {b} q = rw (first_point t (some (length t) h)) (put_then (omega arith) p q)
+    pub all_points_lem : {d₂ : List ℕ} {b : ℕ} → Put (further xs) d₁ a d₂ b → Put (points (x ∷ xs)) d at d₂ b
+    all_points_lem {d₂} {b} q = rw (points_further x xs) (put_then (omega arith) p q)
 
-    pub points_long : {d₂ : List ℕ} {b : ℕ} → Put (further (drop 1 t)) d₁ a d₂ b → length d₂ ≡ length d
+    pub points_long : {d₂ : List ℕ} {b : ℕ} → Put (further xs) d₁ a d₂ b → length d₂ ≡ length d
     points_long q = put_length (all_points_lem q) g

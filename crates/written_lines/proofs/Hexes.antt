@@ -6,15 +6,15 @@ use Prim.Native.Nat.{ℕ, ◌+◌, ◌-◌, ◌/◌, ◌≤◌, ◌<◌}
 use native.Mathlib.Numerals.{add-one}
 use native.Mathlib.Omega.{arith}
 use native.Mathlib.Decide.{dec_lt}
-use lib.ListN.{length, get_or, take, drop, length-append, take-append-drop}
-use lib.Seq.{take-suc, take_all, drop-drop}
+use lib.ListN.{length, get_or, take, length-append}
+use lib.Seq.{take-suc, take_all}
 use Rattle.numbers.specs.Steps.{step}
 use Rattle.numbers.proofs.Steps.{step_yes, step_no}
 use Rattle.edit_format.specs.Digits.{digits}
 use Rattle.edit_format.specs.Written.{points}
-use Rattle.written_lines.specs.Lengths.{cap, further, hexes}
+use Rattle.written_lines.specs.Lengths.{further, hexes}
 use Rattle.written_lines.proofs.Numbers.{one_digit, one_less}
-use Rattle.written_lines.proofs.Counting.{first_point}
+use Rattle.written_lines.proofs.Counting.{points_further}
 
 -- how many digits a number has, by its size
 digits_2 : (n : ℕ) → 16 ≤ n → n < 256 → length (digits 16 n) ≡ 2
@@ -71,7 +71,7 @@ hexes_one : (c : ℕ) → hexes (c ∷ []) ≡ length (digits 16 c)
 unfolding hexes
 hexes_one c = omega arith
 
-hexes_both : (s t : List ℕ) → hexes (s ++ t) ≡ hexes s + hexes t
+pub hexes_both : (s t : List ℕ) → hexes (s ++ t) ≡ hexes s + hexes t
 unfolding hexes
 hexes_both [] t = omega arith
 hexes_both (c ∷ s) t = omega (arith, hexes_both s t)
@@ -90,37 +90,7 @@ further_length [] = refl
 further_length (c ∷ cs) = omega (arith, length-append (digits 16 c) (further cs), further_length cs)
 
 -- the digits and a space between each two
-pub points_length : (t : List ℕ) → 0 < length t → length (points t) + 1 ≡ length t + hexes t
-points_length [] h = absurd (omega arith)
-points_length (c ∷ cs) h = omega (arith, ap length (first_point (c ∷ cs) h), length-append (digits 16 c) (further cs), further_length cs, hexes_both (c ∷ []) cs, hexes_one c)
-
-pub record Measured (t : List ℕ) (sum at : ℕ) : Type 0 where
-  pub most : at ≤ length t
-  pub small : sum ≤ 1099511627776
-  pub same : cap (sum + hexes (drop at t)) ≡ cap (length (points t))
-
-pub measured_begin : (t : List ℕ) {s : ℕ} → (length t ≡ 0 → ⊥) → s ≡ cap (0 + (length t - 1)) → Measured t s 0
-measured_begin t {s} h e = record { most = omega arith; small = omega arith; same = omega (arith, points_length t (positive (length t) h)) }
-  where
-    positive : (n : ℕ) → (n ≡ 0 → ⊥) → 0 < n
-    positive n g = elim (dec_lt 0 n) [ yes a ↦ a | no a ↦ absurd (g (omega arith)) ]
-
-pub measured_more : {t : List ℕ} {sum at m s : ℕ} (e : ℕ) → Measured t sum at → at ≤ e → e ≤ length t → m ≡ hexes (take (e - at) (drop at t)) → s ≡ cap (sum + m) → Measured t s e
-measured_more {t} {sum} {at} {m} e c l h q p =
-    let k : ℕ = e - at in
-    let z : at + k ≡ e = omega arith in
-    let r : hexes (drop at t) ≡ m + hexes (drop e t) = omega (
-      arith,
-      ap (λ (x : List ℕ). hexes x) (take-append-drop k (drop at t)),
-      hexes_both (take k (drop at t)) (drop k (drop at t)),
-      ap (λ (x : List ℕ). hexes x) (drop-drop k at t),
-      ap (λ (i : ℕ). hexes (drop i t)) z,
-    ) in
-    record { most = h; small = omega arith; same = omega (arith, c.small, c.same) }
-
-pub measured_end : {t : List ℕ} {sum : ℕ} → Measured t sum (length t) → sum ≡ cap (length (points t))
-measured_end {t} {sum} c = omega (arith, c.small, c.same, ap (λ (x : List ℕ). hexes x) (drop_all t), no_hexes)
-  where
-    drop_all : (t : List ℕ) → drop (length t) t ≡ []
-    drop_all [] = refl
-    drop_all (c ∷ t) = drop_all t
+pub points_length : (t : List ℕ) → length t - 1 + hexes t ≡ length (points t)
+unfolding points hexes
+points_length [] = refl
+points_length (c ∷ cs) = omega (arith, ap length (points_further c cs), length-append (digits 16 c) (further cs), further_length cs)

@@ -1,19 +1,16 @@
 -- Numbers written from their last digit: the width's loop, a store before a run, and the digits' loop.
 -- Both loops take `digits_last` apart, one digit a turn. Assumes nothing.
-use mathlib.Core.Path.{◌≡◌, refl, sym, ap, ◌∙◌}
-use mathlib.Core.List.{List, [], ◌∷◌, ◌++◌, append_assoc, append-nil}
-use Prim.Native.Nat.{ℕ, zero, suc, ◌+◌, ◌-◌, ◌*◌, ◌/◌, ◌%◌, ◌≤◌, ◌<◌}
+use mathlib.Core.Path.{◌≡◌, sym, ap, ◌∙◌}
+use mathlib.Core.List.{List, [], ◌∷◌}
+use Prim.Native.Nat.{ℕ, zero, suc, ◌+◌, ◌*◌, ◌/◌, ◌%◌, ◌≤◌, ◌<◌}
 use native.Mathlib.Omega.{arith}
 use native.Mathlib.Decide.{dec_lt}
-use lib.ListN.{length, take, drop, get_or, set, length-append, length-set}
-use lib.Seq.{take-suc, set_at, length-take-le}
+use lib.ListN.{length, length-append}
 use lib.Dec.{ltb}
 use borrow.Author.Tests.{lt-ltb, le-ltb}
-use Rattle.room.specs.Placed.{placed, Put}
 use Rattle.edit_format.specs.Digits.{digit, digits, digits_in}
 use Rattle.room.proofs.Choices.{pick_elim}
 use Rattle.edit_format.proofs.DigitLaws.{digits_one, digits_last}
-use Rattle.room.proofs.Placing.{placed_none}
 
 length_in : (f m n : ℕ) → length (digits_in f m n) ≤ f + 1
 unfolding digits_in
@@ -32,6 +29,9 @@ pub one_less : (m n : ℕ) → 1 < m → m ≤ n → length (digits m n) ≡ len
 one_less m n h g = ap length (digits_last m n h g) ∙ length-append (digits m (n / m)) (digit (n % m) ∷ [])
 
 -- how many decimal digits a number has, by its size
+pub one_ten : (n : ℕ) → n < 10 → 1 ≡ length (digits 10 n)
+one_ten n h = sym (one_digit 10 n h)
+
 pub tens_2 : (n : ℕ) → 10 ≤ n → n < 100 → 2 ≡ length (digits 10 n)
 tens_2 n g h = omega (arith, one_less 10 n (omega arith) g, one_digit 10 (n / 10) (omega arith))
 
@@ -44,6 +44,23 @@ tens_4 n g h = omega (arith, one_less 10 n (omega arith) (omega arith), tens_3 (
 pub tens_5 : (n : ℕ) → 10000 ≤ n → n < 100000 → 5 ≡ length (digits 10 n)
 tens_5 n g h = omega (arith, one_less 10 n (omega arith) (omega arith), tens_4 (n / 10) (omega arith) (omega arith))
 
+-- and five more than what is left without the last five
+pub five_less : (n : ℕ) → 100000 ≤ n → 5 + length (digits 10 (n / 100000)) ≡ length (digits 10 n)
+five_less n g =
+    let a : n / 10 / 10 ≡ n / 100 = omega arith in
+    let b : n / 100 / 10 ≡ n / 1000 = omega arith in
+    let c : n / 1000 / 10 ≡ n / 10000 = omega arith in
+    let d : n / 10000 / 10 ≡ n / 100000 = omega arith in
+    omega (
+      arith,
+      one_less 10 n (omega arith) (omega arith),
+      one_less 10 (n / 10) (omega arith) (omega arith),
+      rw a at (one_less 10 (n / 10) (omega arith) (omega arith)),
+      rw b at (one_less 10 (n / 100) (omega arith) (omega arith)),
+      rw c at (one_less 10 (n / 1000) (omega arith) (omega arith)),
+      rw d at (one_less 10 (n / 10000) (omega arith) (omega arith)),
+    )
+
 -- the bytes of digits as sums
 pub decimal_digit : (d : ℕ) → d < 10 → d + 48 ≡ digit d
 unfolding digit
@@ -52,54 +69,3 @@ decimal_digit d h = rw (lt-ltb d 10 h)
 pub hex_digit : (d : ℕ) → d < 16 → d + 48 + (d + 6) / 16 * 39 ≡ digit d
 unfolding digit
 hex_digit d h = elim (dec_lt d 10) [ yes g ↦ rw (lt-ltb d 10 g) (omega arith) | no g ↦ rw (le-ltb d 10 (omega arith)) (omega arith) ]
-
-some_digit : (n : ℕ) → 1 ≤ length (digits 10 n)
-some_digit n = elim (dec_lt n 10) [
-  | yes g ↦ omega (arith, one_digit 10 n g)
-  | no g ↦ omega (arith, one_less 10 n (omega arith) (omega arith))
-]
-
--- a store just before a run makes it longer
-store_before : (d tail : List ℕ) (j v : ℕ) → j < length d → set (placed d (suc j) tail) j v ≡ placed d j (v ∷ tail)
-unfolding placed
-store_before d tail j v h =
-    let e : j + suc (length tail) ≡ suc j + length tail = omega arith in
-    rw (e, take-suc d j 0 h, append_assoc (take j d) (get_or d j 0 ∷ []) tail, append_assoc (take j d) (get_or d j 0 ∷ tail) (drop (suc j + length tail) d), append_assoc (take j d) (v ∷ tail) (drop (suc j + length tail) d))
-    (set_at (take j d) (get_or d j 0) (tail ++ drop (suc j + length tail) d) v j (length-take-le j d (omega arith)))
-
-pub record Digiting (d : List ℕ) (at n : ℕ) (o : List ℕ) (m k : ℕ) : Type 0 where
-  pub tail : List ℕ
-  pub whole : digits 10 n ≡ digits 10 m ++ tail
-  pub place : k ≡ at + length (digits 10 m)
-  pub room : o ≡ placed d k tail
-  pub same : length o ≡ length d
-
-pub starts : (d : List ℕ) (at n : ℕ) {k : ℕ} → k ≡ at + length (digits 10 n) → Digiting d at n d n k
-starts d at n e = record { tail = []; whole = sym (append-nil (digits 10 n)); place = e; room = sym (placed_none d _); same = refl }
-
-module _ {d : List ℕ} {at n : ℕ} {o : List ℕ} {m k : ℕ} (s : Digiting d at n o m k) (fits : at + length (digits 10 n) ≤ length d) where
-  pub inside : k + length s.tail ≤ length d
-  inside = omega (arith, s.place, simp length-append at (ap length s.whole))
-
-  pub before : 0 < k
-  before = omega (arith, s.place, some_digit m)
-
-  stored : (v j : ℕ) → k ≡ suc j → set o j v ≡ placed d j (v ∷ s.tail)
-  stored v j e = ap (λ (l : List ℕ). set l j v) (s.room ∙ ap (λ (i : ℕ). placed d i s.tail) e) ∙ store_before d s.tail j v (omega (arith, inside))
-
-  pub goes_on : 10 ≤ m → Digiting d at n (set o (k - 1) (digit (m % 10))) (m / 10) (k - 1)
-  goes_on g =
-      let e : k ≡ suc (k - 1) = omega (arith, before) in
-      record {
-        tail = digit (m % 10) ∷ s.tail;
-        whole = s.whole ∙ ap (λ (l : List ℕ). l ++ s.tail) (digits_last 10 m (omega arith) g) ∙ append_assoc (digits 10 (m / 10)) (digit (m % 10) ∷ []) s.tail;
-        place = omega (arith, s.place, one_less 10 m (omega arith) g);
-        room = stored (digit (m % 10)) (k - 1) e;
-        same = length-set o (k - 1) (digit (m % 10)) ∙ s.same;
-      }
-
-  pub ends : {e : ℕ} → m < 10 → e ≡ at + length (digits 10 n) → Put (digits 10 n) d at (set o (k - 1) (digit m)) e
-  ends {e} g f =
-      let j : k - 1 ≡ at = omega (arith, s.place, one_digit 10 m g) in
-      let x : k ≡ suc at = omega (arith, s.place, one_digit 10 m g) in
-      record { next = f; stands = rw j (stored (digit m) at x ∙ ap (λ (l : List ℕ). placed d at l) (sym (s.whole ∙ ap (λ (l : List ℕ). l ++ s.tail) (digits_one 10 m g)))) }

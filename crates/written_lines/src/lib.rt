@@ -1,7 +1,7 @@
 // The lines of an edit file, measured and put: numbers in decimal and in hexadecimal, code points, and the lines made of them.
 #![tactic(auto)]
 
-ghost use Rattle.std.specs.Prelude.{◌≡◌, ◌+◌, ◌≤◌, ◌<◌, length, drop};
+ghost use Rattle.std.specs.Prelude.{◌≡◌, ◌+◌, ◌≤◌, ◌<◌, length};
 ghost use Rattle.room.specs.Placed.{Put};
 ghost use Rattle.edit_format.specs.Digits.{digit, digits};
 ghost use Rattle.edit_format.specs.Items.{Add};
@@ -9,59 +9,45 @@ ghost use Rattle.edit_format.specs.Written.{points, number_line, item_line};
 ghost use Rattle.written_lines.specs.Lengths.{cap, further, last_two, hexes};
 
 // How many decimal digits a number has: most have few, and are measured without a division.
+#[tactic(auto, using(crate::proofs::Numbers::one_ten, crate::proofs::Numbers::tens_2, crate::proofs::Numbers::tens_3, crate::proofs::Numbers::tens_4, crate::proofs::Numbers::tens_5, crate::proofs::Numbers::five_less, crate::proofs::Numbers::few_digits))]
 fn width(n: u64) -> usize
     ensures { result ≡ length (digits 10 n) }
 {
-    if n < 10 {
-        return 1;
+    match n {
+        0..=9 => 1,
+        10..=99 => 2,
+        100..=999 => 3,
+        1000..=9999 => 4,
+        10000..=99999 => 5,
+        _ => 5 + width(n / 100000),
     }
-    if n < 100 {
-        return 2;
-    }
-    if n < 1000 {
-        return 3;
-    }
-    if n < 10000 {
-        return 4;
-    }
-    if n < 100000 {
-        return 5;
-    }
-    let mut m = n;
-    let mut w: usize = 1;
-    'digits: while 10 <= m {
-        m = m / 10;
-        w += 1;
-    }
-    w
 }
 
 // The byte of a decimal digit.
+#[tactic(auto, using(crate::proofs::Numbers::decimal_digit))]
 fn decimal_byte(d: u64) -> u8
     requires { d < 10 }
     ensures { result ≡ digit d }
 {
-    (d + 48) as u8
+    b'0' + d as u8
 }
 
-// A number in decimal at a place, its last digit first.
+// A number in decimal at a place.
 fn put_decimal(out: &mut [u8], at: usize, n: u64) -> usize
     requires { at + length (digits 10 n) ≤ length out.old }
     ensures { Put (digits 10 n) out.old at out.new result }
 {
-    let end = at + width(n);
-    let mut m = n;
-    let mut k = end;
-    'digits: while 10 <= m {
-        k -= 1;
-        out[k] = decimal_byte(m % 10);
-        m = m / 10;
+    if n < 10 {
+        out[at] = decimal_byte(n);
+        return at + 1;
     }
-    out[k - 1] = decimal_byte(m);
-    end
+    let last = put_decimal(out, at, n / 10);
+    out[last] = decimal_byte(n % 10);
+    last + 1
 }
 
 // The byte of a hexadecimal digit: a sum, since which of them are letters no branch can foretell.
+#[tactic(auto, using(crate::proofs::Numbers::hex_digit))]
 fn hex_byte(d: u32) -> u8
     requires { d < 16 }
     ensures { result ≡ digit d }
@@ -99,11 +85,12 @@ fn put_four(out: &mut [u8], at: usize, c: u32) -> usize
     if c < 256 {
         return put_two(out, at, c);
     }
-    let a = put_two(out, at, c / 256);
-    put_pair(out, a, c)
+    let front = put_two(out, at, c / 256);
+    put_pair(out, front, c)
 }
 
 // A number in hexadecimal at a place: no loop, and its digits are not counted.
+// Kept so: one function that calls itself for all but the last two digits was tried, and slower on numbers of four digits.
 fn put_hex(out: &mut [u8], at: usize, c: u32) -> usize
     requires { at + length (digits 16 c) ≤ length out.old }
     ensures { Put (digits 16 c) out.old at out.new result }
@@ -111,12 +98,13 @@ fn put_hex(out: &mut [u8], at: usize, c: u32) -> usize
     if c < 65536 {
         return put_four(out, at, c);
     }
-    let a = put_four(out, at, c / 256 / 256);
-    let b = put_pair(out, a, c / 256);
-    put_pair(out, b, c)
+    let front = put_four(out, at, c / 256 / 256);
+    let middle = put_pair(out, front, c / 256);
+    put_pair(out, middle, c)
 }
 
 // How many hexadecimal digits a number has: a sum, so that a loop over it is made of vectors.
+#[tactic(auto, using(crate::proofs::Hexes::hex_steps, numbers::proofs::Steps::step_most))]
 fn hex_width(c: u32) -> u32
     ensures { (result ≡ length (digits 16 c)) × (result ≤ 8) }
 {
@@ -129,18 +117,16 @@ fn hex_width(c: u32) -> u32
         + numbers::at_least(c, 0x10000000)
 }
 
-// How many hexadecimal digits at most 65,536 numbers have.
-fn hex_block(text: &[u32]) -> u32
-    requires { length text.now ≤ 65536 }
-    ensures { result ≡ hexes text.now }
+// How many hexadecimal digits at most 65,536 numbers have. No way out before the end: it is made of vectors.
+fn hex_block(block: &[u32]) -> u32
+    requires { length block.now ≤ 65536 }
+    ensures { result ≡ hexes block.now }
 {
-    let mut n: u32 = 0;
-    let mut k: usize = 0;
-    'block: while k < text.len() {
-        n += hex_width(text[k]);
-        k += 1;
+    let mut count: u32 = 0;
+    'block: for c in block {
+        count += hex_width(*c);
     }
-    n
+    count
 }
 
 // A sum of lengths, held up to the cap.
@@ -148,10 +134,7 @@ pub fn plus(a: usize, b: usize) -> usize
     requires { a ≤ 1099511627776 }
     ensures { result ≡ cap (a + b) }
 {
-    if 1099511627776 - a < b {
-        return 1099511627776;
-    }
-    a + b
+    a.saturating_add(b).min(1099511627776)
 }
 
 // The length of a line of one number, by that of its key.
@@ -162,20 +145,15 @@ pub fn line_length(key: usize, n: u64) -> usize
     plus(key + 1, width(n))
 }
 
+// The length of code points in hex, with one space between.
 pub fn points_length(text: &[u32]) -> usize
     ensures { result ≡ cap (length (points text.now)) }
 {
-    if text.len() == 0 {
-        return 0;
+    let mut sum = plus(0, text.len().saturating_sub(1));
+    'parts: for block in text.chunks(65536) {
+        sum = plus(sum, hex_block(block) as usize);
     }
-    let mut sum = plus(0, text.len() - 1);
-    let mut at: usize = 0;
-    'many: while 65536 < text.len() - at {
-        let next = at + 65536;
-        sum = plus(sum, hex_block(&text[at..next]) as usize);
-        at = next;
-    }
-    plus(sum, hex_block(&text[at..]) as usize)
+    sum
 }
 
 // A key, a decimal and LF at a place.
@@ -183,26 +161,23 @@ pub fn put_line(out: &mut [u8], at: usize, key: &[u8], n: u64) -> usize
     requires { at + length (number_line key.now n) ≤ length out.old }
     ensures { Put (number_line key.now n) out.old at out.new result }
 {
-    let a = room::put_u8(key, out, at);
+    let a = room::put(key, out, at);
     let b = put_decimal(out, a, n);
     out[b] = b'\n';
     b + 1
 }
 
-// The code points after the first, a space before each.
+// Code points in hex at a place, a space before each.
 fn put_further(out: &mut [u8], at: usize, text: &[u32]) -> usize
-    requires { at + length (further (drop 1 text.now)) ≤ length out.old }
-    ensures { Put (further (drop 1 text.now)) out.old at out.new result }
+    requires { at + length (further text.now) ≤ length out.old }
+    ensures { Put (further text.now) out.old at out.new result }
 {
-    let mut k = at;
-    let mut i: usize = 1;
-    'points: while i < text.len() {
-        let c = text[i];
-        out[k] = b' ';
-        k = put_hex(out, k + 1, c);
-        i += 1;
+    let mut next = at;
+    'points: for c in text {
+        out[next] = b' ';
+        next = put_hex(out, next + 1, *c);
     }
-    k
+    next
 }
 
 // Code points in hex, one space between.
@@ -210,11 +185,13 @@ fn put_points(out: &mut [u8], at: usize, text: &[u32]) -> usize
     requires { at + length (points text.now) ≤ length out.old }
     ensures { Put (points text.now) out.old at out.new result }
 {
-    if text.len() == 0 {
-        return at;
+    match text.split_first() {
+        Some((first, rest)) => {
+            let next = put_hex(out, at, *first);
+            put_further(out, next, rest)
+        }
+        None => at,
     }
-    let a = put_hex(out, at, text[0]);
-    put_further(out, a, text)
 }
 
 // An add line at a place.
@@ -222,7 +199,7 @@ pub fn put_add(out: &mut [u8], at: usize, text: &[u32]) -> usize
     requires { at + length (item_line (Add text.now)) ≤ length out.old }
     ensures { Put (item_line (Add text.now)) out.old at out.new result }
 {
-    let a = room::put_u8(b"add=", out, at);
+    let a = room::put(b"add=", out, at);
     let b = put_points(out, a, text);
     out[b] = b'\n';
     b + 1

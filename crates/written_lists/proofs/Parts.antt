@@ -1,13 +1,15 @@
 -- Shown: what an operation gives, by its kind, and how the leaf calls put it.
 -- How: each kind is a case of the definition's tests.
-use Prim.Native.Nat.{ℕ, suc, ◌+◌, ◌-◌, ◌*◌, ◌≤◌}
+use Prim.Native.Nat.{ℕ, ◌+◌, ◌-◌, ◌*◌, ◌/◌, ◌<◌, ◌≤◌}
 use mathlib.Core.Path.{◌≡◌, sym, ◌∙◌, ap}
+use mathlib.Core.Bool.{true, false}
 use mathlib.Core.List.{List, [], ◌∷◌}
 use native.Mathlib.Decide.{ℕ_discrete}
 use native.Mathlib.Omega.{arith}
-use lib.ListN.{length, take, drop, set, length-take, length-drop}
-use lib.Seq.{sets-eq}
-use borrow.Author.Tests.{eq-eqb, ne_eqb}
+use lib.ListN.{length, take, drop, length-take, length-drop}
+use lib.Dec.{leb}
+use Rattle.std.proofs.Math.Nat.{le-div_iff_mul-le}
+use borrow.Author.Tests.{eq-eqb, ne_eqb, le-leb, lt-leb}
 use Rattle.room.specs.Placed.{placed, Put}
 use Rattle.room.proofs.Placing.{put_none}
 use Rattle.records.specs.declared.Operation.{Operation}
@@ -109,12 +111,12 @@ tells lent o h d i at {h'} {d'} {r} {side} l p e f =
     let n : r - at ≡ length (words_by lent o) = omega (arith, p.next) in
     rw (span_is lent o l.known) (record { next = p.next; text = p.stands; span = f ∙ rw (e, n) })
 
--- four numbers stored one behind the other
-pub stored : (h : List ℕ) (i a b c d : ℕ) → i * 4 + 4 ≤ length h
-    → set (set (set (set h (i * 4) a) (i * 4 + 1) b) (i * 4 + 2) c) (i * 4 + 3) d ≡ placed h (i * 4) (a ∷ b ∷ c ∷ d ∷ [])
-unfolding placed
-stored h i a b c d l =
-    let e1 : i * 4 + 1 ≡ suc (i * 4) = omega arith in
-    let e2 : i * 4 + 2 ≡ suc (suc (i * 4)) = omega arith in
-    let e3 : i * 4 + 3 ≡ suc (suc (suc (i * 4))) = omega arith in
-    rw (e1, e2, e3) (sets-eq (a ∷ b ∷ c ∷ d ∷ []) h (i * 4) l)
+-- so many records fit a room exactly when they are no more than it holds
+
+pub room_holds : (w n x : ℕ) → 0 < w → n ≤ x / w → leb (n * w) x ≡ true
+room_holds w n x h l = le-leb (n * w) x ((le-div_iff_mul-le {k = w} {x = n} {y = x} h).0 l)
+
+pub room_short : (w n x : ℕ) → 0 < w → x / w < n → leb (n * w) x ≡ false
+room_short w n x h l =
+    let p : n * w ≤ x → ⊥ = λ g. omega (arith, (le-div_iff_mul-le {k = w} {x = n} {y = x} h).1 g) in
+    lt-leb (n * w) x (omega arith)

@@ -2,177 +2,110 @@
 // four numbers: kind (0 unchanged, 1 added, 2 removed), side, and where its text stands in the text of all spans, start and length.
 #![tactic(auto)]
 
-ghost use Rattle.std.specs.Prelude.{◌≡◌, ◌&&◌, [], ◌∷◌, ◌+◌, ◌*◌, ◌≤◌, min, leb, length};
-ghost use Rattle.room.specs.Placed.{placed, answered, Put};
+ghost use Rattle.std.specs.Prelude.{◌≡◌, ◌&&◌, ◌+◌, ◌*◌, ◌<◌, ◌≤◌, min, leb, length};
+ghost use Rattle.room.specs.Placed.{answered, Put};
 ghost use Rattle.records.specs.Operations.{operations_of};
 ghost use Rattle.records.specs.Cursors.{cursors_of, flat_cursors};
-ghost use Rattle.merging.specs.Lent.{lent_of};
+ghost use Rattle.merging.specs.Lent.{lent_in};
 ghost use Rattle.cursors.specs.Sorted.{sorted};
 ghost use Rattle.sizes.specs.Texts.{total};
-ghost use Rattle.merging.specs.Outputs.{history_text, history_text as text_of_history};
+ghost use Rattle.merging.specs.Outputs.{history_text as text_of_history};
 ghost use Rattle.written_lists.specs.Parts.{words_by, given_by, text_by, span_by, history_by, removed_by, side_of, Lies, AllLie, Told, Wrote};
 
+use records::{Lent, Operation};
+
 // The words of an operation: a range of the original, or what its tokens spell.
-fn put_words(
-    original: &[u32],
-    text: &[u32],
-    spans: &[u32],
-    keys: &[u32],
-    o: records::Operation,
-    out: &mut [u32],
-    at: usize,
-) -> usize
-    requires { Lies (lent_of original.now text.now spans.now keys.now) o × (at + length (words_by (lent_of original.now text.now spans.now keys.now) o) ≤ length out.old) }
-    ensures { Put (words_by (lent_of original.now text.now spans.now keys.now) o) out.old at out.new result }
+// Kept so: here and below a kind is a number, as the C interface lends it.
+fn put_words(lent: Lent, o: Operation, out: &mut [u32], at: usize) -> usize
+    requires { Lies (lent_in lent) o × (at + length (words_by (lent_in lent) o) ≤ length out.old) }
+    ensures { Put (words_by (lent_in lent.entry) o) out.old at out.new result }
 {
     if o.kind == 1 {
-        return words::put_tokens(text, spans, keys, o.first, o.count, out, at);
+        words::put_tokens(lent.text, lent.tokens, o.first, o.count, out, at)
+    } else {
+        words::put_original(lent.original, o.order, o.length, out, at)
     }
-    words::put_original(original, o.order, o.length, out, at)
 }
 
 // What an operation gives to the text: its words, or nothing where it deletes.
-fn put_text(
-    original: &[u32],
-    text: &[u32],
-    spans: &[u32],
-    keys: &[u32],
-    o: records::Operation,
-    out: &mut [u32],
-    at: usize,
-) -> usize
-    requires { Lies (lent_of original.now text.now spans.now keys.now) o × (at + length (given_by (lent_of original.now text.now spans.now keys.now) o) ≤ length out.old) }
-    ensures { Put (given_by (lent_of original.now text.now spans.now keys.now) o) out.old at out.new result }
+fn put_text(lent: Lent, o: Operation, out: &mut [u32], at: usize) -> usize
+    requires { Lies (lent_in lent) o × (at + length (given_by (lent_in lent) o) ≤ length out.old) }
+    ensures { Put (given_by (lent_in lent.entry) o) out.old at out.new result }
 {
     if o.kind == 0 {
-        return at;
+        at
+    } else {
+        put_words(lent, o, out, at)
     }
-    put_words(original, text, spans, keys, o, out, at)
 }
 
 // The side of what is unchanged means nothing.
-fn side_of(o: records::Operation) -> usize
+fn side_of(o: Operation) -> usize
     ensures { result ≡ side_of o }
 {
-    if o.kind == 2 {
-        return 0;
-    }
-    o.side
-}
-
-// A span at the i-th place of a room.
-fn put_span(history: &mut [usize], i: usize, kind: usize, side: usize, start: usize, count: usize)
-    requires { i * 4 + 4 ≤ length history.old }
-    ensures { history.new ≡ placed history.old (i * 4) (kind ∷ side ∷ start ∷ count ∷ []) }
-{
-    let b = i * 4;
-    history[b] = kind;
-    history[b + 1] = side;
-    history[b + 2] = start;
-    history[b + 3] = count;
+    if o.kind == 2 { 0 } else { o.side }
 }
 
 // An operation's span and its words, each into its room. Kinds of spans are those of operations,
 // counted the other way.
 fn tell(
-    original: &[u32],
-    text: &[u32],
-    spans: &[u32],
-    keys: &[u32],
-    o: records::Operation,
+    lent: Lent,
+    o: Operation,
     i: usize,
     history: &mut [usize],
     out: &mut [u32],
     at: usize,
 ) -> usize
-    requires { Lies (lent_of original.now text.now spans.now keys.now) o × ((i * 4 + 4 ≤ length history.old) × (at + length (words_by (lent_of original.now text.now spans.now keys.now) o) ≤ length out.old)) }
-    ensures { Told (span_by (lent_of original.now text.now spans.now keys.now) o) history.old out.old i at history.new out.new result }
+    requires { Lies (lent_in lent) o × ((i * 4 + 4 ≤ length history.old) × (at + length (words_by (lent_in lent) o) ≤ length out.old)) }
+    ensures { Told (span_by (lent_in lent.entry) o) history.old out.old i at history.new out.new result }
 {
-    let next = put_words(original, text, spans, keys, o, out, at);
-    let side = side_of(o);
-    put_span(history, i, 2 - o.kind, side, at, next - at);
+    let next = put_words(lent, o, out, at);
+    room::put(&[2 - o.kind, side_of(o), at, next - at], history, i * 4);
     next
 }
 
 // The text of a list.
-pub fn write_text(
-    original: &[u32],
-    text: &[u32],
-    spans: &[u32],
-    keys: &[u32],
-    operations: &[usize],
-    out: &mut [u32],
-)
-    requires { AllLie (lent_of original.now text.now spans.now keys.now) (operations_of operations.now) × (length (text_by (lent_of original.now text.now spans.now keys.now) (operations_of operations.now)) ≤ length out.old) }
-    ensures { out.new ≡ answered (text_by (lent_of original.now text.now spans.now keys.now) (operations_of operations.now)) out.old }
+// Kept so: one loop for this, the history and both, over a closure that writes through the rooms it holds, is no plainer.
+pub fn write_text(lent: Lent, operations: &[usize], out: &mut [u32])
+    requires { AllLie (lent_in lent) (operations_of operations.now) × (length (text_by (lent_in lent) (operations_of operations.now)) ≤ length out.old) }
+    ensures { out.new ≡ answered (text_by (lent_in lent.entry) (operations_of operations.now)) out.old }
 {
-    let end = operations.len() / 6;
-    let mut i = 0;
     let mut at = 0;
-    'text: while i < end {
+    'text: for i in 0..operations.len() / 6 {
         let o = records::operation_at(operations, i);
-        at = put_text(original, text, spans, keys, o, out, at);
-        i += 1;
+        at = put_text(lent, o, out, at);
     }
 }
 
 // The history of a list.
-pub fn write_history(
-    original: &[u32],
-    text: &[u32],
-    spans: &[u32],
-    keys: &[u32],
-    operations: &[usize],
-    history: &mut [usize],
-    out: &mut [u32],
-)
-    requires { AllLie (lent_of original.now text.now spans.now keys.now) (operations_of operations.now) × ((length (operations_of operations.now) * 4 ≤ length history.old) × (length (history_text (history_by (lent_of original.now text.now spans.now keys.now) (operations_of operations.now))) ≤ length out.old)) }
-    ensures { Wrote (history_by (lent_of original.now text.now spans.now keys.now) (operations_of operations.now)) history.old out.old history.new out.new }
+pub fn write_history(lent: Lent, operations: &[usize], history: &mut [usize], out: &mut [u32])
+    requires { AllLie (lent_in lent) (operations_of operations.now) × ((length (operations_of operations.now) * 4 ≤ length history.old) × (length (text_of_history (history_by (lent_in lent) (operations_of operations.now))) ≤ length out.old)) }
+    ensures { Wrote (history_by (lent_in lent.entry) (operations_of operations.now)) history.old out.old history.new out.new }
 {
-    let count = operations.len() / 6;
-    let mut i = 0;
     let mut at = 0;
-    'history: while i < count {
+    'history: for i in 0..operations.len() / 6 {
         let o = records::operation_at(operations, i);
-        at = tell(original, text, spans, keys, o, i, history, out, at);
-        i += 1;
+        at = tell(lent, o, i, history, out, at);
     }
 }
 
 // Both, in one pass.
 pub fn write_all(
-    original: &[u32],
-    text: &[u32],
-    spans: &[u32],
-    keys: &[u32],
+    lent: Lent,
     operations: &[usize],
     out: &mut [u32],
     history: &mut [usize],
     history_text: &mut [u32],
 )
-    requires { AllLie (lent_of original.now text.now spans.now keys.now) (operations_of operations.now) × ((length (text_by (lent_of original.now text.now spans.now keys.now) (operations_of operations.now)) ≤ length out.old) × ((length (operations_of operations.now) * 4 ≤ length history.old) × (length (text_of_history (history_by (lent_of original.now text.now spans.now keys.now) (operations_of operations.now))) ≤ length history_text.old))) }
-    ensures { (out.new ≡ answered (text_by (lent_of original.now text.now spans.now keys.now) (operations_of operations.now)) out.old) × Wrote (history_by (lent_of original.now text.now spans.now keys.now) (operations_of operations.now)) history.old history_text.old history.new history_text.new }
+    requires { AllLie (lent_in lent) (operations_of operations.now) × ((length (text_by (lent_in lent) (operations_of operations.now)) ≤ length out.old) × ((length (operations_of operations.now) * 4 ≤ length history.old) × (length (text_of_history (history_by (lent_in lent) (operations_of operations.now))) ≤ length history_text.old))) }
+    ensures { (out.new ≡ answered (text_by (lent_in lent.entry) (operations_of operations.now)) out.old) × Wrote (history_by (lent_in lent.entry) (operations_of operations.now)) history.old history_text.old history.new history_text.new }
 {
-    let count = operations.len() / 6;
-    let mut i = 0;
     let mut at = 0;
     let mut told = 0;
-    'all: while i < count {
+    'all: for i in 0..operations.len() / 6 {
         let o = records::operation_at(operations, i);
-        let next = i + 1;
-        at = put_text(original, text, spans, keys, o, out, at);
-        told = tell(
-            original,
-            text,
-            spans,
-            keys,
-            o,
-            i,
-            history,
-            history_text,
-            told,
-        );
-        i = next;
+        at = put_text(lent, o, out, at);
+        told = tell(lent, o, i, history, history_text, told);
     }
 }
 
@@ -185,7 +118,7 @@ pub fn sort_cursors(cursors: &[usize], moved: &mut [usize])
     cursors::sort_into(&cursors[..whole], moved);
 }
 
-fn removed_by(o: records::Operation) -> usize
+fn removed_by(o: Operation) -> usize
     ensures { result ≡ removed_by o }
 {
     if o.kind == 0 { o.length } else { 0 }
@@ -195,34 +128,15 @@ fn removed_by(o: records::Operation) -> usize
 pub fn removed(operations: &[usize]) -> usize
     ensures { result ≡ min 1000000 (total removed_by (operations_of operations.now)) }
 {
-    let count = operations.len() / 6;
-    let mut i = 0;
-    let mut sum = 0;
-    'sum: while i < count {
-        let o = records::operation_at(operations, i);
-        let more = removed_by(o);
-        sum = sizes::capped(sum, more);
-        i += 1;
-    }
-    sum
+    sizes::total_by(operations, removed_by)
 }
 
-// Whether the rooms are as long as asked for so many cursors and code points.
-pub fn text_fits(count: usize, length: usize, moved: usize, out: usize) -> bool
-    ensures { result ≡ leb (count * 2) moved && leb length out }
+// Whether two rooms are as long as asked: `room` numbers for so many records of WIDTH numbers, `out` code
+// points for `length` of them.
+#[tactic(auto, using(crate::proofs::Parts::room_holds, crate::proofs::Parts::room_short))]
+pub fn rooms_fit<const WIDTH: usize>(count: usize, room: usize, length: usize, out: usize) -> bool
+    requires { 0 < WIDTH }
+    ensures { result ≡ leb (count * WIDTH) room && leb length out }
 {
-    if moved / 2 < count {
-        return false;
-    }
-    length <= out
-}
-
-// Whether the rooms are as long as asked for so many spans and code points.
-pub fn history_fits(count: usize, texts: usize, history: usize, out: usize) -> bool
-    ensures { result ≡ leb (count * 4) history && leb texts out }
-{
-    if history / 4 < count {
-        return false;
-    }
-    texts <= out
+    count <= room / WIDTH && length <= out
 }

@@ -1,16 +1,13 @@
--- `judge_claims` gives the verdict on the two lists of a merge, with the tokens that each of two accepted ones inserts.
--- They are below the cap of their sums.
+-- `judge_claims` gives the verdict on two lists, with the tokens that each of two accepted ones inserts: they are below the cap of their sums.
 use Rattle.checks.proofs.Accepted.{left_claims, right_claims}
-use Rattle.checks.proofs.Telling.{told_no, told_yes}
+use Rattle.checks.proofs.Telling.{claims_told}
 use mathlib.Core.Path.{sym, ◌∙◌}
 use Rattle.checks.proofs.judge_claims.Goals as goal
 
-pub returns-in-Refused : goal.returns-in-Refused
-returns-in-Refused c = told_no _ _ _ _ (sym c.judge_lists.ensures ∙ c.in-Refused.is)
-
-pub returns-in-Accepted : goal.returns-in-Accepted
-returns-in-Accepted c = let a = c.args in
-    let v = sym c.judge_lists.ensures ∙ c.in-Accepted.is in
-    told_yes _ _ _ _ _ v
-    (left_claims a.limits a.original.now a.text.now a.spans.now a.keys.now _ _ _ _ v _ c.requires.0 c.claimed-first.ensures)
-    (right_claims a.limits a.original.now a.text.now a.spans.now a.keys.now _ _ _ _ v _ c.requires.0 c.claimed-second.ensures)
+pub returns : goal.returns
+returns c =
+    let t = c.args.lent in
+    let v = sym c.judge_lists.ensures ∙ c.in_ok-judge_lists.was in
+    claims_told _ _ _ _ _ v
+    (left_claims c.args.limits t.original.now t.text.now t.tokens.spans.now t.tokens.keys.now _ _ _ _ v _ c.requires.0 c.claimed.ensures)
+    (right_claims c.args.limits t.original.now t.text.now t.tokens.spans.now t.tokens.keys.now _ _ _ _ v _ c.requires.0 c.claimed-2.ensures)

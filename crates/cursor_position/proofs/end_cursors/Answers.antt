@@ -1,13 +1,10 @@
-use Rattle.cursor_position.proofs.Going.{ending_none, ending_more, ending_out}
-use mathlib.Core.Path.{refl}
+-- Shown: `end_cursors` puts `ended` into the room and leaves none.
+-- How: what `put_on` leaves, where every index is the end.
+use Rattle.cursor_position.specs.Moves.{left_of}
+use Rattle.cursor_position.proofs.Going.{went_as, ended_is, none_stays}
+use Rattle.std.proofs.Common.{Some, rules}
 use Rattle.cursor_position.proofs.end_cursors.Goals as goal
 
-pub ending-init : goal.ending-init
-ending-init c = ending_none _ _ _ _ _ _
-
-pub ending-preserved : goal.ending-preserved
-ending-preserved c = ending_more c.ending.invariant c.cursor_at-c.result c.with_index.result _ c.requires c.ending-test.true c.cursor_at-c.ensures
-    c.with_index.ensures c.put_cursor.ensures
-
 pub returns : goal.returns
-returns c = ending_out c.ending.invariant refl c.ending-test.false
+returns c = let cs = left_of c.args.cursors.now c.args.p in
+    went_as (c.put_on.ensures (λ _. Some c.args.end) (search rules)) (ended_is c.args.end cs) (none_stays c.args.end cs)

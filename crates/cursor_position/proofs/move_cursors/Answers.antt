@@ -1,17 +1,10 @@
-use Rattle.cursor_position.proofs.Going.{moving_none, moving_more, moving_all, moving_out}
-use mathlib.Core.Path.{refl}
+-- Shown: `move_cursors` puts `moved` into the room and leaves `behind`.
+-- How: what `put_on` leaves, where an index up to the operation's end moves.
+use Rattle.cursor_position.specs.Moves.{left_of}
+use Rattle.cursor_position.proofs.Going.{went_as, moving, moved_is, behind_is}
+use Rattle.std.proofs.Common.{rules}
 use Rattle.cursor_position.proofs.move_cursors.Goals as goal
 
-pub moving-init : goal.moving-init
-moving-init c = moving_none _ _ _ _ _ _
-
-pub returns-then-end-c : goal.returns-then-end-c
-returns-then-end-c c = moving_out c.moving.invariant c.cursor_at-c.result refl c.moving-test.true c.cursor_at-c.ensures c.if-end-c.true
-
-pub moving-preserved : goal.moving-preserved
-moving-preserved c = moving_more c.moving.invariant c.cursor_at-c.result c.with_index.result c.moved_index.result _ c.requires.1
-    c.moving-test.true c.cursor_at-c.ensures c.if-end-c.false c.moved_index.ensures c.with_index.ensures
-    c.put_cursor.ensures
-
 pub returns : goal.returns
-returns c = moving_all c.moving.invariant refl c.moving-test.false
+returns c = let cs = left_of c.args.cursors.now c.args.p in
+    went_as (c.put_on.ensures (moving c.args.t) (search rules)) (moved_is c.args.t cs) (behind_is c.args.t cs)

@@ -1,11 +1,7 @@
 -- Shown: `short_number` meets its contract.
 -- How: loop `digits` keeps `Digits`, and each way through it is a law of proofs/Points.antt.
-use Prim.Native.Nat.{◌-◌}
 use Rattle.edit_lines.proofs.Points.{Digits}
 use Rattle.edit_lines.proofs.short_number.Given as goal
 
 abbrev pub invariant-digits : goal.invariant-digits
 invariant-digits l = Digits l.bytes l.at l.k l.n
-
-abbrev pub decreases-digits : goal.decreases-digits
-decreases-digits l = 6 - l.k

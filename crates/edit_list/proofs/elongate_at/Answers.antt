@@ -6,10 +6,10 @@ use Rattle.edit_list.proofs.Raising.{never_refused, can_shift, raises}
 use Rattle.edit_list.proofs.elongate_at.Goals as goal
 
 pub shift-requires : goal.shift-requires
-shift-requires c = can_shift c.requires _ refl c.elongate.ensures _ c.in-Counts.is (omega (arith, c.requires.in_keys, c.well_formed.1.1.1.1.1.1.1.0))
+shift-requires c = can_shift c.requires _ refl c.elongate.ensures _ c.in-Ok.is (omega (arith, c.requires.in_keys))
 
-pub returns-in-Counts : goal.returns-in-Counts
-returns-in-Counts c = raises c.requires _ refl c.elongate.ensures _ c.in-Counts.is c.shift.ensures
+pub returns-in-Ok : goal.returns-in-Ok
+returns-in-Ok c = raises c.requires _ refl c.elongate.ensures _ c.in-Ok.is c.shift.ensures
 
-pub returns-in-Refused : goal.returns-in-Refused
-returns-in-Refused c = absurd (never_refused c.requires _ refl c.elongate.ensures _ c.in-Refused.is)
+pub returns-in-Err : goal.returns-in-Err
+returns-in-Err c = absurd (never_refused c.requires _ refl c.elongate.ensures _ c.in-Err.is)

@@ -10,5 +10,5 @@ read_at-sizes-requires c = record { accepted = c.requires.accepted; short = c.re
 pub fill-tokens-requires : goal.fill-tokens-requires
 fill-tokens-requires c = (fill_lent c.requires c.read_at-sizes.ensures, fill_fits c.requires c.read_at-sizes.ensures)
 
-pub returns : goal.returns
-returns c = fill_makes c.requires c.read_at-sizes.ensures c.fill-tokens.ensures
+pub returns-clause-made : goal.returns-clause-made
+returns-clause-made c = fill_makes c.requires c.read_at-sizes.ensures c.fill-tokens.ensures.filled

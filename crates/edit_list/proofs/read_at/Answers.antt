@@ -3,8 +3,8 @@
 use Rattle.edit_list.proofs.Making.{read_done, read_never}
 use Rattle.edit_list.proofs.read_at.Goals as goal
 
-pub returns-in-Counts : goal.returns-in-Counts
-returns-in-Counts c = read_done c.requires c.read.ensures _ _ c.in-Counts.is
+pub returns-in-Ok : goal.returns-in-Ok
+returns-in-Ok c = read_done c.requires c.read.ensures _ c.in-Ok.is
 
-pub returns-in-Refused : goal.returns-in-Refused
-returns-in-Refused c = absurd (read_never c.requires c.read.ensures _ c.in-Refused.is)
+pub returns-in-Err : goal.returns-in-Err
+returns-in-Err c = absurd (read_never c.requires c.read.ensures _ c.in-Err.is)

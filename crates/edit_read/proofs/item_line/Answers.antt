@@ -1,34 +1,16 @@
--- Shown: `item_line` meets its contract.
--- How: each way through it is a law of proofs/ItemLines.antt.
-use native.Mathlib.Omega.{arith}
-use borrow.Author.Tests.{eq-eqb, ne_eqb}
-use Rattle.edit_format.specs.Reading.{keeping, dropping, adding, kind_of}
-use Rattle.edit_read.proofs.ItemLines.{cut_off, as_kind}
+use Rattle.std.proofs.Common.{arith}
+use Rattle.edit_format.specs.Reading.{keeping, dropping, adding}
+use Rattle.edit_read.proofs.ItemLines.{kind_keep, kind_drop, kind_add, cut_off, as_kind}
 use Rattle.edit_read.proofs.item_line.Goals as goal
 
-pub returns-then-bytes-at : goal.returns-then-bytes-at
-returns-then-bytes-at c = cut_off _ _ c.if-bytes-at.true
+pub returns-in_err-get : goal.returns-in_err-get
+returns-in_err-get c = rw c.from_residual.ensures (cut_off _ _ c.in_err-get.ensures.lookup.3)
 
-pub bounds-bytes-at : goal.bounds-bytes-at
-bounds-bytes-at c = omega arith
+pub returns-in-107 : goal.returns-in-107
+returns-in-107 c = let b = c.in_ok-get.ensures.lookup.3 in as_kind _ _ keeping b.0 (rw (← b.1 0) (kind_keep _ c.in-107.is)) c.part_line.ensures
 
-pub keep_line-requires : goal.keep_line-requires
-keep_line-requires c = c.requires
+pub returns-in-100 : goal.returns-in-100
+returns-in-100 c = let b = c.in_ok-get.ensures.lookup.3 in as_kind _ _ dropping b.0 (rw (← b.1 0) (kind_drop _ c.in-100.is)) c.part_line-in-100.ensures
 
-pub returns-then-b-eq107 : goal.returns-then-b-eq107
-unfolding kind_of
-returns-then-b-eq107 c = as_kind _ _ keeping c.if-bytes-at.false (rw (eq-eqb _ _ c.if-b-eq107.true)) c.keep_line.ensures
-
-pub drop_line-requires : goal.drop_line-requires
-drop_line-requires c = c.requires
-
-pub returns-then-b-eq100 : goal.returns-then-b-eq100
-unfolding kind_of
-returns-then-b-eq100 c = as_kind _ _ dropping c.if-bytes-at.false (rw (ne_eqb _ _ c.if-b-eq107.false, eq-eqb _ _ c.if-b-eq100.true)) c.drop_line.ensures
-
-pub add_line-requires : goal.add_line-requires
-add_line-requires c = c.requires
-
-pub returns : goal.returns
-unfolding kind_of
-returns c = as_kind _ _ adding c.if-bytes-at.false (rw (ne_eqb _ _ c.if-b-eq107.false, ne_eqb _ _ c.if-b-eq100.false)) c.add_line.ensures
+pub returns-in_default : goal.returns-in_default
+returns-in_default c = let b = c.in_ok-get.ensures.lookup.3 in as_kind _ _ adding b.0 (rw (← b.1 0) (kind_add c.in_ok-get.field-0.now (λ z. omega (arith, z)) (λ z. omega (arith, z)))) c.add_line.ensures

@@ -1,27 +1,12 @@
-use native.Mathlib.Omega.{arith}
-use Rattle.edit_read.proofs.Judging.{begins, goes_on, fails, whole}
+use Rattle.std.proofs.Common.{◌≡◌, ◌+◌}
+use Rattle.std.proofs.lemmas.Result.{err_from_is_err_and}
+use Rattle.refusal.specs.declared.Refusal.TheVariants.{Line as BadLine}
+use Rattle.edit_read.proofs.Judging.{fails}
 use Rattle.edit_read.proofs.judge_items.Goals as goal
 
-pub items-init : goal.items-init
-items-init c = begins c.requires
-
-pub item_line-requires : goal.item_line-requires
-item_line-requires c = c.items.invariant.within
-
-pub overflow_add-i : goal.overflow_add-i
-overflow_add-i c = omega arith
-
-pub items-smaller : goal.items-smaller
-items-smaller c = omega arith
-
-pub items-preserved : goal.items-preserved
-items-preserved c = goes_on c.items.invariant c.items-test.true (rw c.in-Good.is at c.item_line.ensures)
-
-pub returns-in-Bad : goal.returns-in-Bad
-returns-in-Bad c = fails c.items.invariant c.items-test.true (rw c.in-Bad.is at c.item_line.ensures)
-
-pub judge_end-requires : goal.judge_end-requires
-judge_end-requires c = whole c.items.invariant c.items-test.false
-
-pub returns : goal.returns
-returns c = c.judge_end.ensures
+pub returns-in_err-s : goal.returns-in_err-s
+returns-in_err-s c =
+    let p = err_from_is_err_and c.from_residual.result c.from_residual.ensures.1 in
+    let v = rw c.in_err-s.ensures.ok_part at c.in_err-s.ensures.value in
+    let e : c.in_err-s.field-0.0 ≡ BadLine (c.items.i + 5) = cc in
+    rw (p.1, p.2, e) (fails c.items.invariant c.items-test.true (rw c.in_err-s.ensures.ok_part at c.item_line.ensures))

@@ -1,19 +1,19 @@
--- Shown: `read` meets its contract.
--- How: each way through it is a law of proofs/Filled.antt.
+use Rattle.std.proofs.lemmas.Result.{err_from_is_err_and}
 use Rattle.edit_read.proofs.Filled.{refused, few_records, little_text, fillable, filled}
+use Rattle.edit_read.proofs.read.Goals.{then-items-file-via-then-items-file, then-items-file-via-else-items-file+then-text-file}
 use Rattle.edit_read.proofs.read.Goals as goal
 
-pub returns-then-items-count : goal.returns-then-items-count
-returns-then-items-count c = few_records (rw c.in-Accepted.is at c.judge.ensures) c.if-items-count.true
+pub returns-in_err-file : goal.returns-in_err-file
+returns-in_err-file c = let p = err_from_is_err_and c.from_residual.result c.from_residual.ensures.1 in rw (p.1, p.2) (refused c.in_err-file.ensures)
 
-pub returns-then-text-size : goal.returns-then-text-size
-returns-then-text-size c = little_text (rw c.in-Accepted.is at c.judge.ensures) c.if-items-count.false c.if-text-size.true
+pub returns-then-items-file : goal.returns-then-items-file
+returns-then-items-file c = elim c.then-items-file.branch [
+  | then-items-file-via-then-items-file w ↦ few_records c.in_ok-file.ensures w.if-items-file.true
+  | then-items-file-via-else-items-file+then-text-file w ↦ little_text c.in_ok-file.ensures w.if-items-file.false w.if-text-file.true
+]
 
 pub fill-requires : goal.fill-requires
-fill-requires c = fillable _ _ (rw c.in-Accepted.is at c.judge.ensures) c.if-items-count.false c.if-text-size.false
+fill-requires c = fillable _ _ c.in_ok-file.ensures c.if-items-file.false c.if-text-file.false
 
-pub returns-else-text-size : goal.returns-else-text-size
-returns-else-text-size c = filled (rw c.in-Accepted.is at c.judge.ensures) c.if-items-count.false c.if-text-size.false c.fill.ensures.0 c.fill.ensures.1
-
-pub returns-in-Refused : goal.returns-in-Refused
-returns-in-Refused c = refused (rw c.in-Refused.is at c.judge.ensures)
+pub returns : goal.returns
+returns c = filled c.in_ok-file.ensures c.if-items-file.false c.if-text-file.false c.fill.ensures.0 c.fill.ensures.1

@@ -2,7 +2,6 @@
 -- How: each way through it is a law of proofs/Counting.antt.
 use Rattle.edit_write.proofs.Counting.{file_sum}
 use native.Mathlib.Omega.{arith}
-use mathlib.Core.Path.{refl}
 use Rattle.edit_write.proofs.file_length.Goals as goal
 
 pub plus-b-requires : goal.plus-b-requires
@@ -18,4 +17,4 @@ pub plus-requires : goal.plus-requires
 plus-requires c = omega (arith, c.plus-d.ensures)
 
 pub returns : goal.returns
-returns c = λ t e. file_sum _ t _ _ refl c.line_length.ensures c.plus-a.ensures c.line_length-2.ensures c.plus-b.ensures c.line_length-3.ensures c.plus-c.ensures e c.plus-d.ensures c.line_length-4.ensures c.plus.ensures
+returns c = λ t e. file_sum _ t _ _ c.count-count.ensures c.line_length.ensures c.plus-a.ensures c.line_length-2.ensures c.plus-b.ensures c.line_length-3.ensures c.plus-c.ensures e c.plus-d.ensures c.line_length-4.ensures c.plus.ensures

@@ -1,5 +1,4 @@
--- Shown: `put_file` meets its contract.
--- How: each way through it is a law of proofs/Finishing.antt.
+-- `put_file` meets its contract. Each way through it is a law of proofs/Finishing.antt.
 use Rattle.edit_write.proofs.Finishing.{form_in, original_in, result_in, count_in, items_in, end_in, file_put, file_long}
 use Rattle.edit_write.proofs.put_file.Goals as goal
 
@@ -13,16 +12,26 @@ pub put_line-c-requires : goal.put_line-c-requires
 put_line-c-requires c = result_in _ _ _ _ _ c.requires c.put_line-a.ensures c.put_line-b.ensures
 
 pub put_line-d-requires : goal.put_line-d-requires
-put_line-d-requires c = count_in _ _ _ _ _ c.requires c.put_line-a.ensures c.put_line-b.ensures c.put_line-c.ensures
+put_line-d-requires c = rw c.count-count.ensures (count_in _ _ _ _ _ c.requires c.put_line-a.ensures c.put_line-b.ensures c.put_line-c.ensures)
 
 pub put_items-e-requires : goal.put_items-e-requires
-put_items-e-requires c = items_in _ _ _ _ _ c.requires c.put_line-a.ensures c.put_line-b.ensures c.put_line-c.ensures c.put_line-d.ensures
+put_items-e-requires c =
+    let d = rw c.count-count.ensures at c.put_line-d.ensures in
+    items_in _ _ _ _ _ c.requires c.put_line-a.ensures c.put_line-b.ensures c.put_line-c.ensures d
 
 pub put_line-requires : goal.put_line-requires
-put_line-requires c = end_in _ _ _ _ _ c.requires c.put_line-a.ensures c.put_line-b.ensures c.put_line-c.ensures c.put_line-d.ensures c.put_items-e.ensures
+put_line-requires c =
+    let d = rw c.count-count.ensures at c.put_line-d.ensures in
+    rw c.count-count.ensures (end_in _ _ _ _ _ c.requires c.put_line-a.ensures c.put_line-b.ensures c.put_line-c.ensures d c.put_items-e.ensures)
 
 pub shape_of-out : goal.shape_of-out
-shape_of-out c = file_long _ _ _ _ _ c.requires c.put_line-a.ensures c.put_line-b.ensures c.put_line-c.ensures c.put_line-d.ensures c.put_items-e.ensures c.put_line.ensures
+shape_of-out c =
+    let d = rw c.count-count.ensures at c.put_line-d.ensures in
+    let f = rw c.count-count.ensures at c.put_line.ensures in
+    file_long _ _ _ _ _ c.requires c.put_line-a.ensures c.put_line-b.ensures c.put_line-c.ensures d c.put_items-e.ensures f
 
 pub returns : goal.returns
-returns c = file_put _ _ _ _ _ c.requires c.put_line-a.ensures c.put_line-b.ensures c.put_line-c.ensures c.put_line-d.ensures c.put_items-e.ensures c.put_line.ensures
+returns c =
+    let d = rw c.count-count.ensures at c.put_line-d.ensures in
+    let f = rw c.count-count.ensures at c.put_line.ensures in
+    file_put _ _ _ _ _ c.requires c.put_line-a.ensures c.put_line-b.ensures c.put_line-c.ensures d c.put_items-e.ensures f

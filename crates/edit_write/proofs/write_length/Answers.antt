@@ -1,18 +1,20 @@
--- Shown: `write_length` answers `length_of`.
--- How: each way through it is a law of proofs/Finishing.antt.
+-- `write_length` answers `length_of`. Each way through it is a law of proofs/Finishing.antt.
 use Rattle.edit_write.proofs.Finishing.{small, lines_are, lines_most, length_fine, length_refused}
+use Rattle.std.proofs.lemmas.Result.{err_from_is_err_and}
 use native.Mathlib.Omega.{arith}
-use mathlib.Core.Path.{sym, ◌∙◌}
 use Rattle.edit_write.proofs.write_length.Goals as goal
 
+pub returns-in_err-sums : goal.returns-in_err-sums
+returns-in_err-sums c = let p = err_from_is_err_and c.from_residual.result c.from_residual.ensures.1 in
+    rw (p.1, p.2) (length_refused _ _ (rw (c.new-diff.ensures.0, c.new-diff.ensures.1) at c.in_err-sums.ensures))
+
 pub overflow_add-result : goal.overflow_add-result
-overflow_add-result c = let w = small _ _ (sym c.in-Fine.is ∙ c.check.ensures) in omega (arith, w.0, w.1)
+overflow_add-result c = omega (arith, small _ _ c.in_ok-sums.ensures)
 
 pub file_length-requires : goal.file_length-requires
-file_length-requires c = lines_most _ _ (sym c.in-Fine.is ∙ c.check.ensures)
+file_length-requires c = lines_most _ _ c.in_ok-sums.ensures
 
-pub returns-in-Fine : goal.returns-in-Fine
-returns-in-Fine c = let e = sym c.in-Fine.is ∙ c.check.ensures in length_fine _ _ e (c.file_length.ensures _ (lines_are _ _ e))
-
-pub returns-in-Refused : goal.returns-in-Refused
-returns-in-Refused c = length_refused _ _ (sym c.in-Refused.is ∙ c.check.ensures)
+pub returns : goal.returns
+returns c =
+    let e = c.in_ok-sums.ensures in
+    rw (← c.new-diff.ensures.0, ← c.new-diff.ensures.1) (length_fine _ _ e (c.file_length.ensures _ (lines_are _ _ e)))

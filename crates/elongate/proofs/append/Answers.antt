@@ -6,12 +6,12 @@ use Rattle.elongate.proofs.append.Goals as goal
 
 pub returns : goal.returns
 returns c = record {
-  in_spans = c.put_u32.ensures.stands ∙ rw
-      (spans_part c.args.spans.now c.args.keys.now c.args.joins.now c.args.r.first c.args.r.count
+  in_spans = c.put.ensures.stands ∙ rw
+      (spans_part c.args.lent.tokens.spans.now c.args.lent.tokens.keys.now c.args.lent.joins.now c.args.r.first c.args.r.count
       c.requires.lent);
-  in_keys = c.put_u32-2.ensures.stands ∙ rw (keys_part c.args.spans.now c.args.keys.now
-      c.args.joins.now c.args.r.first c.args.r.count c.requires.lent);
-  in_joins = c.put_u8.ensures.stands ∙ rw
-      (joins_part c.args.spans.now c.args.keys.now c.args.joins.now c.args.r.first c.args.r.count
+  in_keys = c.put-2.ensures.stands ∙ rw (keys_part c.args.lent.tokens.spans.now c.args.lent.tokens.keys.now
+      c.args.lent.joins.now c.args.r.first c.args.r.count c.requires.lent);
+  in_joins = c.put-3.ensures.stands ∙ rw
+      (joins_part c.args.lent.tokens.spans.now c.args.lent.tokens.keys.now c.args.lent.joins.now c.args.r.first c.args.r.count
       c.requires.lent);
 }

@@ -8,8 +8,8 @@ use Rattle.merge.proofs.run.Given as goal
 
 abbrev pub invariant-turns : goal.invariant-turns
 invariant-turns l =
-    Going (frame l.original l.text l.spans l.keys l.left_operations l.right_operations l.left_cursors l.right_cursors l.priority l.mid l.half l.initial.work l.initial.out l.initial.moved) l.work l.out l.moved l.left l.right l.totals
+    Going (frame l.lent.original.now l.lent.text.now l.lent.tokens.spans.now l.lent.tokens.keys.now l.left.operations.now l.right.operations.now l.left.cursors.now l.right.cursors.now l.priority l.mid l.half l.initial.work l.initial.out l.initial.moved) l.work l.out l.moved l.left_side l.right_side l.totals
 
 abbrev pub decreases-turns : goal.decreases-turns
 decreases-turns l =
-    work (ahead_of l.left_operations l.left.ahead) + work (ahead_of l.right_operations l.right.ahead)
+    work (ahead_of l.left.operations.now l.left_side.ahead) + work (ahead_of l.right.operations.now l.right_side.ahead)

@@ -1,16 +1,16 @@
 -- Shown: `turn` meets its contract.
 -- How: each way through it is a law of proofs/Turning.antt.
+use Rattle.std.specs.Prelude.{Option}
 use Rattle.merge.proofs.Turning.{Parts, facing, taken_sound, end_most, removed_most, length_most, awaits_shift, shift_fits, rememberable, emittable, span_most, assembled}
 use Rattle.merge.specs.Meetings.{Meets}
 use Rattle.merge.specs.declared.Totals.{Totals}
 use Rattle.merge.specs.declared.Side.{Side}
 use Rattle.merge.specs.declared.Meeting.{Meeting}
 use Rattle.cursor_position.specs.declared.Progress.{Progress}
-use Rattle.turns.specs.declared.Memory.{Memory}
+use Rattle.operation.specs.declared.Memory.{Memory}
 use Rattle.turns.specs.declared.Ahead.{Ahead}
 use Rattle.operation.specs.Views.{of_spans}
 use Rattle.operation.specs.declared.Last.{Last}
-use Rattle.operation.specs.declared.Next.{Next}
 use Rattle.merging.specs.Operations.{length_of, span_of}
 use Rattle.merging.specs.declared.Op.{Op}
 use mathlib.Core.Bool.{Bool}
@@ -27,7 +27,7 @@ of-taken :
 of-taken e m = rw e at m
 
 at-taken :
-    {spans keys ops cs w w₁ w₂ : List ℕ} {half : ℕ} {own other : Side} {totals : Totals} {number : ℕ} {out out' moved moved' : List ℕ} {x y : Op} {tail : Next}
+    {spans keys ops cs w w₁ w₂ : List ℕ} {half : ℕ} {own other : Side} {totals : Totals} {number : ℕ} {out out' moved moved' : List ℕ} {x y : Op} {tail : Option Op}
     {awaited : Bool} {r : Meeting} {p : Progress} {m : Op} {kept : Memory} {place span : ℕ} {coming : Ahead} → x ≡ y
     → Parts spans keys ops cs w w₁ w₂ half own other totals number out out' moved moved' x tail awaited r p m kept place span coming
     → Parts spans keys ops cs w w₁ w₂ half own other totals number out out' moved moved' y tail awaited r p m kept place span coming
@@ -40,7 +40,7 @@ pub length_of-length-requires : goal.length_of-length-requires
 length_of-length-requires c = rw c.split_retain_before-split.ensures.0 (taken_sound c.requires).lies
 
 pub overflow_add-own : goal.overflow_add-own
-overflow_add-own c = omega (arith, c.length_of-length.ensures, ap (length_of (of_spans c.args.spans.now)) c.split_retain_before-split.ensures.0, end_most c.requires)
+overflow_add-own c = omega (arith, c.length_of-length.ensures, ap (length_of (of_spans c.args.tokens.spans.now)) c.split_retain_before-split.ensures.0, end_most c.requires)
 
 pub meet-meeting-requires : goal.meet-meeting-requires
 meet-meeting-requires c = (rw c.split_retain_before-split.ensures.0 (facing c.requires), c.length_of-length.ensures)
@@ -48,7 +48,7 @@ meet-meeting-requires c = (rw c.split_retain_before-split.ensures.0 (facing c.re
 pub move_side-progress-requires : goal.move_side-progress-requires
 move_side-progress-requires c = let e = c.split_retain_before-split.ensures.0 in
     let m = of-taken e c.meet-meeting.ensures in
-    (shift_fits c.requires m, c.requires.space, awaits_shift c.requires m _ (c.length_of-length.ensures ∙ ap (length_of (of_spans c.args.spans.now)) e) c.is_side_awaited-awaited.ensures)
+    (shift_fits c.requires m, c.requires.space, awaits_shift c.requires m _ (c.length_of-length.ensures ∙ ap (length_of (of_spans c.args.tokens.spans.now)) e) c.is_side_awaited-awaited.ensures)
 
 pub shortened-result-requires : goal.shortened-result-requires
 shortened-result-requires c = (rw c.split_retain_before-split.ensures.0 (taken_sound c.requires).reaches, c.meet-meeting.ensures.most)
@@ -64,7 +64,7 @@ overflow_sub-text c = removed_most c.requires (of-taken c.split_retain_before-sp
 pub emit-place-requires : goal.emit-place-requires
 emit-place-requires c = let e = c.split_retain_before-split.ensures.0 in
     let m = of-taken e c.meet-meeting.ensures in
-    rw (c.shortened-result.ensures, e) (emittable c.requires m)
+    rw (c.shortened-result.ensures, e, c.number-number.ensures) (emittable c.requires m)
 
 pub advance_side-coming-requires : goal.advance_side-coming-requires
 advance_side-coming-requires c = c.requires.first
@@ -78,7 +78,7 @@ overflow_add-result-2 c = omega (arith, length_most c.requires (of-taken c.split
 pub overflow_add-result-3 : goal.overflow_add-result-3
 overflow_add-result-3 c = let e = c.split_retain_before-split.ensures.0 in
     let m = of-taken e c.meet-meeting.ensures in
-    omega (arith, c.span_of.ensures, ap span_of (rw e at c.shortened-result.ensures), span_most c.requires m, c.requires.consumed)
+    omega (arith, c.span.ensures, ap span_of (rw e at c.shortened-result.ensures), span_most c.requires m, c.requires.consumed)
 
 pub shape_of-work : goal.shape_of-work
 shape_of-work c = c.remember_operation-kept.ensures.kept.same ∙ c.meet-meeting.ensures.scratched.same
@@ -95,8 +95,8 @@ returns c = assembled c.requires
       went = c.move_side-progress.ensures;
       rest = c.shortened-result.ensures;
       remembers = c.remember_operation-kept.ensures;
-      emits = c.emit-place.ensures;
+      emits = rw c.number-number.ensures at c.emit-place.ensures;
       looks = c.advance_side-coming.ensures;
-      spans_is = c.span_of.ensures;
+      spans_is = c.span.ensures;
     }))
     c.split_retain_before-split.ensures.1

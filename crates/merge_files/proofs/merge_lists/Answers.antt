@@ -7,28 +7,28 @@ use Rattle.merge_files.proofs.Merging.{number_most, small, in_room, diffable, re
 use Rattle.merge_files.proofs.merge_lists.Goals as goal
 
 pub put_refused-requires : goal.put_refused-requires
-put_refused-requires c = rw c.number_of.ensures (number_most c.in-Refused.refusal)
+put_refused-requires c = rw c.number.ensures (number_most c.in-Err.refusal)
 
 pub overflow_mul-merged : goal.overflow_mul-merged
 overflow_mul-merged c = let s = c in
-    record { fits = omega (arith, small s.args.original.now s.args.text.now s.args.spans.now s.args.keys.now s.args.left.now s.args.right.now s.requires _ _ _ _ _ _ refl refl _ c.merge.ensures c.in-Counts.is) }
+    record { fits = omega (arith, small s.args.original.now s.args.text.now s.args.spans.now s.args.keys.now s.args.left.now s.args.right.now s.requires _ _ _ _ _ _ refl refl _ c.merge.ensures c.in-Ok.is) }
 
 pub slice_bounds-merged-end : goal.slice_bounds-merged-end
 slice_bounds-merged-end c = let s = c in
-    in_room s.args.original.now s.args.text.now s.args.spans.now s.args.keys.now s.args.left.now s.args.right.now s.requires _ _ _ _ _ _ refl refl _ c.merge.ensures c.in-Counts.is
+    in_room s.args.original.now s.args.text.now s.args.spans.now s.args.keys.now s.args.left.now s.args.right.now s.requires _ _ _ _ _ _ refl refl _ c.merge.ensures c.in-Ok.is
 
 pub slice_bounds-write_merged-end : goal.slice_bounds-write_merged-end
 slice_bounds-write_merged-end c = let s = c in
-    sym (length-take-le _ _ (in_room s.args.original.now s.args.text.now s.args.spans.now s.args.keys.now s.args.left.now s.args.right.now s.requires _ _ _ _ _ _ refl refl _ c.merge.ensures c.in-Counts.is))
+    sym (length-take-le _ _ (in_room s.args.original.now s.args.text.now s.args.spans.now s.args.keys.now s.args.left.now s.args.right.now s.requires _ _ _ _ _ _ refl refl _ c.merge.ensures c.in-Ok.is))
 
 pub write_merged-requires : goal.write_merged-requires
 write_merged-requires c = let s = c in
-    diffable s.args.original.now s.args.text.now s.args.spans.now s.args.keys.now s.args.left.now s.args.right.now s.requires _ _ _ _ _ _ refl refl _ c.merge.ensures c.in-Counts.is
+    diffable s.args.original.now s.args.text.now s.args.spans.now s.args.keys.now s.args.left.now s.args.right.now s.requires _ _ _ _ _ _ refl refl _ c.merge.ensures c.in-Ok.is
 
-pub returns-in-Refused : goal.returns-in-Refused
-returns-in-Refused c = let s = c in
-    refuses s.args.original.now s.args.text.now s.args.spans.now s.args.keys.now s.args.left.now s.args.right.now s.requires _ _ _ _ _ _ refl refl _ _ c.merge.ensures c.in-Refused.is c.number_of.ensures s.args.out.now _ _ c.put_refused.ensures
+pub returns-in-Err : goal.returns-in-Err
+returns-in-Err c = let s = c in
+    refuses s.args.original.now s.args.text.now s.args.spans.now s.args.keys.now s.args.left.now s.args.right.now s.requires _ _ _ _ _ _ refl refl _ _ c.merge.ensures c.in-Err.is c.number.ensures s.args.out.now _ _ c.put_refused.ensures
 
-pub returns-in-Counts : goal.returns-in-Counts
-returns-in-Counts c = let s = c in
-    merges s.args.original.now s.args.text.now s.args.spans.now s.args.keys.now s.args.left.now s.args.right.now s.requires _ _ _ _ _ _ refl refl _ c.merge.ensures c.in-Counts.is s.args.out.now _ _ c.write_merged.ensures
+pub returns-in-Ok : goal.returns-in-Ok
+returns-in-Ok c = let s = c in
+    merges s.args.original.now s.args.text.now s.args.spans.now s.args.keys.now s.args.left.now s.args.right.now s.requires _ _ _ _ _ _ refl refl _ c.merge.ensures c.in-Ok.is s.args.out.now _ _ c.write_merged.ensures

@@ -1,18 +1,14 @@
-use Rattle.numbers.proofs.Scalar.{by_one, to_end, below_both}
-use Rattle.numbers.proofs.Points.{point_low}
-use mathlib.Core.Path.{refl, ◌∙◌}
-use native.Mathlib.Omega.{arith}
+use Rattle.std.proofs.Common.{arith}
 use borrow.Author.Tests.{ltb-true}
+use Rattle.numbers.proofs.Scalar.{no_scalars, one_more, all_passed, below_both}
+use Rattle.numbers.proofs.Points.{point_low}
 use Rattle.numbers.proofs.all_low.Goals as goal
 
 pub block-init : goal.block-init
-block-init c = (c.requires.0, λ _. refl)
+block-init c = λ _. no_scalars
 
 pub block-preserved : goal.block-preserved
-block-preserved c = (
-  omega arith,
-  λ h. let o = below_both _ _ _ h in by_one _ _ (omega (arith, c.requires.1)) (point_low _ o.1) ∙ c.block.invariant.1 o.0,
-)
+block-preserved c = λ h. let o = below_both _ _ _ h in one_more _ _ (omega arith) (point_low _ o.1) (c.block.invariant o.0)
 
 pub returns : goal.returns
-returns c = λ e. to_end _ _ c.block.invariant.0 c.block-test.false (c.block.invariant.1 (ltb-true _ _ e))
+returns c = λ e. all_passed _ c.block.x-index (omega arith) (c.block.invariant (ltb-true _ _ e))

@@ -1,23 +1,15 @@
-use Rattle.numbers.proofs.Scalar.{at_end}
-use mathlib.Core.Path.{◌∙◌}
-use native.Mathlib.Omega.{arith}
+use Rattle.std.proofs.Common.{ℕ, length, length-append, arith, sym, ap, ◌∙◌}
+use Rattle.std.specs.Slice.Iter.{chunks_rest}
+use Rattle.numbers.specs.Points.{scalars}
+use Rattle.numbers.proofs.Scalar.{joined, stopped, all_fine, bad_at}
 use Rattle.numbers.proofs.scalars_of.Goals as goal
 
-pub parts-init : goal.parts-init
-parts-init c = omega arith
-
-pub parts-preserved-then-all_low : goal.parts-preserved-then-all_low
-parts-preserved-then-all_low c = (c.block_end-end.ensures.1, c.all_low.ensures c.if-all_low.true ∙ c.parts.invariant.1)
-
-pub parts-preserved-then-all_points : goal.parts-preserved-then-all_points
-parts-preserved-then-all_points c = (c.block_end-end.ensures.1, c.all_points.ensures c.if-all_points.true ∙ c.parts.invariant.1)
-
-pub returns-then-bad-end : goal.returns-then-bad-end
-returns-then-bad-end c = c.points_to-bad.ensures.2 c.if-bad-end.true ∙ c.parts.invariant.1
+pub returns-in-Some-first_bad : goal.returns-in-Some-first_bad
+returns-in-Some-first_bad c =
+    let b = bad_at c.in-Some.block.now _ (sym c.first_bad.ensures ∙ c.in-Some-first_bad.is) in
+    omega (arith, c.parts.invariant.1, ap scalars c.in-Some.ensures.steps.1.0, stopped c.in-Some.block.now (chunks_rest c.next.new.self) (omega arith))
 
 pub parts-preserved : goal.parts-preserved
-parts-preserved c = let p = c.points_to-bad.ensures in
-    (omega (arith, p.0, c.block_end-end.ensures.1), p.1 ∙ c.parts.invariant.1)
-
-pub returns : goal.returns
-returns c = at_end _ _ c.parts-test.false ∙ c.parts.invariant.1
+parts-preserved c =
+    let f = all_fine c.in-Some.block.now (sym c.first_bad.ensures ∙ c.in_default.is) in
+    (omega (arith, c.parts.invariant.0, ap length c.in-Some.ensures.steps.1.0, length-append {A = ℕ}), omega (arith, c.parts.invariant.1, ap scalars c.in-Some.ensures.steps.1.0, joined c.in-Some.block.now (chunks_rest c.next.new.self) f))

@@ -1,15 +1,10 @@
-use Rattle.operation.proofs.Sums.{summing, summed, all_summed}
-use native.Mathlib.Omega.{arith}
+-- Shown: `sum_of` answers the sum of lengths.
+-- How: what its chain gives is the kit's sum.
+use Rattle.std.specs.Prelude.{sum as total}
+use Rattle.operation.proofs.Sums.{sum_is}
+use mathlib.Core.Path.{◌≡◌, sym, ◌∙◌}
+use Rattle.std.proofs.Common.{rules}
 use Rattle.operation.proofs.sum_of.Goals as goal
 
-pub sum-init : goal.sum-init
-sum-init c = summing _
-
-pub overflow_add-total : goal.overflow_add-total
-overflow_add-total c = omega (arith, c.sum.invariant.small, c.shared_slice_known-in-sum-1.given c.sum.i, c.wide-total.ensures)
-
-pub sum-preserved : goal.sum-preserved
-sum-preserved c = rw c.wide-total.ensures (summed _ _ _ c.sum.invariant c.sum-test.true (omega (arith, c.shared_slice_known-in-sum-1.given c.sum.i)))
-
 pub returns : goal.returns
-returns c = all_summed _ _ _ c.sum.invariant (omega arith)
+returns c = let e : c.sum.result ≡ total c.args.lengths.now = search rules in e ∙ sym (sum_is c.args.lengths.now)

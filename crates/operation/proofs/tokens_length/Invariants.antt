@@ -2,11 +2,7 @@
 -- How: loop `sum` keeps `Counting`, and each way through it is a law of proofs/Sums.antt.
 use Rattle.operation.proofs.Sums.{Counting}
 use Rattle.operation.specs.Views.{of_spans}
-use Prim.Native.Nat.{◌-◌}
 use Rattle.operation.proofs.tokens_length.Given as goal
 
 abbrev pub invariant-sum : goal.invariant-sum
 invariant-sum l = Counting (of_spans l.spans) l.first l.count l.total l.i
-
-abbrev pub decreases-sum : goal.decreases-sum
-decreases-sum l = l.count - l.i

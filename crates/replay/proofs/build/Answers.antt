@@ -1,96 +1,59 @@
-use Rattle.replay.proofs.Building.{build_begins, build_ends, fits_retain, build-retain, step_retain, build_delete, fits_insert, build-insert, build_neither}
+use Rattle.replay.proofs.Building.{build_begins, build_ends, fits_retain, build-retain, build_delete, fits_insert, build-insert, build_neither}
 use Rattle.diff.proofs.Decoding.{insert_within, range_part}
 use Rattle.replay.specs.Answers.{edits, text_of}
 use native.Mathlib.Omega.{arith}
 use mathlib.Core.Path.{sym, ◌∙◌}
+use Rattle.replay.proofs.build.Goals.{in-Retain, in-Delete, in-Insert, in-Neither}
 use Rattle.replay.proofs.build.Goals as goal
 
 pub items-init : goal.items-init
-items-init c = build_begins _ _ _ _
+items-init c = let n = c.new-builder.ensures in (rw n.0, rw n.1 (build_begins _ _ _ _))
 
-pub retained-end-requires : goal.retained-end-requires
+pub retain-at-requires : goal.retain-at-requires
 unfolding text_of edits
-retained-end-requires c = fits_retain c.items.invariant
-    c.items-test.true
-    c.requires
-    (sym c.item_at.ensures ∙ c.in-Retain.is)
+retain-at-requires c = rw c.items.invariant.0 (fits_retain c.items.invariant.1 (omega arith) c.requires (sym c.at.ensures ∙ c.in-Retain.is))
 
-pub overflow_sub-at : goal.overflow_sub-at
+pub overflow_add-start : goal.overflow_add-start
+overflow_add-start c = omega (arith, insert_within _ _ _ (sym c.at.ensures ∙ c.in-Insert.is))
+
+pub offset_bounds-items-start : goal.offset_bounds-items-start
+offset_bounds-items-start c = omega (arith, insert_within _ _ _ (sym c.at.ensures ∙ c.in-Insert.is))
+
+pub slice_bounds-insert-end : goal.slice_bounds-insert-end
+slice_bounds-insert-end c = omega (arith, insert_within _ _ _ (sym c.at.ensures ∙ c.in-Insert.is))
+
+pub insert-at-requires : goal.insert-at-requires
 unfolding text_of edits
-overflow_sub-at c = omega (
-  arith,
-  step_retain c.items.invariant
-      c.items-test.true
-      c.requires
-      (sym c.item_at.ensures
-      ∙ c.in-Retain.is) c.retained-end.ensures,
-)
-
-pub overflow_add-at : goal.overflow_add-at
-unfolding text_of edits
-overflow_add-at c = omega (
-  arith,
-  step_retain c.items.invariant
-      c.items-test.true
-      c.requires
-      (sym c.item_at.ensures
-      ∙ c.in-Retain.is) c.retained-end.ensures,
-)
-
-pub items-preserved-in-Retain : goal.items-preserved-in-Retain
-unfolding text_of edits
-items-preserved-in-Retain c = build-retain c.items.invariant
-    c.items-test.true
-    c.requires
-    (sym c.item_at.ensures
-    ∙ c.in-Retain.is) c.retained-end.ensures
-
-pub items-preserved-in-Delete : goal.items-preserved-in-Delete
-unfolding text_of edits
-items-preserved-in-Delete c = rw c.stop_at-position.ensures
-    (build_delete c.items.invariant c.items-test.true
-    c.requires
-    (sym c.item_at.ensures ∙ c.in-Delete.is))
-
-pub overflow_add-end : goal.overflow_add-end
-overflow_add-end c = omega (arith, insert_within _ _ _ (sym c.item_at.ensures ∙ c.in-Insert.is))
-
-pub offset_bounds-text-start : goal.offset_bounds-text-start
-offset_bounds-text-start c = omega (arith, insert_within _ _ _ (sym c.item_at.ensures ∙ c.in-Insert.is))
-
-pub slice_bounds-put_u32-count : goal.slice_bounds-put_u32-count
-slice_bounds-put_u32-count c = omega (arith, insert_within _ _ _ (sym c.item_at.ensures ∙ c.in-Insert.is))
-
-pub slice_bounds-put_u32-start : goal.slice_bounds-put_u32-start
-slice_bounds-put_u32-start c = omega (arith, insert_within _ _ _ (sym c.item_at.ensures ∙ c.in-Insert.is))
-
-pub slice_bounds-put_u32-end : goal.slice_bounds-put_u32-end
-slice_bounds-put_u32-end c = omega (arith, insert_within _ _ _ (sym c.item_at.ensures ∙ c.in-Insert.is))
-
-pub put_u32-at-requires : goal.put_u32-at-requires
-unfolding text_of edits
-put_u32-at-requires c = rw (range_part _ _ _)
-    (fits_insert c.items.invariant
-    c.items-test.true
-    c.requires
-    (sym c.item_at.ensures ∙ c.in-Insert.is))
-
-pub items-preserved-in-Insert : goal.items-preserved-in-Insert
-unfolding text_of edits
-items-preserved-in-Insert c = build-insert c.items.invariant
-    c.items-test.true
-    c.requires
-    (sym c.item_at.ensures
-    ∙ c.in-Insert.is) (rw (range_part _ _ _) at c.put_u32-at.ensures)
+insert-at-requires c = rw (range_part _ _ _) (fits_insert c.items.invariant.1 (omega arith) c.requires (sym c.at.ensures ∙ c.in-Insert.is))
 
 pub items-preserved : goal.items-preserved
 unfolding text_of edits
-items-preserved c = build_neither c.items.invariant c.items-test.true
-    c.requires (sym c.item_at.ensures ∙ c.in-Neither.is)
-
-pub shape_of-out : goal.shape_of-out
-shape_of-out c = c.items.invariant.same
+items-preserved c = elim c.match-at.branch [
+  | in-Retain w ↦
+      let e = w.retain-at.ensures in
+      rw (w.builder-is, w.out-is, w.at-is) (
+        rw e.same c.items.invariant.0,
+        build-retain c.items.invariant.1 (omega arith) c.requires (sym c.at.ensures ∙ w.in-Retain.is)
+            (rw c.items.invariant.0 at e.retained) (rw c.items.invariant.0 at e.next),
+      )
+  | in-Delete w ↦
+      let e = w.delete.ensures in
+      rw (w.builder-is, w.out-is, w.at-is) (
+        rw e.same c.items.invariant.0,
+        rw (e.passed, c.items.invariant.0) (build_delete c.items.invariant.1 (omega arith) c.requires (sym c.at.ensures ∙ w.in-Delete.is)),
+      )
+  | in-Insert w ↦
+      rw (w.builder-is, w.out-is, w.at-is) (
+        c.items.invariant.0,
+        build-insert c.items.invariant.1 (omega arith) c.requires (sym c.at.ensures ∙ w.in-Insert.is) (rw (range_part _ _ _) at w.insert-at.ensures),
+      )
+  | in-Neither w ↦
+      rw (w.builder-is, w.out-is, w.at-is) (
+        c.items.invariant.0,
+        build_neither c.items.invariant.1 (omega arith) c.requires (sym c.at.ensures ∙ w.in-Neither.is),
+      )
+]
 
 pub returns : goal.returns
 unfolding text_of edits
-returns c = build_ends c.items.invariant c.items-test.false
+returns c = build_ends c.items.invariant.1 (omega arith)

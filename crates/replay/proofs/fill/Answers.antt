@@ -6,8 +6,5 @@ use Rattle.replay.proofs.fill.Goals as goal
 pub returns-then-out-len : goal.returns-then-out-len
 returns-then-out-len c = no_room _ _ (omega (arith, c.requires))
 
-pub build-requires : goal.build-requires
-build-requires c = omega (arith, c.requires)
-
 pub returns : goal.returns
 returns c = has_room _ _ (omega (arith, c.requires)) c.build.ensures

@@ -1,20 +1,15 @@
--- `from_covering_diff` meets the statement of a covering replay. What `judge` found decides, then what is left, then the room (Answering).
-use Rattle.replay.proofs.Answering.{covering_stops, covering_leaves, covering_goes, as_long, replay_stops, replay_goes}
+-- `from_covering_diff` meets the statement of its replay. The length that is answered decides, and then the room (Answering).
+use Rattle.replay.proofs.Answering.{as_long, replay_stops, replay_goes}
 use Rattle.replay.specs.Answers.{covering}
-use mathlib.Core.Path.{sym, ◌∙◌}
+use Rattle.std.proofs.lemmas.Result.{err_from_is_err_and}
 use Rattle.replay.proofs.from_covering_diff.Goals as goal
 
-pub returns-then-left-gt0 : goal.returns-then-left-gt0
-returns-then-left-gt0 c = replay_stops covering _ _ (covering_leaves _ (sym c.judge.ensures ∙ c.in-Fine.is) c.if-left-gt0.true)
+pub returns-in_err-len : goal.returns-in_err-len
+returns-in_err-len c = let p = err_from_is_err_and c.from_residual.result c.from_residual.ensures.1 in
+    rw (p.1, p.2) (replay_stops covering _ _ c.in_err-len.ensures)
 
 pub fill-requires : goal.fill-requires
-fill-requires c = as_long _ (sym c.judge.ensures ∙ c.in-Fine.is)
+fill-requires c = rw (c.new.ensures.0, c.new.ensures.1) (as_long covering _ c.in_ok-len.ensures)
 
-pub returns-in-Stopped : goal.returns-in-Stopped
-returns-in-Stopped c = replay_stops covering _ _ (covering_stops _ (sym c.judge.ensures ∙ c.in-Stopped.is))
-
-pub returns-else-left-gt0 : goal.returns-else-left-gt0
-returns-else-left-gt0 c = replay_goes covering _
-    (covering_goes _ (sym c.judge.ensures
-    ∙ c.in-Fine.is) c.if-left-gt0.false)
-    c.fill.ensures
+pub returns : goal.returns
+returns c = replay_goes covering _ c.in_ok-len.ensures (rw (c.new.ensures.0, c.new.ensures.1) at c.fill.ensures)

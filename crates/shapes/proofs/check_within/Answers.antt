@@ -7,5 +7,5 @@ use mathlib.Core.Path.{◌≡◌, ◌∙◌}
 use Rattle.shapes.proofs.check_within.Goals as goal
 
 pub returns : goal.returns
-returns c = let e : c.text_length-end.result ≡ text_length c.args.m c.args.spans.now c.args.keys.now
-    (operations_of c.args.operations.now) = omega (arith, c.text_length-end.ensures, c.requires) in c.check_cursors.ensures ∙ rw e
+returns c = let e : c.text_length-end.result ≡ text_length c.args.m c.args.tokens.spans.now c.args.tokens.keys.now
+    (operations_of c.args.list.operations.now) = omega (arith, c.text_length-end.ensures, c.requires) in c.check_cursors.ensures ∙ rw e

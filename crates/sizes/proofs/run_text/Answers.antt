@@ -1,16 +1,19 @@
-use Rattle.sizes.proofs.Sums.{adding_begins, adding_in, adding_out, adding_ends}
-use mathlib.Core.Path.{refl, sym, ◌∙◌}
+use Rattle.sizes.proofs.Sums.{adding_in, adding_out, adding_ends}
+use mathlib.Core.Path.{sym, ◌∙◌}
+use native.Mathlib.Omega.{arith}
+use Rattle.sizes.proofs.run_text.Goals.{then-in_text, else-in_text}
 use Rattle.sizes.proofs.run_text.Goals as goal
 
-pub run-init : goal.run-init
-run-init c = adding_begins _ _ _ _ _ _ refl
-
-pub run-preserved-then-in_text : goal.run-preserved-then-in_text
-run-preserved-then-in_text c = adding_in c.run.invariant c.token_at-t.result _ c.run-test.true c.token_at-t.ensures (sym c.in_text.ensures ∙ c.if-in_text.true)
-    (c.capped-sum.ensures ∙ rw c.wide-length.ensures)
-
 pub run-preserved : goal.run-preserved
-run-preserved c = adding_out c.run.invariant c.token_at-t.result c.run-test.true c.token_at-t.ensures (sym c.in_text.ensures ∙ c.if-in_text.false)
+run-preserved c =
+    let a = c.args in
+    elim c.if-in_text.branch [
+      | then-in_text w ↦
+          rw w.sum-is
+          (adding_in c.run.invariant c.at-t.result _ c.run-test.true c.at-t.ensures (sym c.in_text.ensures ∙ w.if-in_text.true)
+          (w.capped-sum.ensures ∙ rw w.wide.ensures))
+      | else-in_text w ↦ rw w.sum-is (adding_out c.run.invariant c.at-t.result c.run-test.true c.at-t.ensures (sym c.in_text.ensures ∙ w.if-in_text.false))
+    ]
 
 pub returns : goal.returns
-returns c = adding_ends c.run.invariant c.run-test.false
+returns c = adding_ends c.run.invariant (omega arith)

@@ -2,11 +2,10 @@
 -- How: the check of lists, with the sizes for diffs and no cursors.
 use Rattle.sizes.proofs.Fits.{other_small}
 use Rattle.to_diff.proofs.Answering.{checked}
-use mathlib.Core.Path.{refl}
 use Rattle.to_diff.proofs.check.Goals as goal
 
 pub sum_list-requires : goal.sum_list-requires
-sum_list-requires c = other_small c.other_limits-limits.ensures
+sum_list-requires c = other_small c.other_limits.ensures
 
 pub returns : goal.returns
-returns c = checked _ _ _ _ _ _ _ _ c.other_limits-limits.ensures (refl) c.sum_list.ensures
+returns c = checked _ _ _ _ _ _ _ c.other_limits.ensures c.sum_list.ensures

@@ -6,12 +6,6 @@ use mir.Syntax.{w64}
 use mathlib.Core.Path.{◌∙◌}
 use Rattle.to_diff.proofs.put_dropped.Goals as goal
 
-pub dropped_number-requires : goal.dropped_number-requires
-dropped_number-requires c = c.requires.0
-
-pub put_record-requires : goal.put_record-requires
-put_record-requires c = c.requires.1
-
 pub returns : goal.returns
 unfolding record_of
 returns c = c.put_record.ensures ∙ rw (to_z-of_z {w = w64} {z = c.dropped_number.result} (record { sfits = c.dropped_number.type_inv }) ∙ c.dropped_number.ensures)

@@ -1,47 +1,55 @@
 -- Shown: `to_diff` answers and leaves its rooms as the definition says.
 -- How: each way is a law of proofs/Answering.antt.
-use Rattle.checks.proofs.Telling.{says_no, says_yes, says_first}
-use Rattle.to_diff.proofs.Answering.{ready, refuses, ample_fits, writes_ample, items_short, text_short, room_enough, writes}
-use mathlib.Core.Path.{sym, ◌∙◌}
+use Rattle.checks.proofs.Telling.{says_yes}
+use Rattle.to_diff.proofs.Answering.{ready, refuses, ample_fits, items_short, text_short, room_enough, writes}
+use Rattle.merging.specs.Lent.{lent_in}
+use Rattle.records.specs.Operations.{operations_of}
+use Rattle.to_diff.specs.Answers.{verdict_on}
+use mathlib.Core.Path.{sym}
+use Rattle.std.proofs.lemmas.Result.{err_from_is_err_and}
 use Rattle.to_diff.proofs.to_diff.Goals as goal
+use Rattle.to_diff.proofs.to_diff.Goals.{then-room-counts-via-then-room-counts, then-room-counts-via-else-room-counts+then-out-counts, then-room-operations+else-room-counts+else-out-counts, else-room-operations+else-out-lengths}
+use Rattle.to_diff.specs.Writes.{items, Fits}
 
-pub write-written-requires : goal.write-written-requires
-write-written-requires c = let a = c.args in
-    let e = sym c.check.ensures ∙ c.in-Sums.is in
-    let h = says_yes _ _ _ _ _ e in (
-      ready a.original.now _ _ _ _ h,
-      ample_fits a.original.now a.text.now a.spans.now a.keys.now a.operations.now _ _ _ _ h (says_first _ _ _ _ _ e)
-          c.ample.ensures c.if-ample.true,
-    )
+pub returns-in_err-lengths : goal.returns-in_err-lengths
+returns-in_err-lengths c =
+    let p = err_from_is_err_and c.from_residual.result c.from_residual.ensures.1 in
+    rw (p.1, p.2) (refuses _ _ _ _ _ _ _ _ c.in_err-lengths.ensures)
 
-pub returns-then-ample : goal.returns-then-ample
-returns-then-ample c = let a = c.args in
-    let e = sym c.check.ensures ∙ c.in-Sums.is in
-    let h = says_yes _ _ _ _ _ e in
-    writes_ample _ _ _ _ _ c.write-written.result h
-    (ample_fits a.original.now a.text.now a.spans.now a.keys.now a.operations.now _ _ _ _ h (says_first _ _ _ _ _ e)
-    c.ample.ensures c.if-ample.true) c.write-written.ensures
+pub measure-counts-requires : goal.measure-counts-requires
+measure-counts-requires c = let a = c.args in
+    let h = says_yes (verdict_on (lent_in a.lent) (operations_of a.operations.now)) _ _ (sym c.in_ok-lengths.ensures) in
+    ready a.lent.original.now _ _ _ _ h
 
-pub measure-sizes-requires : goal.measure-sizes-requires
-measure-sizes-requires c = let a = c.args in
-    ready a.original.now _ _ _ _ (says_yes _ _ _ _ _ (sym c.check.ensures ∙ c.in-Sums.is))
-
-pub returns-then-room-sizes : goal.returns-then-room-sizes
-returns-then-room-sizes c = items_short _ _ _ _ _ (says_yes _ _ _ _ _ (sym c.check.ensures ∙ c.in-Sums.is)) c.measure-sizes.result c.measure-sizes.ensures _ _ c.if-room-sizes.true
-
-pub returns-then-out-sizes : goal.returns-then-out-sizes
-returns-then-out-sizes c = text_short _ _ _ _ _ (says_yes _ _ _ _ _ (sym c.check.ensures ∙ c.in-Sums.is)) c.measure-sizes.result c.measure-sizes.ensures _ _ c.if-room-sizes.false c.if-out-sizes.true
+pub returns-then-room-counts : goal.returns-then-room-counts
+returns-then-room-counts c = let a = c.args in
+    let h = says_yes (verdict_on (lent_in a.lent) (operations_of a.operations.now)) _ _ (sym c.in_ok-lengths.ensures) in
+    elim c.then-room-counts.branch [
+      | then-room-counts-via-then-room-counts w ↦ items_short _ _ _ _ _ h c.measure-counts.result c.measure-counts.ensures _ _ w.if-room-counts.true
+      | then-room-counts-via-else-room-counts+then-out-counts w ↦
+          text_short _ _ _ _ _ h c.measure-counts.result c.measure-counts.ensures _ _ w.if-room-counts.false w.if-out-counts.true
+    ]
 
 pub write-requires : goal.write-requires
 write-requires c = let a = c.args in
-    let h = says_yes _ _ _ _ _ (sym c.check.ensures ∙ c.in-Sums.is) in (
-      ready a.original.now _ _ _ _ h,
-      room_enough a.original.now _ _ _ _ h c.measure-sizes.result c.measure-sizes.ensures _ _ c.if-room-sizes.false c.if-out-sizes.false,
+    let h = says_yes (verdict_on (lent_in a.lent) (operations_of a.operations.now)) _ _ (sym c.in_ok-lengths.ensures) in (
+      ready a.lent.original.now _ _ _ _ h,
+      elim c.if-room-operations.branch [
+        | then-room-operations+else-room-counts+else-out-counts w ↦
+            room_enough a.lent.original.now _ _ _ _ h w.measure-counts.result w.measure-counts.ensures _ _ w.if-room-counts.false w.if-out-counts.false
+        | else-room-operations+else-out-lengths w ↦
+            ample_fits a.lent.original.now _ _ _ a.operations.now _ _ _ c.in_ok-lengths.ensures w.if-room-operations.false w.if-out-lengths.false
+      ],
     )
 
-pub returns-in-Refused : goal.returns-in-Refused
-returns-in-Refused c = refuses _ _ _ _ _ _ _ _ (says_no _ _ _ _ (sym c.check.ensures ∙ c.in-Refused.is))
-
-pub returns-else-out-sizes : goal.returns-else-out-sizes
-returns-else-out-sizes c = writes _ _ _ _ _ (says_yes _ _ _ _ _ (sym c.check.ensures ∙ c.in-Sums.is)) c.measure-sizes.result c.measure-sizes.ensures _ _ c.if-room-sizes.false c.if-out-sizes.false
-    c.write.ensures
+pub returns : goal.returns
+returns c = let a = c.args in
+    let h = says_yes (verdict_on (lent_in a.lent) (operations_of a.operations.now)) _ _ (sym c.in_ok-lengths.ensures) in
+    let f : Fits (items a.lent.text.now a.lent.tokens.spans.now a.lent.tokens.keys.now (operations_of a.operations.now)) a.room.now a.out.now =
+    elim c.if-room-operations.branch [
+      | then-room-operations+else-room-counts+else-out-counts w ↦
+          room_enough a.lent.original.now _ _ _ _ h w.measure-counts.result w.measure-counts.ensures _ _ w.if-room-counts.false w.if-out-counts.false
+      | else-room-operations+else-out-lengths w ↦
+          ample_fits a.lent.original.now _ _ _ a.operations.now _ _ _ c.in_ok-lengths.ensures w.if-room-operations.false w.if-out-lengths.false
+    ] in
+    writes a.lent.original.now _ _ _ _ h f c.write.ensures

@@ -19,7 +19,7 @@ overflow_add-result-then-behind-operations c = omega (
 pub returns-then-behind-operations : goal.returns-then-behind-operations
 returns-then-behind-operations c = looks_here _ _ _ c.op_of-op.result _ c.if-behind-operations.true
     (c.op_of-op.ensures ∙ ap (λ (o : Operation). op_of c.args.at o) c.operation_at.ensures)
-    (ap (λ (k : ℕ). c.args.at + k) c.span_of.ensures)
+    (ap (λ (k : ℕ). c.args.at + k) c.span.ensures)
 
 pub returns-else-behind-operations : goal.returns-else-behind-operations
 returns-else-behind-operations c = looks_done _ _ _ c.if-behind-operations.false

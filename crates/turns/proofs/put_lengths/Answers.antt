@@ -1,14 +1,8 @@
 use Rattle.turns.proofs.Memories.{length_lengths, get_d_lengths}
-use Rattle.room.proofs.Copying.{begins, goes_on, ends}
+use Rattle.room.proofs.Copying.{goes_on, ends}
 use Rattle.operation.specs.Views.{of_spans}
 use native.Mathlib.Omega.{arith}
 use Rattle.turns.proofs.put_lengths.Goals as goal
-
-pub lengths-init : goal.lengths-init
-lengths-init c = begins _ _ _
-
-pub bounds-work-at : goal.bounds-work-at
-bounds-work-at c = omega (arith, c.lengths.invariant.kept)
 
 pub lengths-preserved : goal.lengths-preserved
 lengths-preserved c = let s = of_spans c.args.spans.now in rw

@@ -3,11 +3,7 @@
 use Rattle.room.proofs.Copying.{Copying}
 use Rattle.operation.specs.Views.{of_spans}
 use Rattle.merging.specs.Lent.{lengths_of}
-use Prim.Native.Nat.{◌-◌}
 use Rattle.turns.proofs.put_lengths.Given as goal
 
 abbrev pub invariant-lengths : goal.invariant-lengths
 invariant-lengths l = Copying (lengths_of (of_spans l.spans) l.first l.count) l.initial.work l.at l.work l.i
-
-abbrev pub decreases-lengths : goal.decreases-lengths
-decreases-lengths l = l.count - l.i

@@ -8,7 +8,7 @@ use Rattle.utf8_points.proofs.point_at.Goals as goal
 
 pub returns-then-a-lt128 : goal.returns-then-a-lt128
 returns-then-a-lt128 c = let k = known_1 _ _ c.requires.0 c.requires.1 c.if-a-lt128.true in
-    pointed _ k (c.wide-code.ensures ∙ sym (value_1 _ _ k.ends))
+    pointed _ k (c.from-code.ensures ∙ sym (value_1 _ _ k.ends))
 
 pub bounds-bytes-at-then-a-lt224 : goal.bounds-bytes-at-then-a-lt224
 bounds-bytes-at-then-a-lt224 c = omega (arith, known_2 _ _ c.requires.0 c.requires.1 c.if-a-lt128.false c.if-a-lt224.true)

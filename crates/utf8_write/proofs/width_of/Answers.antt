@@ -1,42 +1,30 @@
-use Prim.Native.Nat.{◌+◌}
-use lib.ListN.{length}
-use native.Mathlib.Omega.{arith}
-use Rattle.utf8_write.proofs.Spilling.{plain_measured, by_block, measured, within}
-use Rattle.room.proofs.Parts.{part_most}
+use Rattle.std.proofs.Common.{ℕ, ◌-◌, length, drop, length-append, length-drop, ap, arith, ◌∙◌}
+use Rattle.std.proofs.Math.Seq.{take_all}
+use Rattle.std.specs.Slice.Iter.{chunks_rest}
+use Rattle.utf8_write.proofs.Spilling.{plain_measured, wide_most, block_more, none_left}
 use Rattle.utf8_write.proofs.width_of.Goals as goal
 
-pub plain_end-plain-requires : goal.plain_end-plain-requires
-plain_end-plain-requires c = omega arith
-
 pub many-init : goal.many-init
-many-init c = plain_measured _ _ c.plain_end-plain.ensures.1 c.plain_end-plain.ensures.2
-
-pub overflow_sub-text : goal.overflow_sub-text
-overflow_sub-text c = c.many.invariant.most
-
-pub overflow_add-next : goal.overflow_add-next
-overflow_add-next c = omega arith
-
-pub slice_bounds-width_block-count : goal.slice_bounds-width_block-count
-slice_bounds-width_block-count c = omega arith
-
-pub width_block-requires : goal.width_block-requires
-width_block-requires c = part_most c.args.text.now c.many.at (c.many.at + 65536) 65536 (omega arith)
-
-pub overflow_add-n : goal.overflow_add-n
-overflow_add-n c = omega (arith, within (by_block (c.many.at + 65536) _ c.many.invariant (omega arith) (omega arith) c.width_block.ensures))
-
-pub many-smaller : goal.many-smaller
-many-smaller c = omega arith
+many-init c =
+    let e = c.ascii_end-plain.ensures in
+    let p = c.ascii_end-plain.result in
+    let s = c.args.text.now in
+    let q = rw (← c.into_iter-block-iterator.ensures.into_iter_gives) at c.chunks-block-items.ensures.rest ∙ take_all (length s - p) (drop p s) (omega (arith, length-drop p s)) in
+    record {
+      size = rw c.into_iter-block-iterator.ensures.into_iter_gives c.chunks-block-items.ensures.size;
+      few = omega (arith, ap length q, length-drop p s, e.1);
+      sum = rw q (plain_measured _ _ e.1 (λ k l h. e.2 k 0 l h));
+    }
 
 pub many-preserved : goal.many-preserved
-many-preserved c = by_block (c.many.at + 65536) _ c.many.invariant (omega arith) (omega arith) c.width_block.ensures
-
-pub width_block-requires-2 : goal.width_block-requires-2
-width_block-requires-2 c = part_most c.args.text.now c.many.at (length c.args.text.now) 65536 (omega arith)
-
-pub overflow_add-result : goal.overflow_add-result
-overflow_add-result c = omega (arith, within (by_block (length c.args.text.now) _ c.many.invariant c.many.invariant.most (omega arith) c.width_block-2.ensures))
+many-preserved c =
+    let s = c.in-Some.ensures.steps in
+    let i = c.many.invariant in
+    record {
+      size = s.0 ∙ i.size;
+      few = omega (arith, i.few, ap length s.1.0, length-append {A = ℕ}, c.width_block.ensures, wide_most c.in-Some.block.now);
+      sum = omega (arith, i.sum, block_more _ c.in-Some.block.now (chunks_rest c.next.new.self) s.1.0, c.width_block.ensures);
+    }
 
 pub returns : goal.returns
-returns c = measured (by_block (length c.args.text.now) _ c.many.invariant c.many.invariant.most (omega arith) c.width_block-2.ensures)
+returns c = omega (arith, c.many.invariant.sum, none_left (chunks_rest c.many.block-iterator) c.in-None.ensures.steps.1.0)

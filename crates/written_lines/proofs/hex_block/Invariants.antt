@@ -1,13 +1,10 @@
--- Shown: `hex_block` answers how many hexadecimal digits some numbers have.
--- How: the sum so far is that of the numbers so far, at most 8 each.
-use Prim.Native.Nat.{◌-◌, ◌*◌, ◌≤◌}
+-- `hex_block` answers how many hexadecimal digits some numbers have.
+-- The count so far is that of the numbers so far, at most 8 each.
+use Prim.Native.Nat.{◌*◌, ◌≤◌}
 use mathlib.Core.Path.{◌≡◌}
-use lib.ListN.{length, take}
+use lib.ListN.{take}
 use Rattle.written_lines.specs.Lengths.{hexes}
 use Rattle.written_lines.proofs.hex_block.Given as goal
 
 abbrev pub invariant-block : goal.invariant-block
-invariant-block l = (l.k ≤ length l.text) × (l.n ≡ hexes (take l.k l.text)) × (l.n ≤ 8 * l.k)
-
-abbrev pub decreases-block : goal.decreases-block
-decreases-block l = length l.text - l.k
+invariant-block l = (l.count ≡ hexes (take l.c-index l.block)) × (l.count ≤ 8 * l.c-index)

@@ -1,12 +1,10 @@
--- Shown: `points_length` answers the length of code points in hex, capped.
--- How: loop `many` keeps `Measured`, and each way through it is a law of proofs/Hexes.antt.
-use Prim.Native.Nat.{◌-◌}
-use lib.ListN.{length}
-use Rattle.written_lines.proofs.Hexes.{Measured}
+-- `points_length` answers how long code points in hex are, held up to the cap.
+-- The sum so far and the digits of what is left are all of it.
+use Rattle.std.proofs.Common.{◌≡◌, ◌+◌, ◌≤◌, length}
+use Rattle.std.specs.Slice.Iter.{chunks_rest}
+use Rattle.edit_format.specs.Written.{points}
+use Rattle.written_lines.specs.Lengths.{cap, hexes}
 use Rattle.written_lines.proofs.points_length.Given as goal
 
-abbrev pub invariant-many : goal.invariant-many
-invariant-many l = Measured l.text l.sum l.at
-
-abbrev pub decreases-many : goal.decreases-many
-decreases-many l = length l.text - l.at
+abbrev pub invariant-parts : goal.invariant-parts
+invariant-parts l = (l.sum ≤ 1099511627776) × (cap (l.sum + hexes (chunks_rest l.block-iterator)) ≡ cap (length (points l.text)))

@@ -5,20 +5,20 @@ use Rattle.written_lines.proofs.Counting.{add_length}
 use native.Mathlib.Omega.{arith}
 use Rattle.written_lines.proofs.put_add.Goals as goal
 
-pub put_u8-a-requires : goal.put_u8-a-requires
-put_u8-a-requires c = omega (arith, c.requires, add_length c.args.text.now)
+pub put-a-requires : goal.put-a-requires
+put-a-requires c = omega (arith, c.requires, add_length c.args.text.now)
 
 pub put_points-b-requires : goal.put_points-b-requires
-put_points-b-requires c = points_in c.args.text.now c.requires c.put_u8-a.ensures
+put_points-b-requires c = points_in c.args.text.now c.requires c.put-a.ensures
 
 pub bounds-out-b : goal.bounds-out-b
-bounds-out-b c = add_lf_in c.args.text.now c.requires c.put_u8-a.ensures c.put_points-b.ensures
+bounds-out-b c = add_lf_in c.args.text.now c.requires c.put-a.ensures c.put_points-b.ensures
 
 pub overflow_add-result : goal.overflow_add-result
-overflow_add-result c = omega (arith, add_lf_in c.args.text.now c.requires c.put_u8-a.ensures c.put_points-b.ensures)
+overflow_add-result c = omega (arith, add_lf_in c.args.text.now c.requires c.put-a.ensures c.put_points-b.ensures)
 
 pub shape_of-out : goal.shape_of-out
-shape_of-out c = add_long c.args.text.now c.requires c.put_u8-a.ensures c.put_points-b.ensures
+shape_of-out c = add_long c.args.text.now c.requires c.put-a.ensures c.put_points-b.ensures
 
 pub returns : goal.returns
-returns c = put_add_line c.args.text.now c.requires c.put_u8-a.ensures c.put_points-b.ensures
+returns c = put_add_line c.args.text.now c.requires c.put-a.ensures c.put_points-b.ensures

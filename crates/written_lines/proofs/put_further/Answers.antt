@@ -5,29 +5,20 @@ use Rattle.written_lines.proofs.put_further.Goals as goal
 pub points-init : goal.points-init
 points-init c = points_begin _ _ _
 
-pub bounds-text-i : goal.bounds-text-i
-bounds-text-i c = omega arith
+pub bounds-out-next : goal.bounds-out-next
+bounds-out-next c = space_in c.points.invariant c.requires (omega arith)
 
-pub bounds-out-k : goal.bounds-out-k
-bounds-out-k c = space_in c.points.invariant c.requires c.points-test.true
+pub overflow_add-next : goal.overflow_add-next
+overflow_add-next c = omega (arith, space_in c.points.invariant c.requires (omega arith))
 
-pub overflow_add-k : goal.overflow_add-k
-overflow_add-k c = omega (arith, space_in c.points.invariant c.requires c.points-test.true)
-
-pub put_hex-k-requires : goal.put_hex-k-requires
-put_hex-k-requires c = point_in c.points.invariant c.requires c.points-test.true
-
-pub overflow_add-i : goal.overflow_add-i
-overflow_add-i c = omega arith
-
-pub points-smaller : goal.points-smaller
-points-smaller c = omega arith
+pub put_hex-next-requires : goal.put_hex-next-requires
+put_hex-next-requires c = point_in c.points.invariant c.requires (omega arith)
 
 pub points-preserved : goal.points-preserved
-points-preserved c = points_more c.points.invariant c.requires c.points-test.true c.put_hex-k.ensures
+points-preserved c = points_more c.points.invariant c.requires (omega arith) c.put_hex-next.ensures
 
 pub shape_of-out : goal.shape_of-out
 shape_of-out c = c.points.invariant.same
 
 pub returns : goal.returns
-returns c = points_end c.points.invariant c.requires c.points-test.false
+returns c = points_end c.points.invariant c.requires (omega arith)

@@ -9,5 +9,5 @@ returns-then-o-eq0 c = gives_none _ _ _ _ c.if-o-eq0.true
 pub put_words-requires : goal.put_words-requires
 put_words-requires c = (c.requires.0, asks_words _ _ c.args.out.now _ c.if-o-eq0.false c.requires.1)
 
-pub returns : goal.returns
-returns c = gives_words _ _ _ _ c.if-o-eq0.false c.put_words.ensures
+pub returns-else-o-eq0 : goal.returns-else-o-eq0
+returns-else-o-eq0 c = gives_words _ _ _ _ c.if-o-eq0.false c.put_words.ensures

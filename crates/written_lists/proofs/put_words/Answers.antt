@@ -12,5 +12,5 @@ returns-then-o-eq1 c = puts_tokens _ _ _ _ c.if-o-eq1.true c.put_tokens.ensures
 pub put_original-requires : goal.put_original-requires
 put_original-requires c = asks_original _ _ c.args.out.now _ c.if-o-eq1.false c.requires.0 c.requires.1
 
-pub returns : goal.returns
-returns c = puts_original _ _ _ _ c.if-o-eq1.false c.put_original.ensures
+pub returns-else-o-eq1 : goal.returns-else-o-eq1
+returns-else-o-eq1 c = puts_original _ _ _ _ c.if-o-eq1.false c.put_original.ensures

@@ -20,14 +20,5 @@ all-preserved c = record {
       c.operation_at-o.ensures c.tell-told.ensures;
 }
 
-pub shape_of-out : goal.shape_of-out
-shape_of-out c = c.all.invariant.text.text.same
-
-pub shape_of-history : goal.shape_of-history
-shape_of-history c = c.all.invariant.history.same
-
-pub shape_of-history_text : goal.shape_of-history_text
-shape_of-history_text c = c.all.invariant.history.text.same
-
 pub returns : goal.returns
 returns c = (text_ends _ _ _ c.all.invariant.text (omega arith), tell_ends _ _ _ _ c.all.invariant.history (omega arith))

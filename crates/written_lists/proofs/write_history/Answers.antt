@@ -11,11 +11,5 @@ tell-at-requires c = tell_asks _ _ _ _ c.history.invariant c.history-test.true c
 pub history-preserved : goal.history-preserved
 history-preserved c = tell_on _ _ _ _ c.history.invariant c.history-test.true c.requires.1.0 c.requires.1.1 _ c.operation_at-o.ensures c.tell-at.ensures
 
-pub shape_of-history : goal.shape_of-history
-shape_of-history c = c.history.invariant.same
-
-pub shape_of-out : goal.shape_of-out
-shape_of-out c = c.history.invariant.text.same
-
 pub returns : goal.returns
 returns c = tell_ends _ _ _ _ c.history.invariant (omega arith)

@@ -11,8 +11,5 @@ put_text-at-requires c = text_asks _ _ _ c.text.invariant c.text-test.true c.req
 pub text-preserved : goal.text-preserved
 text-preserved c = text_on _ _ _ c.text.invariant c.text-test.true c.requires.1 _ c.operation_at-o.ensures c.put_text-at.ensures
 
-pub shape_of-out : goal.shape_of-out
-shape_of-out c = c.text.invariant.text.same
-
 pub returns : goal.returns
 returns c = text_ends _ _ _ c.text.invariant (omega arith)

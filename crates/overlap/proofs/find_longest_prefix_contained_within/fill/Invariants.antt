@@ -1,7 +1,5 @@
 -- `fill` makes the table of new and leaves the room past it.
 -- Each loop's invariant is a record, and each way through a turn one law of Turns and Endings.
-use Prim.Native.Nat.{◌-◌}
-use lib.ListN.{length}
 use Rattle.overlap.proofs.Endings.{Cand}
 use Rattle.overlap.proofs.Turns.{Filling}
 use Rattle.overlap.proofs.find_longest_prefix_contained_within.fill.Given as goal
@@ -14,6 +12,3 @@ decreases-fall l = l.matched
 
 abbrev pub invariant-fill : goal.invariant-fill
 invariant-fill l = Filling l.new l.initial.table l.table l.matched l.i
-
-abbrev pub decreases-fill : goal.decreases-fill
-decreases-fill l = length l.new - l.i

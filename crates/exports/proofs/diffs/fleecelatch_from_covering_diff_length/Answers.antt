@@ -1,8 +1,0 @@
--- `fleecelatch_from_covering_diff_length` tells what its call answers.
--- The call's own statement, under the telling.
-use mathlib.Core.Path.{◌∙◌, ap}
-use Rattle.answer.specs.Tellings.{tell_count}
-use Rattle.exports.proofs.diffs.fleecelatch_from_covering_diff_length.Goals as goal
-
-pub returns : goal.returns
-returns c = c.tell_count.ensures ∙ ap tell_count c.from_covering_diff_length.ensures

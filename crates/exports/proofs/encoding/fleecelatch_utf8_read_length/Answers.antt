@@ -1,8 +1,0 @@
--- `fleecelatch_utf8_read_length` tells what its call answers.
--- The call's own statement, under the telling.
-use mathlib.Core.Path.{◌∙◌, ap}
-use Rattle.answer.specs.Tellings.{tell_count}
-use Rattle.exports.proofs.encoding.fleecelatch_utf8_read_length.Goals as goal
-
-pub returns : goal.returns
-returns c = c.tell_count.ensures ∙ ap tell_count c.read_length.ensures

@@ -1,2 +1,0 @@
-pub mod Signs
-pub mod Storing

@@ -1,5 +1,0 @@
-use Rattle.std.proofs.Common.{arith, length-set}
-use Rattle.vectors.proofs.number.numbers_u8.Goals as goal
-
-pub line-preserved-then-n-room : goal.line-preserved-then-n-room
-line-preserved-then-n-room c = (simp length-set (omega arith), simp length-set (omega arith), omega arith)
