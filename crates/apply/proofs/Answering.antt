@@ -12,7 +12,7 @@ use Rattle.refusal.specs.declared.Refusal.{Refusal}
 use Rattle.records.specs.declared.Operation.{Operation}
 use Rattle.records.specs.declared.Cursor.{Cursor}
 use Rattle.records.specs.Cursors.{cursors_from, cursors_of, flat_cursors}
-use Rattle.records.proofs.Cursors as cursors
+use Rattle.records.proofs.CursorLaws as cursors
 use Rattle.cursors.specs.Sorted.{sorted}
 use Rattle.cursors.proofs.Sinks.{length_sorted}
 use Rattle.sizes.specs.declared.Limits.{Limits}

@@ -8,7 +8,8 @@ ghost use Rattle.records.specs.Cursors.{cursors_of};
 ghost use Rattle.merging.specs.Lent.{lent_in};
 ghost use Rattle.apply.specs.Answers.{applied_on, told_on, told_all_on, Applies, Tells, AppliesAll};
 
-use records::{Lent, List};
+use records::each::Records;
+use records::{Cursors, Lent, List, Operations};
 use refusal::Refusal;
 
 // Code points of the text and cursors.
@@ -41,7 +42,7 @@ pub fn apply_lengths(lent: Lent, list: List) -> Result<Applied, Refusal>
     let lengths = checks::sum_list(sizes::other_limits(), lent, list)?;
     Ok(Applied {
         text: lengths.text,
-        cursors: list.cursors.len() / 2,
+        cursors: Cursors(list.cursors).count(),
     })
 }
 
@@ -56,7 +57,7 @@ pub fn apply_with_history_lengths(lent: Lent, operations: &[usize]) -> Result<Wi
     let lengths = checks::sum_list(sizes::other_limits(), lent, list)?;
     let gone = written_lists::removed(operations);
     Ok(WithHistory {
-        spans: operations.len() / 6,
+        spans: Operations(operations).count(),
         text: lengths.text + gone,
     })
 }
@@ -69,8 +70,8 @@ pub fn apply_with_all_lengths(lent: Lent, list: List) -> Result<WithAll, Refusal
     let gone = written_lists::removed(list.operations);
     Ok(WithAll {
         text: lengths.text,
-        cursors: list.cursors.len() / 2,
-        spans: list.operations.len() / 6,
+        cursors: Cursors(list.cursors).count(),
+        spans: Operations(list.operations).count(),
         history_text: lengths.text + gone,
     })
 }

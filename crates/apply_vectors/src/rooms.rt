@@ -14,8 +14,8 @@ pub fn agrees<F: Fn(Lengths, bool) -> bool>(asked: Lengths, gives: F) -> bool
     if !gives([AMPLE; 4], false) || !gives(asked, false) {
         return false;
     }
-    for i in 0..asked.len() {
-        if asked[i] != 0 {
+    for (i, length) in asked.iter().enumerate() {
+        if *length != 0 {
             let mut short = asked;
             short[i] -= 1;
             if !gives(short, true) {

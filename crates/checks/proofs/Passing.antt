@@ -15,8 +15,9 @@ use Rattle.records.specs.declared.Cursor.{Cursor}
 use Rattle.records.specs.Operations.{operation_at, operations_of}
 use Rattle.records.specs.Tokens.{token_at, tokens_from}
 use Rattle.records.specs.Cursors.{cursors_of}
-use Rattle.records.proofs.Operations as O
-use Rattle.records.proofs.Cursors as C
+use Rattle.records.proofs.OperationLaws as O
+use Rattle.records.proofs.EachLaws.{listed_operations}
+use Rattle.records.proofs.CursorLaws as C
 use Rattle.refusal.specs.declared.Refusal.TheVariants.{Size}
 use Rattle.sizes.specs.declared.Limits.{Limits}
 use Rattle.checks.specs.declared.Pass.{Pass}
@@ -29,8 +30,8 @@ use Rattle.checks.specs.Lists.{list_verdict, lists_verdict}
 use Rattle.checks.specs.Passing.{Whole, Inserts, Summed, Good}
 use Rattle.room.proofs.Bools.{and_left, first_no}
 use Rattle.verdict.proofs.Chains.{too_big}
-use Rattle.sizes.proofs.Sums.{cap, cap_cap, Adding, adding_begins, adding_in, adding_ends, inserted_other, inserted_run, Totals, totals_begin, totals_on, totals_end}
-use Rattle.shapes.proofs.Shapely.{Looking, looks_begin, looks_on, looks_end, run_is, record_insert, record_part, Recording, records_begin, records_on, records_end}
+use Rattle.sizes.proofs.Sums.{cap, cap_cap, Adding, adding_in, adding_ends, inserted_other, inserted_run, Totals, totals_begin, totals_on, totals_end}
+use Rattle.shapes.proofs.Shapely.{Looking, looks_on, looks_end, run_is, record_insert, record_part, Recording, records_begin, records_on, records_end}
 use Rattle.shapes.proofs.Tiled.{Tiled, tiled_begin, tiled_insert, tiled_on, tiled_end}
 use Rattle.std.specs.Prelude.{Ok, Err}
 
@@ -38,10 +39,6 @@ use Rattle.std.specs.Prelude.{Ok, Err}
 pub record Running (spans keys : List ℕ) (n first count end i sum : ℕ) : Type 0 where
   pub looks : Looking spans keys n first count end i
   pub adds : Adding spans keys n first count end i sum
-
-pub run_begins : (spans keys : List ℕ) (n first count end : ℕ) → end ≡ first + count → Running spans keys n first count end first 0
-run_begins spans keys n first count end e =
-    record { looks = looks_begin spans keys n first count end e; adds = adding_begins spans keys n first count end e }
 
 module _ {spans keys : List ℕ} {n first count end i sum : ℕ} (h : Running spans keys n first count end i sum) where
   pub run_on : (t : Token) (s : ℕ) → i < end → t ≡ token_at spans keys i → (t.length ≡ 0 → ⊥) → in_text n t ≡ true → s ≡ min cap (sum + t.length)
@@ -56,27 +53,27 @@ pub whole_insert : (n : ℕ) (spans keys : List ℕ) (o : Operation) (r : ℕ) �
 whole_insert n spans keys o r k z l w =
     record { good = sym (run_is n spans keys o true z l (sym w.good)); text = inserted_run n spans keys o r k l w.text }
 
-pub record Passing (l : Limits) (n m : ℕ) (spans keys xs : List ℕ) (count i at tokens inserted retained : ℕ) : Type 0 where
+pub record Passing (l : Limits) (n m : ℕ) (spans keys xs : List ℕ) (i at tokens inserted retained : ℕ) : Type 0 where
   pub few : tokens ≤ l.tokens
   pub short : inserted ≤ l.text
   pub kept : retained ≤ at
-  pub claims : Totals claimed_by xs count i tokens
-  pub adds : Totals (inserted_by m spans keys) xs count i inserted
-  pub keeps : Totals retained_by xs count i retained
-  pub records : Recording m spans keys xs count i
-  pub tiles : Tiled n xs count i at
+  pub claims : Totals claimed_by (operation_at xs) (length xs / 6) i tokens
+  pub adds : Totals (inserted_by m spans keys) (operation_at xs) (length xs / 6) i inserted
+  pub keeps : Totals retained_by (operation_at xs) (length xs / 6) i retained
+  pub records : Recording m spans keys xs (length xs / 6) i
+  pub tiles : Tiled n xs (length xs / 6) i at
 
-pub passing_begins : (l : Limits) (n m : ℕ) (spans keys xs : List ℕ) (count : ℕ) → count ≡ length xs / 6 → Passing l n m spans keys xs count 0 0 0 0 0
-passing_begins l n m spans keys xs count e =
+pub passing_begins : (l : Limits) (n m : ℕ) (spans keys xs : List ℕ) → Passing l n m spans keys xs 0 0 0 0 0
+passing_begins l n m spans keys xs =
     record {
       few = zero-le;
       short = zero-le;
       kept = zero-le;
-      claims = totals_begin claimed_by xs count e;
-      adds = totals_begin (inserted_by m spans keys) xs count e;
-      keeps = totals_begin retained_by xs count e;
-      records = records_begin m spans keys xs count e;
-      tiles = tiled_begin n xs count e;
+      claims = totals_begin;
+      adds = totals_begin;
+      keeps = totals_begin;
+      records = records_begin m spans keys xs (length xs / 6) refl;
+      tiles = tiled_begin n xs (length xs / 6) refl;
     }
 
 pub retains_most : (o : Operation) → retained_by o ≤ o.length
@@ -86,11 +83,11 @@ retains_most o = go (ℕ_discrete o.kind 2)
     go (yes e) = rw (eq-eqb o.kind 2 e) (omega arith)
     go (no e) = rw (ne_eqb o.kind 2 e) zero-le
 
-module _ {l : Limits} {n m : ℕ} {spans keys xs : List ℕ} {count i at tokens inserted retained : ℕ}
-    (h : Passing l n m spans keys xs count i at tokens inserted retained) where
-  module _ (small : Small l) (o : Operation) (j : i < count) (e : o ≡ operation_at xs i) (side : o.side ≤ 1) where
+module _ {l : Limits} {n m : ℕ} {spans keys xs : List ℕ} {i at tokens inserted retained : ℕ}
+    (h : Passing l n m spans keys xs i at tokens inserted retained) where
+  module _ (small : Small l) (o : Operation) (j : i < length xs / 6) (e : o ≡ operation_at xs i) (side : o.side ≤ 1) where
     pub passes_insert : (r : ℕ) → o.kind ≡ 1 → o.count ≤ l.tokens - tokens → Inserts m spans keys o r → r ≤ l.text - inserted
-        → Passing l n m spans keys xs count (i + 1) at (tokens + o.count) (inserted + r) retained
+        → Passing l n m spans keys xs (i + 1) at (tokens + o.count) (inserted + r) retained
     passes_insert r k c g d =
         let none : retained_by o ≡ 0 = rw (ne_eqb o.kind 2 (λ z. omega arith)) in
         record {
@@ -107,7 +104,7 @@ module _ {l : Limits} {n m : ℕ} {spans keys xs : List ℕ} {count i at tokens 
         }
 
     pub passes_part : (z : ℕ) → n ≤ 65535 → (o.kind ≡ 1 → ⊥) → o.kind ≤ 2 → (o.length ≡ 0 → ⊥) → o.order ≡ at → o.length ≤ n - at → z ≡ retained_by o
-        → Passing l n m spans keys xs count (i + 1) (at + o.length) tokens inserted (retained + z)
+        → Passing l n m spans keys xs (i + 1) (at + o.length) tokens inserted (retained + z)
     passes_part z few k u some q g ez =
         let none : claimed_by o ≡ 0 = rw (ne_eqb o.kind 1 k) in
         record {
@@ -121,15 +118,21 @@ module _ {l : Limits} {n m : ℕ} {spans keys xs : List ℕ} {count i at tokens 
           tiles = tiled_on h.tiles o j e k q g;
         }
 
-  pub passed : Small l → n ≤ 65535 → count ≤ i → at ≡ n
+  -- the sum over the places of the list is that over its operations
+  whole : (f : Operation → ℕ) (sum : ℕ) → Totals f (operation_at xs) (length xs / 6) i sum → length xs / 6 ≤ i → sum ≡ min cap (total f (operations_of xs))
+  whole f sum t j = rw (listed_operations xs) at (totals_end t j)
+
+  pub passed : Small l → n ≤ 65535 → length xs / 6 ≤ i → at ≡ n
       → Summed l n m spans keys (operations_of xs) (record { tokens = tokens; inserted = inserted; retained = retained })
   passed small few j q =
+      let claims = whole _ _ h.claims j in
+      let adds = whole _ _ h.adds j in
       record {
-        tokens = omega (arith, totals_end h.claims j, h.few, small.tokens);
-        text = omega (arith, totals_end h.adds j, h.short, small.text);
-        claimed = omega (arith, totals_end h.claims j, h.few, small.tokens);
-        inserted = omega (arith, totals_end h.adds j, h.short, small.text);
-        retained = omega (arith, totals_end h.keeps j, h.kept);
+        tokens = omega (arith, claims, h.few, small.tokens);
+        text = omega (arith, adds, h.short, small.text);
+        claimed = omega (arith, claims, h.few, small.tokens);
+        inserted = omega (arith, adds, h.short, small.text);
+        retained = omega (arith, whole _ _ h.keeps j, h.kept);
         few = omega (arith, h.kept);
         records = records_end h.records j;
         tiles = tiled_end h.tiles j q;

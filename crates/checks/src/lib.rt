@@ -10,7 +10,8 @@ ghost use Rattle.sizes.specs.Sizes.{Small, lent_fits};
 ghost use Rattle.checks.specs.Lists.{list_verdict, lists_verdict, lengths_on, claims_on};
 ghost use Rattle.checks.specs.Passing.{Whole, Inserts, Summed, Good};
 
-use records::{Lent, List, Operation, Tokens};
+use records::each::Records;
+use records::{Cursors, INSERT, Lent, List, Operation, Operations, RETAIN, Tokens};
 use refusal::Refusal;
 use sizes::Limits;
 
@@ -70,17 +71,15 @@ fn pass_run(tokens: Tokens, n: usize, first: usize, count: usize) -> Option<usiz
     requires { first + count ≤ tokens_lent tokens.spans.now tokens.keys.now }
     ensures { IfSome result (Whole n (tokens_from tokens.entry.spans.now tokens.entry.keys.now first count)) }
 {
-    let end = first + count;
     let mut sum = 0;
-    'run: for i in first..end {
-        let t = tokens.at(i);
+    'run: for t in tokens.between(first, first + count) {
         if t.length == 0 {
             return None;
         }
         if !sizes::in_text(t, n) {
             return None;
         }
-        sum = sizes::capped(sum, numbers::wide(t.length));
+        sum = sizes::capped(sum, t.length as usize);
     }
     Some(sum)
 }
@@ -125,12 +124,11 @@ fn pass_list(
     let mut claimed = 0;
     let mut inserted = 0;
     let mut retained = 0;
-    'pass: for i in 0..operations.len() / 6 {
-        let o = records::operation_at(operations, i);
+    'pass: for o in Operations(operations).each() {
         if 1 < o.side {
             return None;
         }
-        if o.kind == 1 {
+        if o.kind == INSERT {
             if limits.tokens - claimed < o.count {
                 return None;
             }
@@ -142,7 +140,7 @@ fn pass_list(
             inserted += text;
             continue 'pass;
         }
-        if 2 < o.kind {
+        if RETAIN < o.kind {
             return None;
         }
         if o.length == 0 {
@@ -172,10 +170,10 @@ fn good_sums(limits: Limits, lent: Lent, list: List) -> Option<Pass>
     requires { Small limits × (length lent.original.now ≤ 65535) }
     ensures { IfSome result (Good limits (length lent.entry.original.now) (length lent.entry.text.now) lent.entry.tokens.spans.now lent.entry.tokens.keys.now (operations_of list.entry.operations.now) (cursors_of list.entry.cursors.now)) }
 {
-    if limits.operations < list.operations.len() / 6 {
+    if limits.operations < Operations(list.operations).count() {
         return None;
     }
-    if limits.cursors < list.cursors.len() / 2 {
+    if limits.cursors < Cursors(list.cursors).count() {
         return None;
     }
     let sums = pass_list(

@@ -11,7 +11,7 @@ use lib.ListN.{length, length-append}
 use Rattle.room.specs.Placed.{answered}
 use Rattle.records.specs.declared.Cursor.{Cursor}
 use Rattle.records.specs.Cursors.{cursor_at, cursors_from, flat_cursors, at_index, put_cursor}
-use Rattle.records.proofs.Cursors.{from_more, from_none, length_put, put_answered}
+use Rattle.records.proofs.CursorLaws.{from_more, from_none, length_put, put_answered}
 use Rattle.merging.specs.declared.Shift.{Shift}
 use Rattle.merging.specs.Cursors.{moved_index, moved, behind, ended}
 use Rattle.cursor_position.specs.declared.Progress.{Progress}

@@ -8,7 +8,7 @@ use lib.Dec.{leb}
 use lib.ListN.{length}
 use Rattle.records.specs.declared.Cursor.{Cursor}
 use Rattle.records.specs.Cursors.{at_index, cursor_at}
-use Rattle.records.proofs.Cursors.{from_more, from_none}
+use Rattle.records.proofs.CursorLaws.{from_more, from_none}
 use Rattle.merging.specs.declared.Op.{Op}
 use Rattle.merging.specs.declared.Op.TheVariants.{Delete, Insert, Retain}
 use Rattle.merging.specs.declared.Shift.{Shift}

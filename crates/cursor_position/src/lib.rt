@@ -7,7 +7,8 @@ ghost use Rattle.merging.specs.Cursors.{moved_index, moved, behind, moved_by, be
 ghost use Rattle.cursor_position.specs.Moves.{Fits, left_of, waits, Places, gone, stayed, Spacious, Went};
 
 use merging::{Op, Shift};
-use records::{cursor_at, put_cursor};
+use records::each::Records;
+use records::{Cursors, put_cursor};
 use std::cmp::min;
 
 // The new index of a cursor that moves with an operation.
@@ -36,7 +37,8 @@ pub struct Progress {
 pub fn is_awaited(cursors: &[usize], p: Progress, end: usize) -> bool
     ensures { result ≡ waits end (left_of cursors.now p) }
 {
-    p.next < cursors.len() / 2 && cursor_at(cursors, p.next).index <= end
+    let list = Cursors(cursors);
+    p.next < list.count() && list.at(p.next).index <= end
 }
 
 // The cursors of a side from p.next on go into the room from p.count on, each to the index that it is
@@ -51,15 +53,15 @@ fn put_on<F: Fn(usize) -> Option<usize>>(
     requires spacious { Spacious cursors.now p out.old }
     ensures { (f : ℕ → Option ℕ) → Places F.post place f → Went cursors.now (gone f (left_of cursors.now p)) (stayed f (left_of cursors.now p)) out.old out.new p result }
 {
+    let list = Cursors(cursors);
     let mut gone = p;
-    'going: for next in p.next..cursors.len() / 2 {
-        let c = cursor_at(cursors, next);
+    'going: for c in list.between(p.next, list.count()) {
         let Some(index) = place(c.index) else {
             return gone;
         };
         put_cursor(out, gone.count, c.with_index(index));
         gone = Progress {
-            next: next + 1,
+            next: gone.next + 1,
             count: gone.count + 1,
         };
     }

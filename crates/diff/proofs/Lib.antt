@@ -1,3 +1,4 @@
 pub mod Decoding
+pub mod Loops
 pub mod Turns
 pub mod Laws

@@ -7,7 +7,13 @@ ghost use Rattle.diff.specs.Items.{numbered, ranged, item_at, items_of};
 ghost use Rattle.diff.specs.Replay.{edits_of};
 ghost use Rattle.diff.specs.Passes.{surveyed, walked};
 
+use records::each::Records;
 use refusal::Refusal;
+
+// The kinds of an item's record.
+pub const NUMBER: i64 = 0;
+
+pub const TEXT: i64 = 1;
 
 // An item read out of the slice. Neither: of unknown kind, or a range outside what was lent.
 // Kept so: an Option of the three other cases is no plainer, since each match would name it at every case.
@@ -50,8 +56,8 @@ pub fn item_at(items: &[i64], lent: usize, i: usize) -> Item
 {
     let b = i * 3;
     match items[b] {
-        0 => number_item(items[b + 1]),
-        1 => text_item(items[b + 1], items[b + 2], lent),
+        NUMBER => number_item(items[b + 1]),
+        TEXT => text_item(items[b + 1], items[b + 2], lent),
         _ => Item::Neither,
     }
 }
@@ -61,6 +67,22 @@ pub fn item_at(items: &[i64], lent: usize, i: usize) -> Item
 pub struct Items<'a> {
     pub numbers: &'a [i64],
     pub text: &'a [u32],
+}
+
+impl<'a> Records for Items<'a> {
+    type Record = Item;
+
+    ghost count = { λ t. length t.numbers.now / 3 };
+
+    ghost record_at = { λ t i. item_at t.numbers.now (length t.text.now) i };
+
+    fn count(self) -> usize {
+        self.numbers.len() / 3
+    }
+
+    fn at(self, i: usize) -> Item {
+        item_at(self.numbers, self.text.len(), i)
+    }
 }
 
 // Where the numbers lead over an original: the position, and how much is retained up to there.
@@ -94,29 +116,14 @@ impl<'a> Items<'a> {
         Items { numbers, text }
     }
 
-    // How many there are.
-    pub fn count(self) -> usize
-        ensures { result ≡ length self.entry.numbers.now / 3 }
-    {
-        self.numbers.len() / 3
-    }
-
-    // The one at a place.
-    pub fn at(self, i: usize) -> Item
-        requires { i < length self.numbers.now / 3 }
-        ensures { result ≡ item_at self.entry.numbers.now (length self.entry.text.now) i }
-    {
-        item_at(self.numbers, self.text.len(), i)
-    }
-
     // Refusal 3 by what the texts use, and within it refusal 1, the first item that is neither number nor text, or how much text is used.
     pub fn survey(self) -> Result<Result<usize, Refusal>, Refusal>
         ensures { result ≡ surveyed (items_of self.entry.numbers.now (length self.entry.text.now)) }
     {
         let mut sum: usize = 0;
         let mut checked = Ok(());
-        'items: for i in 0..self.count() {
-            match self.at(i) {
+        'items: for (i, item) in self.each().enumerate() {
+            match item {
                 Item::Insert { start: _, length } => {
                     if 131070 - sum < length {
                         return Err(Refusal::Size);
@@ -136,8 +143,8 @@ impl<'a> Items<'a> {
     {
         let mut position: usize = 0;
         let mut kept: usize = 0;
-        'items: for i in 0..self.count() {
-            match self.at(i) {
+        'items: for item in self.each() {
+            match item {
                 Item::Retain(n) => {
                     let n = asked(position, len, n)?;
                     position += n;

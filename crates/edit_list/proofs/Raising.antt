@@ -13,7 +13,7 @@ use Rattle.room.specs.Placed.{answered}
 use Rattle.room.proofs.Answers.{same_room}
 use Rattle.refusal.specs.declared.Refusal.{Refusal}
 use Rattle.records.specs.Operations.{flat_operations}
-use Rattle.records.proofs.Operations.{length_flat}
+use Rattle.records.proofs.OperationLaws.{length_flat}
 use Rattle.verdict.specs.Points.{points_from}
 use Rattle.raw_lists.specs.declared.Raw.{Raw}
 use Rattle.raw_lists.specs.Raws.{Run, pieces_lent, flat_spans, flat_keys, raws_of, runs_of as runsLent}

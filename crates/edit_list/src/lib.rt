@@ -13,7 +13,7 @@ use diff::diff::Item;
 use elongate::Written;
 use item_records::Counts;
 use raw_lists::RawTokens;
-use records::{Token, Tokens};
+use records::{DELETE, INSERT, RETAIN, Token, Tokens};
 
 // How many operations, tokens and code points the list has.
 #[derive(Clone, Copy)]
@@ -101,10 +101,10 @@ impl<'a> RawRooms<'a> {
         ensures run { RunPut (run_in text.now at (item_at items.now lent i)) i first self.old.raw.now self.old.spans.now self.old.keys.now self.new.raw.now self.new.spans.now self.new.keys.now result }
     {
         match diff::diff::item_at(items, lent, i) {
-            Item::Retain(n) => self.put_part(i, 2, n, first),
-            Item::Delete(n) => self.put_part(i, 0, n, first),
+            Item::Retain(n) => self.put_part(i, RETAIN, n, first),
+            Item::Delete(n) => self.put_part(i, DELETE, n, first),
             Item::Insert { start, length } => {
-                room::put(&[1, first, length], self.raw, i * 3);
+                room::put(&[INSERT, first, length], self.raw, i * 3);
                 self.put_points(text, at + start, length, first);
                 first + length
             }
@@ -113,6 +113,7 @@ impl<'a> RawRooms<'a> {
     }
 
     // All items as a raw list; how many tokens they make.
+    // Kept so: by place, as `put_item` takes them, which puts an item at its own place, its text at a place of the whole text.
     fn fill(&mut self, items: &[i64], count: usize, lent: usize, text: &[u32], at: usize) -> usize
         requires { ItemsLent items.now count lent text.now at × Fits (runs_in text.now at (items_from items.now lent 0 count)) self.old.raw.now self.old.spans.now self.old.keys.now }
         ensures same { SameRooms self.old self.new }
@@ -154,6 +155,7 @@ fn raws_of(file: &[u8], at: usize, text: &mut [u32], rooms: &mut RawRooms) -> Ma
 }
 
 // The first tokens of so many operations, each so much further on.
+// Kept so: by place, since a view of records is read and not written.
 fn shift(operations: &mut [usize], count: usize, by: usize)
     requires { Shiftable operations.old count by }
     ensures { operations.new ≡ shifted_from operations.old by 0 count }

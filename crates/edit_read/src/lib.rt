@@ -11,6 +11,7 @@ ghost use Rattle.edit_read.specs.Judged.{NumberRead, Ruled, HeadRead, PointsRead
 ghost use Rattle.edit_read.specs.Filled.{records_found, text_found, PointsPut, Numbered, NumberPut, ItemPut, Accepting, Fillable};
 ghost use Rattle.edit_read.specs.Answer.{lengths_of, ReadInto};
 
+use diff::diff::{NUMBER, TEXT};
 use edit_lines::{Number, Point};
 use item_records::{Counts, dropped_number, plain_number, put_record};
 use refusal::Refusal;
@@ -282,7 +283,7 @@ fn put_part(bytes: &[u8], from: Spot, keep: bool, items: &mut [i64], place: usiz
     } else {
         dropped_number(n)
     };
-    put_record(items, place, 0, number, 0);
+    put_record(items, place, NUMBER, number, 0);
     Spot {
         next: line.next,
         ..from
@@ -303,7 +304,7 @@ fn put_add(bytes: &[u8], from: Spot, items: &mut [i64], place: usize, text: &mut
     put_record(
         items,
         place,
-        1,
+        TEXT,
         plain_number(start),
         plain_number(end.start - start),
     );

@@ -8,6 +8,7 @@ use lib.ListN.{length, drop, take, length-append}
 use lib.IntN.{ℤ}
 use Rattle.room.specs.Placed.{Put}
 use Rattle.room.proofs.Placing.{put_none}
+use Rattle.diff.specs.declared.diff.Item.{Item as Lent}
 use Rattle.diff.specs.declared.diff.Item.TheVariants.{Retain, Delete, Insert, Neither}
 use Rattle.diff.specs.Items.{item_at}
 use Rattle.diff.proofs.Decoding.{range_part}
@@ -26,59 +27,63 @@ pub record Emitting (xs : List ℤ) (text d : List ℕ) (at : ℕ) (o : List ℕ
 pub emit_begins : (xs : List ℤ) (text d : List ℕ) (at : ℕ) → Emitting xs text d at d at 0
 emit_begins xs text d at = record { done = []; put = put_none d at; whole = ap item_lines (rest_all xs text); same = refl }
 
-module _ {xs : List ℤ} {text d : List ℕ} {at : ℕ} {o : List ℕ} {k i : ℕ} (p : Emitting xs text d at o k i) (fits : at + length (item_lines (file_of xs text)) ≤ length d) where
-  item_left : i < length xs / 3 → item_lines (file_of xs text) ≡ (p.done ++ item_line (file_item text (item_at xs (length text) i))) ++ item_lines (rest xs text (i + 1))
-  unfolding item_lines
-  item_left h = p.whole ∙ ap (λ (l : List Item). p.done ++ item_lines l) (rest_at xs text i h refl) ∙ sym (append_assoc p.done (item_line (file_item text (item_at xs (length text) i))) (item_lines (rest xs text (i + 1))))
+module _ {xs : List ℤ} {text d : List ℕ} {at : ℕ} {o : List ℕ} {k i : ℕ} (p : Emitting xs text d at o k i) where
+  module _ (fits : at + length (item_lines (file_of xs text)) ≤ length d) (h : i < length xs / 3) {x : Lent} (e : item_at xs (length text) i ≡ x) where
+    item_left : item_lines (file_of xs text) ≡ (p.done ++ item_line (file_item text x)) ++ item_lines (rest xs text (i + 1))
+    unfolding item_lines
+    item_left =
+        p.whole ∙ ap (λ (l : List Item). p.done ++ item_lines l) (rest_at xs text i h e)
+        ∙ sym (append_assoc p.done (item_line (file_item text x)) (item_lines (rest xs text (i + 1))))
 
-  pub item_in : i < length xs / 3 → k + length (item_line (file_item text (item_at xs (length text) i))) ≤ length o
-  item_in h =
-      let x : Item = file_item text (item_at xs (length text) i) in
-      omega (arith, p.put.next, p.same, ap length (item_left h), length-append (p.done ++ item_line x) (item_lines (rest xs text (i + 1))), length-append p.done (item_line x))
+    line_in : k + length (item_line (file_item text x)) ≤ length o
+    line_in =
+        omega (arith, p.put.next, p.same, ap length item_left, length-append (p.done ++ item_line (file_item text x)) (item_lines (rest xs text (i + 1))), length-append p.done (item_line (file_item text x)))
 
-  pub emit_more : {o' : List ℕ} {k' : ℕ} → i < length xs / 3 → Put (item_line (file_item text (item_at xs (length text) i))) o k o' k' → Emitting xs text d at o' k' (i + 1)
-  emit_more {o'} {k'} h q = record {
-    done = p.done ++ item_line (file_item text (item_at xs (length text) i));
-    put = put_then (omega arith) p.put q;
-    whole = item_left h;
-    same = put_length q (item_in h) ∙ p.same;
-  }
+    emit_more : {o' : List ℕ} {k' : ℕ} → Put (item_line (file_item text x)) o k o' k' → Emitting xs text d at o' k' (i + 1)
+    emit_more q = record {
+      done = p.done ++ item_line (file_item text x);
+      put = put_then (omega arith) p.put q;
+      whole = item_left;
+      same = put_length q line_in ∙ p.same;
+    }
 
   pub emit_ends : length xs / 3 ≤ i → Put (item_lines (file_of xs text)) d at o k
   unfolding item_lines
   emit_ends h = rw (p.whole, rest_none xs text i h, append-nil p.done) p.put
 
--- the line of a lent item, by what the item is
-module _ (xs : List ℤ) (text : List ℕ) (i at : ℕ) (d : List ℕ) where
-  pub retain_in : {n : ℕ} → item_at xs (length text) i ≡ Retain n → at + length (item_line (file_item text (item_at xs (length text) i))) ≤ length d → at + length (number_line keep_key n) ≤ length d
-  unfolding file_item item_line
-  retain_in e h = rw e at h
+  -- the line of an item that came, by what the item is
+  module _ (fits : at + length (item_lines (file_of xs text)) ≤ length d) (h : i < length xs / 3) where
+    module _ {n : ℕ} where
+      pub retain_in : item_at xs (length text) i ≡ Retain n → k + length (number_line keep_key n) ≤ length o
+      unfolding file_item item_line
+      retain_in e = line_in fits h e
 
-  pub delete_in : {n : ℕ} → item_at xs (length text) i ≡ Delete n → at + length (item_line (file_item text (item_at xs (length text) i))) ≤ length d → at + length (number_line drop_key n) ≤ length d
-  unfolding file_item item_line
-  delete_in e h = rw e at h
+      pub retain_put : {o' : List ℕ} {k' : ℕ} → item_at xs (length text) i ≡ Retain n → Put (number_line keep_key n) o k o' k' → Emitting xs text d at o' k' (i + 1)
+      unfolding file_item item_line
+      retain_put e q = emit_more fits h e q
 
-  pub insert_in : {s n : ℕ} → item_at xs (length text) i ≡ Insert s n → at + length (item_line (file_item text (item_at xs (length text) i))) ≤ length d → at + length (item_line (Add (take (s + n - s) (drop s text)))) ≤ length d
-  unfolding file_item
-  insert_in {s} {n} e h = rw (range_part text s n) (rw e at h)
+      pub delete_in : item_at xs (length text) i ≡ Delete n → k + length (number_line drop_key n) ≤ length o
+      unfolding file_item item_line
+      delete_in e = line_in fits h e
 
-  pub neither_in : item_at xs (length text) i ≡ Neither → at + length (item_line (file_item text (item_at xs (length text) i))) ≤ length d → at + length (item_line (Add [])) ≤ length d
-  unfolding file_item
-  neither_in e h = rw e at h
+      pub delete_put : {o' : List ℕ} {k' : ℕ} → item_at xs (length text) i ≡ Delete n → Put (number_line drop_key n) o k o' k' → Emitting xs text d at o' k' (i + 1)
+      unfolding file_item item_line
+      delete_put e q = emit_more fits h e q
 
-module _ (xs : List ℤ) (text : List ℕ) (i : ℕ) {at r : ℕ} {d d' : List ℕ} where
-  pub retain_put : {n : ℕ} → item_at xs (length text) i ≡ Retain n → Put (number_line keep_key n) d at d' r → Put (item_line (file_item text (item_at xs (length text) i))) d at d' r
-  unfolding file_item item_line
-  retain_put e p = rw e p
+    module _ {s n : ℕ} (e : item_at xs (length text) i ≡ Insert s n) where
+      pub insert_in : k + length (item_line (Add (take (s + n - s) (drop s text)))) ≤ length o
+      unfolding file_item
+      insert_in = rw (range_part text s n) (line_in fits h e)
 
-  pub delete_put : {n : ℕ} → item_at xs (length text) i ≡ Delete n → Put (number_line drop_key n) d at d' r → Put (item_line (file_item text (item_at xs (length text) i))) d at d' r
-  unfolding file_item item_line
-  delete_put e p = rw e p
+      pub insert_put : {o' : List ℕ} {k' : ℕ} → Put (item_line (Add (take (s + n - s) (drop s text)))) o k o' k' → Emitting xs text d at o' k' (i + 1)
+      unfolding file_item
+      insert_put q = emit_more fits h e (rw (← range_part text s n) q)
 
-  pub insert_put : {s n : ℕ} → item_at xs (length text) i ≡ Insert s n → Put (item_line (Add (take (s + n - s) (drop s text)))) d at d' r → Put (item_line (file_item text (item_at xs (length text) i))) d at d' r
-  unfolding file_item
-  insert_put {s} {n} e p = rw (e, ← range_part text s n) p
+    module _ (e : item_at xs (length text) i ≡ Neither) where
+      pub neither_in : k + length (item_line (Add [])) ≤ length o
+      unfolding file_item
+      neither_in = line_in fits h e
 
-  pub neither_put : item_at xs (length text) i ≡ Neither → Put (item_line (Add [])) d at d' r → Put (item_line (file_item text (item_at xs (length text) i))) d at d' r
-  unfolding file_item
-  neither_put e p = rw e p
+      pub neither_put : {o' : List ℕ} {k' : ℕ} → Put (item_line (Add [])) o k o' k' → Emitting xs text d at o' k' (i + 1)
+      unfolding file_item
+      neither_put q = emit_more fits h e q

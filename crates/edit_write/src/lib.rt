@@ -2,16 +2,16 @@
 // its first byte to its last.
 #![tactic(auto)]
 
-ghost use Rattle.std.specs.Prelude.{◌≡◌, List, ℕ, ◌+◌, ◌/◌, ◌<◌, ◌≤◌, length};
+ghost use Rattle.std.specs.Prelude.{◌≡◌, List, ℕ, ◌+◌, ◌≤◌, length};
 ghost use Rattle.room.specs.Placed.{Put};
-ghost use Rattle.edit_format.specs.Written.{item_line, item_lines};
-ghost use Rattle.diff.specs.Items.{item_at};
+ghost use Rattle.edit_format.specs.Written.{item_lines};
 ghost use Rattle.written_lines.specs.Lengths.{cap};
-ghost use Rattle.writable.specs.Writable.{file_item, file_of};
+ghost use Rattle.writable.specs.Writable.{file_of};
 ghost use Rattle.edit_write.specs.Writing.{length_of, Wrote};
 ghost use Rattle.edit_write.specs.Bytes.{file_bytes};
 
 use diff::diff::{Item, Items};
+use records::each::Records;
 use refusal::Refusal;
 use writable::Checked;
 
@@ -28,28 +28,21 @@ fn file_length(items: Items, lines: usize, original: u64, res: u64) -> usize
     written_lines::plus(d, written_lines::line_length(4, count))
 }
 
-// The line of a lent item at a place.
-fn put_item(items: Items, i: usize, out: &mut [u8], at: usize) -> usize
-    requires { (i < length items.numbers.now / 3) × (at + length (item_line (file_item items.text.now (item_at items.numbers.now (length items.text.now) i))) ≤ length out.old) }
-    ensures { Put (item_line (file_item items.entry.text.now (item_at items.entry.numbers.now (length items.entry.text.now) i))) out.old at out.new result }
-{
-    match items.at(i) {
-        Item::Retain(n) => written_lines::put_line(out, at, b"keep=", n),
-        Item::Delete(n) => written_lines::put_line(out, at, b"drop=", n),
-        Item::Insert { start, length } => {
-            written_lines::put_add(out, at, &items.text[start..start + length])
-        }
-        Item::Neither => written_lines::put_add(out, at, &items.text[..0]),
-    }
-}
-
+// The lines of all items, from a place on.
 fn put_items(items: Items, out: &mut [u8], at: usize) -> usize
     requires { at + length (item_lines (file_of items.numbers.now items.text.now)) ≤ length out.old }
     ensures { Put (item_lines (file_of items.entry.numbers.now items.entry.text.now)) out.old at out.new result }
 {
     let mut next = at;
-    'items: for i in 0..items.count() {
-        next = put_item(items, i, out, next);
+    'items: for item in items.each() {
+        next = match item {
+            Item::Retain(n) => written_lines::put_line(out, next, b"keep=", n),
+            Item::Delete(n) => written_lines::put_line(out, next, b"drop=", n),
+            Item::Insert { start, length } => {
+                written_lines::put_add(out, next, &items.text[start..start + length])
+            }
+            Item::Neither => written_lines::put_add(out, next, &[]),
+        };
     }
     next
 }

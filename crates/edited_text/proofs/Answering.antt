@@ -12,8 +12,8 @@ use Rattle.refusal.specs.declared.Refusal.{Refusal}
 use Rattle.refusal.specs.declared.Refusal.TheVariants as R
 use Rattle.records.specs.Operations.{operations_of}
 use Rattle.records.specs.Cursors.{cursors_of}
-use Rattle.records.proofs.Operations.{length_of_lem as operations-of}
-use Rattle.records.proofs.Cursors.{length_of_lem as cursors-of}
+use Rattle.records.proofs.OperationLaws.{length_of_lem as operations-of}
+use Rattle.records.proofs.CursorLaws.{length_of_lem as cursors-of}
 use Rattle.sizes.specs.declared.Limits.{Limits}
 use Rattle.sizes.specs.Texts.{total, claimed_by}
 use Rattle.sizes.specs.Sizes.{merging}

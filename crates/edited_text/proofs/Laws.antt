@@ -9,8 +9,8 @@ use Rattle.records.specs.declared.Operation.{Operation}
 use Rattle.records.specs.declared.Cursor.{Cursor}
 use Rattle.records.specs.Operations.{operations_of, flat_operations}
 use Rattle.records.specs.Cursors.{cursors_of, flat_cursors}
-use Rattle.records.proofs.Operations.{of_answered as operations-back}
-use Rattle.records.proofs.Cursors.{of_answered as cursors-back}
+use Rattle.records.proofs.OperationLaws.{of_answered as operations-back}
+use Rattle.records.proofs.CursorLaws.{of_answered as cursors-back}
 use Rattle.sizes.specs.Sizes.{merging, otherwise}
 use Rattle.shapes.specs.Accepted.{AcceptedList}
 use Rattle.verdict.proofs.Chains.{first_passed}

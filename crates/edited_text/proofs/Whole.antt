@@ -11,7 +11,7 @@ use Rattle.records.specs.declared.Operation.{Operation}
 use Rattle.records.specs.declared.Cursor.{Cursor}
 use Rattle.records.specs.Operations.{operations_of, flat_operations}
 use Rattle.records.specs.Cursors.{cursors_from, cursors_of, flat_cursors}
-use Rattle.records.proofs.Cursors.{length_of_lem, length_answered, of_answered}
+use Rattle.records.proofs.CursorLaws.{length_of_lem, length_answered, of_answered}
 use Rattle.cursors.specs.Sorted.{sorted}
 use Rattle.cursors.proofs.Sinks.{length_sorted, sorted_answered}
 use Rattle.sizes.specs.Sizes.{merging}
@@ -40,24 +40,24 @@ use Rattle.edited_text.specs.Merging.{merge_on, Mergeable, Merges}
 pub short : (xs : List ℕ) → length (cursors_of xs) ≤ 256 → length xs ≤ 513
 short xs h = omega (arith, length_of_lem xs)
 
--- a side's cursors in their array, sorted
-module _ (xs d o : List ℕ) (e : o ≡ answered (flat_cursors (sorted (cursors_of xs))) d) (fits : length xs ≤ length d) where
-  count_of : length xs / 2 * 2 ≡ length (sorted (cursors_of xs)) * 2
-  count_of = omega (arith, length_sorted (cursors_of xs), length_of_lem xs)
+-- a side's n cursors in their array, sorted
+module _ (xs d o : List ℕ) {n : ℕ} (en : n ≡ length xs / 2) (e : o ≡ answered (flat_cursors (sorted (cursors_of xs))) d) (fits : length xs ≤ length d) where
+  count_of : n * 2 ≡ length (sorted (cursors_of xs)) * 2
+  count_of = omega (arith, en, length_sorted (cursors_of xs), length_of_lem xs)
 
-  pub part_sorted : cursors_of (take (length xs / 2 * 2) o) ≡ sorted (cursors_of xs)
-  part_sorted = rw e (of_answered (sorted (cursors_of xs)) d (length xs / 2 * 2) count_of)
+  pub part_sorted : cursors_of (take (n * 2) o) ≡ sorted (cursors_of xs)
+  part_sorted = rw e (of_answered (sorted (cursors_of xs)) d (n * 2) count_of)
 
-  pub part_most : length xs / 2 * 2 ≤ length o
+  pub part_most : n * 2 ≤ length o
   part_most =
-      let l : length o ≡ length d = rw e (length_answered (sorted (cursors_of xs)) d (omega (arith, count_of))) in
-      omega arith
+      let l : length o ≡ length d = rw e (length_answered (sorted (cursors_of xs)) d (omega (arith, en, count_of))) in
+      omega (arith, en)
 
-  pub part_length : length xs / 2 * 2 ≡ length (take (length xs / 2 * 2) o)
-  part_length = sym (length-take-le (length xs / 2 * 2) o part_most)
+  pub part_length : n * 2 ≡ length (take (n * 2) o)
+  part_length = sym (length-take-le (n * 2) o part_most)
 
-  pub part_many : length (take (length xs / 2 * 2) o) / 2 ≡ length (cursors_of xs)
-  part_many = omega (arith, part_length, length_of_lem xs)
+  pub part_many : length (take (n * 2) o) / 2 ≡ length (cursors_of xs)
+  part_many = omega (arith, en, part_length, length_of_lem xs)
 
 -- inserts that are lent can be read
 readable_all : (lent : Lent) (ls : List Op) → Inserts (Lends lent) ls → Inserts (Run lent.inserted lent.spans lent.keys) ls

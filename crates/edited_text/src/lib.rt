@@ -5,7 +5,8 @@
 ghost use Rattle.std.specs.Prelude.{◌≡◌, ◌+◌, ◌*◌, ◌/◌, ◌&&◌, leb, length};
 ghost use Rattle.edited_text.specs.Merging.{Mergeable, Merges, MergedBy};
 
-use records::{Lent, List};
+use records::each::Records;
+use records::{Cursors, Lent, List, Operations};
 use refusal::Refusal;
 
 // How many operations and cursors a merge gave.
@@ -27,8 +28,10 @@ fn rooms_fit(
 ) -> bool
     ensures { result ≡ leb ((length left.entry.operations.now / 6 + length right.entry.operations.now / 6) * 6) (length operations.now) && (leb ((length left.entry.cursors.now / 2 + length right.entry.cursors.now / 2) * 2) (length cursors.now) && leb (half * 2) (length work.now)) }
 {
-    left.operations.len() / 6 + right.operations.len() / 6 <= operations.len() / 6
-        && left.cursors.len() / 2 + right.cursors.len() / 2 <= cursors.len() / 2
+    let both = Operations(left.operations).count() + Operations(right.operations).count();
+    let moved = Cursors(left.cursors).count() + Cursors(right.cursors).count();
+    both <= Operations(operations).count()
+        && moved <= Cursors(cursors).count()
         && half <= work.len() / 2
 }
 
@@ -52,8 +55,8 @@ fn merge_accepted(
     let mut rights = [0usize; 513];
     cursors::sort_into(left.cursors, &mut lefts);
     cursors::sort_into(right.cursors, &mut rights);
-    let left_end = left.cursors.len() / 2 * 2;
-    let right_end = right.cursors.len() / 2 * 2;
+    let left_end = Cursors(left.cursors).count() * 2;
+    let right_end = Cursors(right.cursors).count() * 2;
     let priority = order::stream_priority(lent, left.operations, right.operations);
     let totals = merge::run(
         lent,

@@ -13,7 +13,7 @@ use Rattle.elongate.specs.declared.Current.{Current}
 use Rattle.room.specs.Placed.{placed}
 use Rattle.records.specs.Operations.{put_operation, flat_operations}
 use Rattle.records.specs.Rooms.{filled}
-use Rattle.records.proofs.Operations.{put_eq}
+use Rattle.records.proofs.OperationLaws.{put_eq}
 use Rattle.raw_lists.specs.Raws.{Run}
 use Rattle.room.proofs.Placing.{placed_none}
 use Rattle.elongate.specs.Writes.{Closed}

@@ -13,7 +13,7 @@ use Rattle.room.proofs.Answers.{at_start}
 use Rattle.records.specs.declared.Operation.{Operation}
 use Rattle.records.specs.Operations.{flat_operations}
 use Rattle.records.specs.Tokens.{tokens_from}
-use Rattle.records.proofs.Operations as O
+use Rattle.records.proofs.OperationLaws as O
 use Rattle.sizes.specs.Texts.{run_text}
 use Rattle.raw_lists.specs.declared.Raw.{Raw}
 use Rattle.raw_lists.specs.Raws.{Piece, pieces_from, pieces_lent, flat_spans, flat_keys, flat_joins, run_of, runs_of}

@@ -12,7 +12,9 @@ ghost use Rattle.elongate.specs.Writes.{Fits, Appended, Closed, Ready, Wrote};
 ghost use Rattle.elongate.specs.Places.{kind_of, Lies, Stepped};
 ghost use Rattle.elongate.specs.declared.Place.TheVariants.{Deletes, Inserts};
 
-use raw_lists::{Raw, RawTokens};
+use raw_lists::{Raw, RawOperations, RawTokens};
+use records::each::Records;
+use records::{DELETE, INSERT, RETAIN};
 use refusal::Refusal;
 
 // A place in the walk through a raw list. Each stretch is walked twice: for its deletes, up to its
@@ -37,13 +39,14 @@ impl Place {
         requires { (start ≤ at) × (at ≤ length raw.now / 3) }
         ensures { Stepped raw.now (Deletes start at) result }
     {
-        if raw.len() / 3 <= at {
+        let raw = RawOperations(raw);
+        if raw.count() <= at {
             return Step::Skip(Place::Inserts { at: start, end: at });
         }
-        let r = raw_lists::raw_at(raw, at);
+        let r = raw.at(at);
         match r.kind {
-            2 => Step::Skip(Place::Inserts { at: start, end: at }),
-            0 => Step::Take(r, Place::Deletes { start, at: at + 1 }),
+            RETAIN => Step::Skip(Place::Inserts { at: start, end: at }),
+            DELETE => Step::Take(r, Place::Deletes { start, at: at + 1 }),
             _ => Step::Skip(Place::Deletes { start, at: at + 1 }),
         }
     }
@@ -53,20 +56,18 @@ impl Place {
         requires { (at ≤ end) × (end ≤ length raw.now / 3) }
         ensures { Stepped raw.now (Inserts at end) result }
     {
+        let raw = RawOperations(raw);
         if at < end {
-            let r = raw_lists::raw_at(raw, at);
+            let r = raw.at(at);
             let next = Place::Inserts { at: at + 1, end };
-            if r.kind == 0 {
+            if r.kind == DELETE {
                 Step::Skip(next)
             } else {
                 Step::Take(r, next)
             }
-        } else if end < raw.len() / 3 {
+        } else if end < raw.count() {
             let start = end + 1;
-            Step::Take(
-                raw_lists::raw_at(raw, end),
-                Place::Deletes { start, at: start },
-            )
+            Step::Take(raw.at(end), Place::Deletes { start, at: start })
         } else {
             Step::End
         }
@@ -101,7 +102,7 @@ impl Current {
     fn joins(self, kind: usize, left: bool) -> bool
         ensures { result ≡ (eqb self.kind kind && not (eqb self.kind 2)) && (self.right && left) }
     {
-        self.kind == kind && self.kind != 2 && self.right && left
+        self.kind == kind && self.kind != RETAIN && self.right && left
     }
 
     // With one run more.
@@ -121,7 +122,7 @@ impl Current {
     fn consumed(self) -> usize
         ensures { result ≡ consumes self.kind self.length }
     {
-        if self.kind == 1 { 0 } else { self.length }
+        if self.kind == INSERT { 0 } else { self.length }
     }
 
     // The run behind it, which does not join it.
@@ -277,7 +278,7 @@ pub fn elongate(
     raw_lists::check_raws(raw, lent, n)?;
     let tokens = raw_lists::claimed(raw);
     if !rooms_fit(
-        raw.len() / 3,
+        RawOperations(raw).count(),
         tokens,
         operations.len(),
         spanned.len(),

@@ -5,8 +5,9 @@
 #![tactic(auto)]
 
 use marked::Mark;
-use raw_lists::RawTokens;
+use raw_lists::{RawOperations, RawTokens};
 use records::Tokens;
+use records::each::Records;
 use refusal::Refusal;
 use vectors::{Case, Due};
 
@@ -118,7 +119,7 @@ fn asked_by(raw: &[usize], due: Due) -> Rooms {
         (0, 0)
     } else {
         (
-            std::cmp::min(raw.len() / 3, 341),
+            std::cmp::min(RawOperations(raw).count(), 341),
             std::cmp::min(due.values.second, 1024) as usize,
         )
     };

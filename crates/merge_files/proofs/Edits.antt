@@ -9,7 +9,7 @@ use Rattle.room.specs.Placed.{placed, answered}
 use Rattle.room.proofs.Answers.{at_start, one_more, same_room}
 use Rattle.records.specs.declared.Operation.{Operation}
 use Rattle.records.specs.Operations.{operations_of}
-use Rattle.records.proofs.Operations.{of_answered, length_answered}
+use Rattle.records.proofs.OperationLaws.{of_answered, length_answered}
 use Rattle.raw_lists.specs.Raws.{Piece, flat_spans, flat_keys}
 use Rattle.raw_lists.proofs.Pieces.{length_spans, length_keys, spans_append, keys_append}
 use Rattle.elongate.specs.Elongated.{cooked_from, all_tokens}

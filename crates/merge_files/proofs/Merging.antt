@@ -13,7 +13,7 @@ use Rattle.room.specs.Placed.{answered}
 use Rattle.records.specs.declared.Operation.{Operation}
 use Rattle.records.specs.Operations.{operations_of, flat_operations}
 use Rattle.records.specs.Cursors.{cursors_from, cursors_of, Within}
-use Rattle.records.proofs.Operations.{length_answered, of_answered}
+use Rattle.records.proofs.OperationLaws.{length_answered, of_answered}
 use Rattle.verdict.specs.Verdicts.{and_then, Verdict, accepted}
 use Rattle.sizes.specs.Texts.{total, claimed_by}
 use Rattle.sizes.specs.Sizes.{merging, otherwise}

@@ -3,7 +3,8 @@
 ghost use Rattle.std.specs.Prelude.{◌≤◌};
 
 use marked::Mark;
-use records::{Lent, List};
+use records::each::Records;
+use records::{Cursors, INSERT, Lent, List, Operations};
 use refusal::Refusal;
 use vectors::Due;
 
@@ -110,14 +111,14 @@ impl<'a> Pair<'a> {
 fn operations_of(list: List) -> usize
     ensures { result ≤ 170 }
 {
-    (list.operations.len() / 6).min(170)
+    Operations(list.operations).count().min(170)
 }
 
 // The cursors of a list, up to 512.
 fn cursors_of(list: List) -> usize
     ensures { result ≤ 512 }
 {
-    (list.cursors.len() / 2).min(512)
+    Cursors(list.cursors).count().min(512)
 }
 
 // The insert tokens of a list, up to 512.
@@ -127,7 +128,7 @@ fn tokens_of(list: List) -> usize
     let (operations, _) = list.operations.as_chunks::<6>();
     operations
         .iter()
-        .filter(|operation| operation[0] == 1)
+        .filter(|operation| operation[0] == INSERT)
         .fold(0usize, |sum, operation| sum.wrapping_add(operation[5]))
         .min(512)
 }

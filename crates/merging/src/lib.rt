@@ -5,6 +5,8 @@
 ghost use Rattle.std.specs.Prelude.{◌≡◌};
 ghost use Rattle.merging.specs.Operations.{kind_of, order_of, span_of, op_of};
 
+use records::{DELETE, INSERT, RETAIN};
+
 // An insert is a range of the lent tokens.
 #[derive(Clone, Copy)]
 pub enum Op {
@@ -24,14 +26,14 @@ pub enum Op {
 }
 
 impl Op {
-    // The kind's number: 0 delete, 1 insert, 2 retain.
+    // The kind's number, as in a record.
     pub fn kind(self) -> usize
         ensures { result ≡ kind_of self }
     {
         match self {
-            Op::Delete { .. } => 0,
-            Op::Insert { .. } => 1,
-            Op::Retain { .. } => 2,
+            Op::Delete { .. } => DELETE,
+            Op::Insert { .. } => INSERT,
+            Op::Retain { .. } => RETAIN,
         }
     }
 
@@ -60,12 +62,12 @@ pub fn op_of(at: usize, operation: records::Operation) -> Op
     ensures { result ≡ op_of at operation }
 {
     match operation.kind {
-        1 => Op::Insert {
+        INSERT => Op::Insert {
             order: at,
             first: operation.first,
             count: operation.count,
         },
-        0 => Op::Delete {
+        DELETE => Op::Delete {
             order: operation.order,
             length: operation.length,
         },

@@ -3,3 +3,4 @@ pub mod Points
 pub mod Scalar
 pub mod Signs
 pub mod Steps
+pub mod Sums

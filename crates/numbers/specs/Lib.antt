@@ -1,3 +1,4 @@
 pub mod Points
 pub mod Sizes
 pub mod Steps
+pub mod Sums

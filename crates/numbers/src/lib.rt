@@ -1,11 +1,10 @@
-// Numbers: which are code points and how far those of a text are, an order as a number, and a number in a wider type. A cast is a function, so that a proof speaks of the number alone.
+// Numbers: which are code points and how far those of a text are, an order as a number, and sums over the numbers of a text.
 #![tactic(auto)]
 
-ghost use Rattle.std.specs.Prelude.{◌≡◌, true, length, position};
+ghost use Rattle.std.specs.Prelude.{◌≡◌, ℕ, true, length, position};
 ghost use Rattle.numbers.specs.Points.{is_point, no_point, scalars};
 ghost use Rattle.numbers.specs.Steps.{step};
-
-pub mod bytes;
+ghost use Rattle.numbers.specs.Sums.{IsSmall, Measures, sum_of};
 
 // Whether a number is a code point: no surrogate, and at most 10FFFF. No way out between the tests, so that a caller branches once.
 #[tactic(auto, unfolding(crate::specs::Points::is_point))]
@@ -73,9 +72,19 @@ pub fn at_least(x: u32, least: u32) -> u32
     u32::from(least <= x)
 }
 
-// A number as an index or a length.
-pub fn wide(x: u32) -> usize
-    ensures { result ≡ x }
+// The sum of what a measure gives for each number of a text. A block's sum fits in 32 bits, so that the loop over it is made of vectors.
+pub fn sum_by<F: Fn(u32) -> u32>(text: &[u32], measure: F) -> usize
+    requires callable { F.IsAlwaysCallable measure }
+    requires small { IsSmall F.post measure }
+    ensures { (f : ℕ → ℕ) → Measures F.post measure f → result ≡ sum_of f text.now }
 {
-    x as usize
+    let mut sum: usize = 0;
+    'parts: for block in text.chunks(65536) {
+        let mut part: u32 = 0;
+        'block: for x in block {
+            part += measure(*x);
+        }
+        sum += part as usize;
+    }
+    sum
 }

@@ -7,12 +7,19 @@ use Rattle.std.specs.Prelude.{sum as total}
 use Rattle.std.proofs.lemmas.List.Recursion.{is_sum_by}
 use native.Mathlib.Omega.{arith}
 use lib.ListN.{get_or}
+use Rattle.records.specs.declared.each.Each.{Each}
+use Rattle.records.proofs.EachLaws.{Reads}
 use Rattle.merging.specs.Lent.{Lent, lengths_of, sum}
+use Rattle.operation.specs.declared.Lengths.{Lengths}
 
 -- the sum of a list is the kit's
 pub sum_is : (xs : List ℕ) → sum xs ≡ total xs
 unfolding sum
 sum_is xs = is_sum_by sum (λ (x : ℕ). x) refl (λ _ _. refl) xs
+
+-- over the lengths of tokens
+abbrev pub ReadsLengths : List ℕ → ℕ → Each Lengths → Type 0
+ReadsLengths spans = Reads (λ s i. get_or s.0.now (i * 2 + 1) 0) (λ i. get_or spans (i * 2 + 1) 0)
 
 -- the sum of the lengths of tokens from first on, as far as place `at`
 pub record Counting (L : Lent) (first count total at : ℕ) : Type 0 where

@@ -1,7 +1,7 @@
 // What a taken operation meets: the cut of a retain, the meet rule, and the overlap of inserts.
 #![tactic(auto)]
 
-ghost use Rattle.std.specs.Prelude.{◌≡◌, ◌+◌, ◌*◌, ◌≤◌, [], length};
+ghost use Rattle.std.specs.Prelude.{◌≡◌, ◌+◌, ◌*◌, ◌/◌, ◌≤◌, [], length, get_or};
 ghost use Rattle.std.proofs.Math.Seq.{slice};
 ghost use Rattle.overlap.specs.Overlap.{overlap_of};
 ghost use Rattle.merging.specs.Lent.{lengths_of, sum, rules_of};
@@ -14,8 +14,8 @@ ghost use Rattle.operation.specs.Views.{heads, reach, size, tokens, NextFits, La
 ghost use Rattle.operation.specs.Meets.{tail_by, lost_by, met_by, used_by, place_by, Placed};
 
 use merging::Op;
-use numbers::wide;
 use overlap::Range;
+use records::each::Records;
 use std::cmp::min;
 
 // What is remembered of a side. Of an insert it is tokens, which stand in the work room from `from`
@@ -258,7 +258,27 @@ pub fn sum_of(lengths: &[u32]) -> usize
     requires { length lengths.now ≤ 65536 }
     ensures { result ≡ sum lengths.now }
 {
-    lengths.iter().map(|x| wide(*x)).sum()
+    lengths.iter().map(|x| *x as usize).sum()
+}
+
+// The lengths of tokens as these are lent, two numbers each.
+#[derive(Clone, Copy)]
+pub struct Lengths<'a>(pub &'a [u32]);
+
+impl<'a> Records for Lengths<'a> {
+    type Record = u32;
+
+    ghost count = { λ s. length s.0.now / 2 };
+
+    ghost record_at = { λ s i. get_or s.0.now (i * 2 + 1) 0 };
+
+    fn count(self) -> usize {
+        self.0.len() / 2
+    }
+
+    fn at(self, i: usize) -> u32 {
+        self.0[i * 2 + 1]
+    }
 }
 
 // The sum of the lengths of tokens.
@@ -267,8 +287,8 @@ pub fn tokens_length(spans: &[u32], first: usize, count: usize) -> usize
     ensures { result ≡ sum (lengths_of (of_spans spans.now) first count) }
 {
     let mut total: usize = 0;
-    'sum: for i in first..first + count {
-        total += wide(spans[i * 2 + 1]);
+    'sum: for length in Lengths(spans).between(first, first + count) {
+        total += length as usize;
     }
     total
 }

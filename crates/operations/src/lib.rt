@@ -7,7 +7,7 @@ ghost use Rattle.sizes.specs.Texts.{text_length};
 ghost use Rattle.shapes.specs.Tiling.{tiling_of};
 ghost use Rattle.operations.specs.Folds.{moved_to, stopped_at, tile_step, tile_all, tile_end, text_by};
 
-use records::{Operation, Tokens};
+use records::{INSERT, Operation, Tokens};
 use refusal::Refusal;
 
 // A walk over the tiles: the original's length, the operations seen, how much they consume, and
@@ -44,7 +44,7 @@ pub fn tile_step(t: Tile, o: Operation) -> Tile
     if !t.good {
         return t;
     }
-    if o.kind == 1 {
+    if o.kind == INSERT {
         return moved(t, t.at);
     }
     if o.order == t.at && t.at <= t.n && o.length <= t.n - t.at {

@@ -1,19 +1,19 @@
 -- The loop over the pairs of two lists: what is left of both has the priority of the whole.
 -- What is left of a list is taken apart once, by its next record; the rest are cases of the definition. Assumes nothing.
-use Prim.Native.Nat.{ℕ, ◌+◌, ◌-◌, ◌/◌, min, ◌≤◌, ◌<◌}
+use Prim.Native.Nat.{ℕ, ◌+◌, ◌-◌, ◌/◌, min, ◌≤◌, ◌<◌, zero-le}
 use mathlib.Core.Path.{◌≡◌, refl, sym, ◌∙◌}
 use mathlib.Core.List.{List, [], ◌∷◌}
+use mathlib.Core.Logic.{◌⊎◌, ⊎_elim}
 use native.Mathlib.Omega.{arith}
 use native.Mathlib.Decide.{dec_le}
 use Rattle.std.proofs.lemmas.Cmp.{by_ranked, ranked}
-use Rattle.std.proofs.lemmas.Bool.Decides.{nat_tests}
 use lib.ListN.{length}
 use Rattle.std.specs.declared.cmp.Ordering.{Ordering}
 use Rattle.std.specs.declared.cmp.Ordering.TheVariants.{Less, Equal, Greater}
-use Rattle.std.specs.Ordering.{nat_cmp, ord_min, ordering_then}
+use Rattle.std.specs.Ordering.{nat_cmp, ordering_then}
 use Rattle.records.specs.declared.Operation.{Operation}
 use Rattle.records.specs.Operations.{operation_at, operations_from, operations_of}
-use Rattle.records.proofs.Operations.{from_more, from_none}
+use Rattle.records.proofs.OperationLaws.{from_more, from_none}
 use Rattle.merging.specs.declared.Op.{Op}
 use Rattle.merging.specs.Lent.{Lent}
 use Rattle.merging.specs.Operations.{op_of, ops_from, span_of}
@@ -40,10 +40,6 @@ module _ (xs : List ℕ) where
     rest_more : {o : Operation} {a : Op} → i < length xs / 6 → o ≡ operation_at xs i → a ≡ op_of at o → rest xs at i ≡ a ∷ rest xs (at + span_of a) (i + 1)
     unfolding ops_from
     rest_more h e f = rw (from_more xs i (length xs / 6) h, f, e)
-
--- a place in the shorter of two lists is one in both
-min_is : (a b : ℕ) → ord_min nat_cmp a b ≡ min a b
-min_is a b = grind (arith, nat_tests)
 
 -- two records that are one retain or delete: one operation, and what it consumes
 module _ {x y : Operation} (s : SamePart x y) (at : ℕ) where
@@ -77,8 +73,10 @@ decides Greater y n = refl
 abbrev pub whole : Lent → List ℕ → List ℕ → Ordering
 whole lent left right = priority_of lent (ops_from 0 (operations_of left)) (ops_from 0 (operations_of right))
 
--- between two turns, before the pair at i. Equal pairs consume as much, so both lists consumed `at`.
+-- between two turns, before the pair at i, which no list ends before. Equal pairs consume as much, so both lists consumed `at`.
 pub record Paired (lent : Lent) (left right : List ℕ) (at i : ℕ) : Type 0 where
+  pub left_most : i ≤ length left / 6
+  pub right_most : i ≤ length right / 6
   pub left_ready : Ready lent.inserted lent.spans lent.keys at (rest left at i)
   pub right_ready : Ready lent.inserted lent.spans lent.keys at (rest right at i)
   pub same : priority_of lent (rest left at i) (rest right at i) ≡ whole lent left right
@@ -87,7 +85,7 @@ module _ {lent : Lent} {left right : List ℕ} where
   pub paired_starts : Ready lent.inserted lent.spans lent.keys 0 (ops_from 0 (operations_of left))
       → Ready lent.inserted lent.spans lent.keys 0 (ops_from 0 (operations_of right)) → Paired lent left right 0 0
   paired_starts h k =
-      record { left_ready = rw (rest_start left) h; right_ready = rw (rest_start right) k; same = rw (rest_start left, rest_start right) }
+      record { left_most = zero-le; right_most = zero-le; left_ready = rw (rest_start left) h; right_ready = rw (rest_start right) k; same = rw (rest_start left, rest_start right) }
 
   module _ {at i : ℕ} (g : Paired lent left right at i) where
     both_end : length left / 6 ≤ i → length right / 6 ≤ i → Equal ≡ whole lent left right
@@ -103,14 +101,8 @@ module _ {lent : Lent} {left right : List ℕ} where
     right_ends h k = rw (rest_more left at i h refl refl, rest_none right at i k) at g.same
 
     -- the pair at i
-    module _ {o q : Operation} {a b : Op} {n : ℕ} (m : n ≡ ord_min nat_cmp (length left / 6) (length right / 6)) (l : i < n) (d : o ≡ operation_at left i) (e : a ≡ op_of at o)
+    module _ {o q : Operation} {a b : Op} (h : i < length left / 6) (k : i < length right / 6) (d : o ≡ operation_at left i) (e : a ≡ op_of at o)
         (f : q ≡ operation_at right i) (z : b ≡ op_of at q) where
-      h : i < length left / 6
-      h = omega (arith, m ∙ min_is (length left / 6) (length right / 6))
-
-      k : i < length right / 6
-      k = omega (arith, m ∙ min_is (length left / 6) (length right / 6))
-
       pub left_reads : Readable lent.inserted lent.spans lent.keys a × (at + span_of a ≤ most) × Ready lent.inserted lent.spans lent.keys (at + span_of a) (rest left (at + span_of a) (i + 1))
       left_reads = ready_more _ _ _ at g.left_ready (rest_more left at i h d e)
 
@@ -128,19 +120,21 @@ module _ {lent : Lent} {left right : List ℕ} where
       pub pair_equal : {s : ℕ} → order_rule lent a b ≡ Equal → s ≡ span_of a → Paired lent left right (at + s) (i + 1)
       pair_equal x u =
           let e : span_of b ≡ span_of a = sym (equal_spans lent a b x) in
-          rw u (record { left_ready = left_reads.2; right_ready = rw e at right_reads.2; same = rw (x, e) at pair })
+          rw u (record { left_most = omega arith; right_most = omega arith; left_ready = left_reads.2; right_ready = rw e at right_reads.2; same = rw (x, e) at pair })
 
     -- where it is one retain or delete
-    module _ {o q : Operation} {n : ℕ} (m : n ≡ ord_min nat_cmp (length left / 6) (length right / 6)) (l : i < n) (d : o ≡ operation_at left i) (f : q ≡ operation_at right i) (s : SamePart o q) where
+    module _ {o q : Operation} (h : i < length left / 6) (k : i < length right / 6) (d : o ≡ operation_at left i) (f : q ≡ operation_at right i) (s : SamePart o q) where
       pub part_fits : at + o.length ≤ most
-      part_fits = rw (part_span s at) (left_reads m l d refl f refl).1
+      part_fits = rw (part_span s at) (left_reads h k d refl f refl).1
 
       pub part_same : Paired lent left right (at + o.length) (i + 1)
-      part_same = pair_equal m l d refl f refl (same_order s at lent) (part_span s at)
+      part_same = pair_equal h k d refl f refl (same_order s at lent) (part_span s at)
 
     -- the shorter list first
-    pub ends : {n : ℕ} → n ≡ ord_min nat_cmp (length left / 6) (length right / 6) → n ≤ i → i ≤ n → nat_cmp (length left / 6) (length right / 6) ≡ whole lent left right
-    ends m l u =
-        let e = m ∙ min_is (length left / 6) (length right / 6) in
+    pub ends : (length left / 6 ≤ i) ⊎ (length right / 6 ≤ i) → nat_cmp (length left / 6) (length right / 6) ≡ whole lent left right
+    ends e =
+        let m : min (length left / 6) (length right / 6) ≤ i = ⊎_elim (λ (h : length left / 6 ≤ i). omega arith) (λ (k : length right / 6 ≤ i). omega arith) e in
+        let a : i ≤ length left / 6 = g.left_most in
+        let b : i ≤ length right / 6 = g.right_most in
         by_ranked _ _ _ (nat_cmp (length left / 6) (length right / 6)) (ranked (length left / 6) (length right / 6) _ refl)
         (λ r z. r ∙ left_ends (omega arith) (omega arith)) (λ r z. r ∙ both_end (omega arith) (omega arith)) (λ r z. r ∙ right_ends (omega arith) (omega arith))

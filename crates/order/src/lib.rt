@@ -12,7 +12,8 @@ ghost use Rattle.merging.specs.OrderRule.{content_rule, order_rule, priority_of}
 ghost use Rattle.order.specs.Readable.{Readable, Ready, SamePart};
 
 use merging::Op;
-use records::{Lent, Operation};
+use records::each::Records;
+use records::{INSERT, Lent, Operation, Operations};
 use std::cmp::Ordering;
 
 // Inserts by spelling, retains and deletes by shorter length; operations of two kinds are equal here.
@@ -58,7 +59,7 @@ pub fn cmp_priority(lent: Lent, a: Op, b: Op) -> Ordering
 fn same_part(x: Operation, y: Operation) -> bool
     ensures { result ≡ true → SamePart x y }
 {
-    x.kind != 1 && x.kind == y.kind && x.order == y.order && x.length == y.length
+    x.kind != INSERT && x.kind == y.kind && x.order == y.order && x.length == y.length
 }
 
 // Stream priority: the first unequal pair of two lists under the order rule, else the shorter list
@@ -68,12 +69,8 @@ pub fn stream_priority(lent: Lent, left: &[usize], right: &[usize]) -> Ordering
     requires ready_2 { Ready lent.text.now lent.tokens.spans.now lent.tokens.keys.now 0 (ops_from 0 (operations_of right.now)) }
     ensures { result ≡ priority_of (lent_in lent.entry) (ops_from 0 (operations_of left.now)) (ops_from 0 (operations_of right.now)) }
 {
-    let lefts = left.len() / 6;
-    let rights = right.len() / 6;
     let mut at: usize = 0;
-    'pairs: for i in 0..std::cmp::min(lefts, rights) {
-        let x = records::operation_at(left, i);
-        let y = records::operation_at(right, i);
+    'pairs: for (x, y) in Operations(left).each().zip(Operations(right).each()) {
         if same_part(x, y) {
             at += x.length;
             continue 'pairs;
@@ -85,5 +82,5 @@ pub fn stream_priority(lent: Lent, left: &[usize], right: &[usize]) -> Ordering
             order => return order,
         }
     }
-    lefts.cmp(&rights)
+    Operations(left).count().cmp(&Operations(right).count())
 }

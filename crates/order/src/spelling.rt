@@ -6,8 +6,8 @@ ghost use Rattle.merging.specs.OrderRule.{compare_spelling};
 ghost use Rattle.order.specs.Readable.{Run};
 ghost use Rattle.order.specs.Spelling.{CanRead, left};
 
-use numbers::wide;
 use records::Lent;
+use records::each::Records;
 use std::cmp::Ordering;
 
 // What is left of a spelling: the rest of one token's text, and then `count` tokens from `next` on.
@@ -39,8 +39,8 @@ impl<'a> Iterator for Reader<'a> {
                 return None;
             }
             let token = self.lent.tokens.at(self.next);
-            let start = wide(token.start);
-            self.rest = &self.lent.text[start..start + wide(token.length)];
+            let start = token.start as usize;
+            self.rest = &self.lent.text[start..start + token.length as usize];
             self.next += 1;
             self.count -= 1;
         }

@@ -4,7 +4,6 @@ ghost use Rattle.overlap.specs.Overlap.{overlap_of, Answered};
 ghost use Rattle.overlap.specs.Table.{Table, Fits, Filled};
 
 use crate::Range;
-use numbers::wide;
 use refusal::Refusal;
 
 // The most keys of a side.
@@ -33,7 +32,7 @@ pub fn fill(new: &[u32], table: &mut [u32])
             if matched == 0 {
                 break;
             }
-            matched = wide(table[matched - 1]);
+            matched = table[matched - 1] as usize;
         }
         table[i] = matched as u32;
     }
@@ -70,7 +69,7 @@ pub fn scan(old: &[u32], new: &[u32], table: &[u32]) -> Range
                 if matched == 0 {
                     continue 'scan;
                 }
-                matched = wide(table[matched - 1]);
+                matched = table[matched - 1] as usize;
             }
         }
         Range { start, end }

@@ -1,51 +1,22 @@
--- The checks of a raw list: sums that stop at a cap, and its operations one after another.
+-- The checks of a raw list: its operations one after another, and sums that stop at a cap.
 -- What is left, from where a loop stands, gives the answer of the whole. Assumes nothing.
 use Prim.Native.Nat.{ℕ, ◌+◌, ◌-◌, ◌/◌, ◌≤◌, ◌<◌, min, zero-le}
-use mathlib.Core.Path.{◌≡◌, ◌∙◌}
+use mathlib.Core.Path.{◌≡◌}
 use mathlib.Core.Bool.{true, false}
 use mathlib.Core.List.{List, ◌∷◌}
 use native.Mathlib.Omega.{arith}
-use native.Mathlib.Nat.{sub-zero, zero-add}
+use native.Mathlib.Nat.{sub-zero}
 use lib.ListN.{length}
 use lib.Dec.{leb}
 use borrow.Author.Tests.{le-leb, lt-leb}
 use Rattle.refusal.specs.declared.Refusal.TheVariants as R
-use Rattle.sizes.proofs.Sums.{cap, cap_on, cap_test}
+use Rattle.sizes.proofs.Sums.{cap, cap_test}
 use Rattle.raw_lists.specs.declared.Raw.{Raw}
 use Rattle.raw_lists.specs.Raws.{raw_at, raws_from, raws_of}
 use Rattle.raw_lists.specs.Checks.{total, claimed_by, text_by, raw_fits, is_raw, shapes_from}
 use Rattle.raw_lists.proofs.Lists.{from_more, from_none, length_raws}
 use Rattle.std.specs.Prelude.{Err}
 use Rattle.verdict.specs.Verdicts.{accepted}
-
--- sums
-
-pub record Totals (f : Raw → ℕ) (xs : List ℕ) (count i sum : ℕ) : Type 0 where
-  pub most : i ≤ count
-  pub small : sum ≤ cap
-  pub adds : min cap (sum + total f (raws_from xs i (count - i))) ≡ min cap (total f (raws_of xs))
-
-pub totals_begin : (f : Raw → ℕ) (xs : List ℕ) (count : ℕ) → count ≡ length xs / 3 → Totals f xs count 0 0
-unfolding raws_of
-totals_begin f xs count e = record { most = zero-le; small = zero-le; adds = rw (sub-zero, e, zero-add) }
-
-module _ {f : Raw → ℕ} {xs : List ℕ} {count i sum : ℕ} (h : Totals f xs count i sum) where
-  pub totals_on : (r : Raw) (y s : ℕ) → i < count → r ≡ raw_at xs i → min cap y ≡ min cap (f r) → s ≡ min cap (sum + y) → Totals f xs count (i + 1) s
-  unfolding total
-  totals_on r y s l e ey es =
-      record {
-        most = omega arith;
-        small = omega arith;
-        adds =
-            cap_on sum (f (raw_at xs i)) y s (total f (raws_from xs (i + 1) (count - (i + 1)))) _ es (ey ∙ rw e)
-            (rw (from_more xs i count l) at h.adds);
-      }
-
-  pub totals_end : count ≤ i → sum ≡ min cap (total f (raws_of xs))
-  unfolding total
-  totals_end l =
-      let z : min cap (sum + 0) ≡ min cap (total f (raws_of xs)) = rw (from_none xs i count l) at h.adds in
-      omega (arith, h.small)
 
 -- shapes
 

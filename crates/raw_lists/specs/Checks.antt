@@ -1,5 +1,5 @@
 -- The sizes and shapes of raw lists: refusals 3 and 1 of them. Assumes nothing.
-use Rattle.std.specs.Prelude.{◌≡◌, ℕ, ◌+◌, min, Bool, true, false, ◌&&◌, List, [], ◌∷◌, length, leb, ltb, Err}
+use Rattle.std.specs.Prelude.{ℕ, ◌+◌, Bool, true, false, ◌&&◌, List, [], ◌∷◌, length, leb, ltb, Err}
 use Rattle.refusal.specs.declared.Refusal.TheVariants as R
 use Rattle.room.specs.Choice.{pick}
 use Rattle.records.specs.Tokens.{tokens_from}
@@ -13,10 +13,6 @@ use Rattle.verdict.specs.Verdicts.{Verdict, accepted}
 unfoldable pub total : (Raw → ℕ) → List Raw → ℕ
 total f [] = 0
 total f (r ∷ rs) = f r + total f rs
-
--- a measure of raw operations gives what f says, as far as the cap tells
-abbrev pub Measures : {M : Type 0} → (M → Raw → ℕ → Type 0) → M → (Raw → ℕ) → Type 0
-Measures post m f = (r : Raw) (y : ℕ) → post m r y → min 1000000 y ≡ min 1000000 (f r)
 
 -- "token counts stand as claimed; an unknown kind adds none"
 abbrev pub claimed_by : Raw → ℕ

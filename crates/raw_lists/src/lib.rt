@@ -1,12 +1,12 @@
 // Raw lists: their records and tokens, and which lists are refused for their sizes or their shape.
 #![tactic(auto)]
 
-ghost use Rattle.std.specs.Prelude.{◌≡◌, ℕ, ◌+◌, ◌*◌, ◌≤◌, min, length};
-ghost use Rattle.raw_lists.specs.declared.Raw.{Raw};
+ghost use Rattle.std.specs.Prelude.{◌≡◌, ◌+◌, ◌*◌, ◌/◌, ◌≤◌, min, length};
 ghost use Rattle.raw_lists.specs.Raws.{raw_at, raws_of, pieces_lent};
-ghost use Rattle.raw_lists.specs.Checks.{Measures, total, claimed_by, text_by, run_lent, raw_fits, is_raw, shapes_from};
+ghost use Rattle.raw_lists.specs.Checks.{total, claimed_by, text_by, run_lent, raw_fits, is_raw, shapes_from};
 
-use records::Tokens;
+use records::each::Records;
+use records::{RETAIN, Tokens};
 use refusal::Refusal;
 
 // A raw operation: its kind, and its tokens by the place of the first and their count.
@@ -41,6 +41,26 @@ impl<'a> RawTokens<'a> {
     }
 }
 
+// The operations of a raw list as they are lent, three numbers each.
+#[derive(Clone, Copy)]
+pub struct RawOperations<'a>(pub &'a [usize]);
+
+impl<'a> Records for RawOperations<'a> {
+    type Record = Raw;
+
+    ghost count = { λ r. length r.0.now / 3 };
+
+    ghost record_at = { λ r i. raw_at r.0.now i };
+
+    fn count(self) -> usize {
+        self.0.len() / 3
+    }
+
+    fn at(self, i: usize) -> Raw {
+        raw_at(self.0, i)
+    }
+}
+
 // The i-th raw operation.
 pub fn raw_at(raw: &[usize], i: usize) -> Raw
     requires { i * 3 + 3 ≤ length raw.now }
@@ -54,37 +74,24 @@ pub fn raw_at(raw: &[usize], i: usize) -> Raw
     }
 }
 
-// The sum over a raw list of what a measure gives for each operation, capped.
-// Kept so, beside the sum over operations of sizes: in common they would be a sum over places, whose closure asks for its bounds; that is no plainer.
-fn total_by<F: Fn(Raw) -> usize>(raw: &[usize], measure: F) -> usize
-    requires { F.IsAlwaysCallable measure }
-    ensures { (f : Raw → ℕ) → Measures F.post measure f → result ≡ min 1000000 (total f (raws_of raw.now)) }
-{
-    let mut sum = 0;
-    'sum: for i in 0..raw.len() / 3 {
-        sum = sizes::capped(sum, measure(raw_at(raw, i)));
-    }
-    sum
-}
-
 fn claimed_by(r: Raw) -> usize
     ensures { result ≡ claimed_by r }
 {
-    if r.kind <= 2 { r.count } else { 0 }
+    if r.kind <= RETAIN { r.count } else { 0 }
 }
 
 // The tokens that a raw list claims, capped.
 pub fn claimed(raw: &[usize]) -> usize
     ensures { result ≡ min 1000000 (total claimed_by (raws_of raw.now)) }
 {
-    total_by(raw, claimed_by)
+    sizes::total_by(RawOperations(raw), claimed_by)
 }
 
 // The text of an operation's tokens, capped.
 fn text_by(lent: RawTokens, n: usize, r: Raw) -> usize
     ensures { result ≡ min 1000000 (text_by n lent.entry.tokens.spans.now lent.entry.tokens.keys.now lent.entry.joins.now r) }
 {
-    if r.kind <= 2 && lent.reach(r) {
+    if r.kind <= RETAIN && lent.reach(r) {
         sizes::run_text(lent.tokens, n, r.first, r.count)
     } else {
         0
@@ -95,7 +102,7 @@ fn text_by(lent: RawTokens, n: usize, r: Raw) -> usize
 fn used_text(raw: &[usize], lent: RawTokens, n: usize) -> usize
     ensures { result ≡ min 1000000 (total (text_by n lent.entry.tokens.spans.now lent.entry.tokens.keys.now lent.entry.joins.now) (raws_of raw.now)) }
 {
-    total_by(raw, |r| text_by(lent, n, r))
+    sizes::total_by(RawOperations(raw), |r| text_by(lent, n, r))
 }
 
 // Whether a raw list keeps its sizes. The tests before the last keep its work within the limits.
@@ -103,7 +110,7 @@ fn used_text(raw: &[usize], lent: RawTokens, n: usize) -> usize
 pub fn raw_fits(raw: &[usize], lent: RawTokens, n: usize) -> bool
     ensures { result ≡ raw_fits n lent.entry.tokens.spans.now lent.entry.tokens.keys.now lent.entry.joins.now (raws_of raw.now) }
 {
-    if 131070 < n || 8192 < raw.len() / 3 {
+    if 131070 < n || 8192 < RawOperations(raw).count() {
         return false;
     }
     claimed(raw) <= 16384 && used_text(raw, lent, n) <= 131070
@@ -113,7 +120,7 @@ pub fn raw_fits(raw: &[usize], lent: RawTokens, n: usize) -> bool
 fn is_raw(lent: RawTokens, n: usize, r: Raw) -> bool
     ensures { result ≡ is_raw n lent.entry.tokens.spans.now lent.entry.tokens.keys.now lent.entry.joins.now r }
 {
-    r.kind <= 2
+    r.kind <= RETAIN
         && r.count != 0
         && lent.reach(r)
         && shapes::run_good(lent.tokens, n, r.first, r.count)
@@ -123,8 +130,8 @@ fn is_raw(lent: RawTokens, n: usize, r: Raw) -> bool
 pub fn check_raws(raw: &[usize], lent: RawTokens, n: usize) -> Result<(), Refusal>
     ensures { result ≡ shapes_from n lent.entry.tokens.spans.now lent.entry.tokens.keys.now lent.entry.joins.now (raws_of raw.now) 0 }
 {
-    'raws: for i in 0..raw.len() / 3 {
-        if !is_raw(lent, n, raw_at(raw, i)) {
+    'raws: for (i, r) in RawOperations(raw).each().enumerate() {
+        if !is_raw(lent, n, r) {
             return Err(Refusal::Record { index: i });
         }
     }

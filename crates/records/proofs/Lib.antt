@@ -1,4 +1,5 @@
 pub mod Rooms
-pub mod Operations
+pub mod OperationLaws
 pub mod TokenLaws
-pub mod Cursors
+pub mod CursorLaws
+pub mod EachLaws

@@ -2,3 +2,4 @@ pub mod Rooms
 pub mod Operations
 pub mod Tokens
 pub mod Cursors
+pub mod Each

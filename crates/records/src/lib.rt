@@ -1,13 +1,23 @@
 // Operations, tokens and cursors, read by value out of flat slices and put into lent rooms. An
 // operation is six numbers, a cursor two; a token is two numbers of one slice and a key of another.
-// A slice that ends inside a record does not lend it. Kinds: 0 delete, 1 insert, 2 retain. Sides: 0
-// left, 1 right.
+// A slice that ends inside a record does not lend it. Sides: 0 left, 1 right.
 #![tactic(auto)]
 
-ghost use Rattle.std.specs.Prelude.{◌≡◌, ◌+◌, ◌*◌, ◌<◌, ◌≤◌, length};
+ghost use Rattle.std.specs.Prelude.{◌≡◌, ◌+◌, ◌*◌, ◌/◌, ◌<◌, ◌≤◌, length};
 ghost use Rattle.records.specs.Operations.{operation_at, put_operation};
 ghost use Rattle.records.specs.Tokens.{token_at, tokens_lent};
 ghost use Rattle.records.specs.Cursors.{cursor_at, put_cursor, at_index};
+
+pub mod each;
+
+use each::Records;
+
+// The kinds of an operation; a number above the last is none.
+pub const DELETE: usize = 0;
+
+pub const INSERT: usize = 1;
+
+pub const RETAIN: usize = 2;
 
 #[derive(Clone, Copy)]
 pub struct Operation {
@@ -34,25 +44,66 @@ pub struct Tokens<'a> {
     pub keys: &'a [u32],
 }
 
-impl<'a> Tokens<'a> {
+impl<'a> Records for Tokens<'a> {
+    type Record = Token;
+
+    ghost count = { λ t. tokens_lent t.spans.now t.keys.now };
+
+    ghost record_at = { λ t i. token_at t.spans.now t.keys.now i };
+
     // How many tokens are lent: those that both slices reach.
-    pub fn count(self) -> usize
-        ensures { result ≡ tokens_lent self.entry.spans.now self.entry.keys.now }
-    {
+    fn count(self) -> usize {
         std::cmp::min(self.spans.len() / 2, self.keys.len())
     }
 
     // The i-th token.
-    pub fn at(self, i: usize) -> Token
-        requires { i < tokens_lent self.spans.now self.keys.now }
-        ensures { result ≡ token_at self.entry.spans.now self.entry.keys.now i }
-    {
+    fn at(self, i: usize) -> Token {
         let b = i * 2;
         Token {
             start: self.spans[b],
             length: self.spans[b + 1],
             key: self.keys[i],
         }
+    }
+}
+
+// The operations of a list as they are lent, six numbers each.
+#[derive(Clone, Copy)]
+pub struct Operations<'a>(pub &'a [usize]);
+
+impl<'a> Records for Operations<'a> {
+    type Record = Operation;
+
+    ghost count = { λ o. length o.0.now / 6 };
+
+    ghost record_at = { λ o i. operation_at o.0.now i };
+
+    fn count(self) -> usize {
+        self.0.len() / 6
+    }
+
+    fn at(self, i: usize) -> Operation {
+        operation_at(self.0, i)
+    }
+}
+
+// The cursors of a list as they are lent, two numbers each.
+#[derive(Clone, Copy)]
+pub struct Cursors<'a>(pub &'a [usize]);
+
+impl<'a> Records for Cursors<'a> {
+    type Record = Cursor;
+
+    ghost count = { λ c. length c.0.now / 2 };
+
+    ghost record_at = { λ c i. cursor_at c.0.now i };
+
+    fn count(self) -> usize {
+        self.0.len() / 2
+    }
+
+    fn at(self, i: usize) -> Cursor {
+        cursor_at(self.0, i)
     }
 }
 

@@ -9,6 +9,7 @@ ghost use Rattle.refusal.specs.declared.Refusal.TheVariants.{Unmentioned};
 ghost use Rattle.replay.specs.Answers.{diff, text_of, always, plain, covering, judged, length_of, Replayed};
 
 use diff::diff::{Item, Items};
+use records::each::Records;
 use refusal::Refusal;
 use string_builder::StringBuilder;
 
@@ -54,8 +55,8 @@ fn build(original: &[u32], items: Items, out: &mut [u32]) -> usize
 {
     let mut builder = StringBuilder::new(original);
     let mut at: usize = 0;
-    'items: for i in 0..items.count() {
-        match items.at(i) {
+    'items: for item in items.each() {
+        match item {
             Item::Retain(n) => at = builder.retain(n as usize, out, at),
             Item::Delete(n) => builder.delete(n as usize),
             Item::Insert { start, length } => {

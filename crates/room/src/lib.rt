@@ -8,7 +8,9 @@ pub fn put<T: Copy>(src: &[T], out: &mut [T], at: usize) -> usize
     requires { at + length src.now ≤ length out.old }
     ensures { Put src.now out.old at out.new result }
 {
-    let end = at + src.len();
-    out[at..end].copy_from_slice(src);
-    end
+    // Kept so: tried, and slower: most runs are short, and the library's copy of one is a call.
+    'put: for (i, x) in src.iter().enumerate() {
+        out[at + i] = *x;
+    }
+    at + src.len()
 }

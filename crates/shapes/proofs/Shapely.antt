@@ -15,7 +15,7 @@ use Rattle.records.specs.declared.Operation.{Operation}
 use Rattle.records.specs.declared.Token.{Token}
 use Rattle.records.specs.Operations.{operation_at, operations_from, operations_of}
 use Rattle.records.specs.Tokens.{token_at, tokens_from}
-use Rattle.records.proofs.Operations as O
+use Rattle.records.proofs.OperationLaws as O
 use Rattle.records.proofs.TokenLaws as T
 use Rattle.sizes.specs.Texts.{in_text, run_lent}
 use Rattle.shapes.specs.Shapes.{run_good, is_run, is_record, records_from}
@@ -28,11 +28,6 @@ pub record Looking (spans keys : List ℕ) (n first count end i : ℕ) : Type 0 
   pub low : first ≤ i
   pub most : i ≤ end
   pub rest : run_good n (tokens_from spans keys i (end - i)) ≡ run_good n (tokens_from spans keys first count)
-
-pub looks_begin : (spans keys : List ℕ) (n first count end : ℕ) → end ≡ first + count → Looking spans keys n first count end first
-looks_begin spans keys n first count end e =
-    let f : end - first ≡ count = omega arith in
-    record { low = omega arith; most = omega arith; rest = rw f }
 
 module _ {spans keys : List ℕ} {n first count end i : ℕ} (h : Looking spans keys n first count end i) where
   whole : Bool

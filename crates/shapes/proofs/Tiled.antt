@@ -12,8 +12,8 @@ use Rattle.records.specs.declared.Operation.{Operation}
 use Rattle.records.specs.declared.Cursor.{Cursor}
 use Rattle.records.specs.Operations.{operation_at, operations_from, operations_of}
 use Rattle.records.specs.Cursors.{cursor_at, cursors_from, cursors_of}
-use Rattle.records.proofs.Operations as O
-use Rattle.records.proofs.Cursors as C
+use Rattle.records.proofs.OperationLaws as O
+use Rattle.records.proofs.CursorLaws as C
 use Rattle.shapes.specs.Tiling.{tiling_from, tiling_of, within_from}
 use Rattle.std.specs.Prelude.{Err}
 use Rattle.verdict.specs.Verdicts.{accepted}

@@ -9,7 +9,8 @@ ghost use Rattle.sizes.specs.Texts.{text_length};
 ghost use Rattle.shapes.specs.Shapes.{run_good, is_run, is_record, records_from};
 ghost use Rattle.shapes.specs.Tiling.{tiling_of, within_from};
 
-use records::{Operation, Tokens};
+use records::each::Records;
+use records::{Cursors, INSERT, Operation, Operations, RETAIN, Tokens};
 use refusal::Refusal;
 
 // Whether every token of a run has text, and all of it is lent.
@@ -17,9 +18,7 @@ pub fn run_good(tokens: Tokens, n: usize, first: usize, count: usize) -> bool
     requires { first + count ≤ tokens_lent tokens.spans.now tokens.keys.now }
     ensures { result ≡ run_good n (tokens_from tokens.entry.spans.now tokens.entry.keys.now first count) }
 {
-    let end = first + count;
-    'run: for i in first..end {
-        let t = tokens.at(i);
+    'run: for t in tokens.between(first, first + count) {
         if t.length == 0 {
             return false;
         }
@@ -45,10 +44,10 @@ pub fn is_record(tokens: Tokens, n: usize, o: Operation) -> bool
     if 1 < o.side {
         return false;
     }
-    if o.kind == 1 {
+    if o.kind == INSERT {
         return is_run(tokens, n, o);
     }
-    if 2 < o.kind {
+    if RETAIN < o.kind {
         return false;
     }
     0 < o.length
@@ -58,8 +57,8 @@ pub fn is_record(tokens: Tokens, n: usize, o: Operation) -> bool
 pub fn check_records(tokens: Tokens, n: usize, operations: &[usize]) -> Result<(), Refusal>
     ensures { result ≡ records_from n tokens.entry.spans.now tokens.entry.keys.now (operations_of operations.now) 0 }
 {
-    'records: for i in 0..operations.len() / 6 {
-        if !is_record(tokens, n, records::operation_at(operations, i)) {
+    'records: for (i, o) in Operations(operations).each().enumerate() {
+        if !is_record(tokens, n, o) {
             return Err(Refusal::Record { index: i });
         }
     }
@@ -67,15 +66,13 @@ pub fn check_records(tokens: Tokens, n: usize, operations: &[usize]) -> Result<(
 }
 
 // Refusal 2 of a list over an original of n code points.
-#[tactic(auto, using(crate::proofs::Tiled::tiled_order, crate::proofs::Tiled::tiled_long, crate::proofs::Tiled::tiled_on))]
 pub fn check_tiling(n: usize, operations: &[usize]) -> Result<(), Refusal>
     ensures { result ≡ tiling_of n (operations_of operations.now) }
 {
-    let count = operations.len() / 6;
+    let operations = Operations(operations);
     let mut at = 0;
-    'tiles: for i in 0..count {
-        let o = records::operation_at(operations, i);
-        if o.kind == 1 {
+    'tiles: for (i, o) in operations.each().enumerate() {
+        if o.kind == INSERT {
             continue;
         }
         if o.order != at {
@@ -89,15 +86,16 @@ pub fn check_tiling(n: usize, operations: &[usize]) -> Result<(), Refusal>
     if at == n {
         return Ok(());
     }
-    Err(Refusal::Tiling { index: count })
+    Err(Refusal::Tiling {
+        index: operations.count(),
+    })
 }
 
 // Refusal 5 of the cursors of a text of `end` code points.
 pub fn check_cursors(cursors: &[usize], end: usize) -> Result<(), Refusal>
     ensures { result ≡ within_from end (cursors_of cursors.now) 0 }
 {
-    'cursors: for i in 0..cursors.len() / 2 {
-        let c = records::cursor_at(cursors, i);
+    'cursors: for (i, c) in Cursors(cursors).each().enumerate() {
         if end < c.index {
             return Err(Refusal::Cursor { place: i });
         }

@@ -12,8 +12,8 @@ use Rattle.records.specs.declared.Operation.{Operation}
 use Rattle.records.specs.declared.Cursor.{Cursor}
 use Rattle.records.specs.Operations.{operations_of}
 use Rattle.records.specs.Cursors.{cursors_of}
-use Rattle.records.proofs.Operations as O
-use Rattle.records.proofs.Cursors as C
+use Rattle.records.proofs.OperationLaws as O
+use Rattle.records.proofs.CursorLaws as C
 use Rattle.sizes.specs.declared.Limits.{Limits}
 use Rattle.sizes.specs.Texts.{total, claimed_by, inserted_by}
 use Rattle.sizes.specs.Sizes.{Small, merging, otherwise, lent_fits, list_fits}

@@ -1,20 +1,19 @@
--- Sums that stop at a cap: of the tokens of a run, and of what each operation of a list adds.
+-- Sums that stop at a cap: of the tokens of a run, and of what each record of a view adds.
 -- The sum so far with what is left, capped, is the whole, capped. Assumes nothing.
-use Prim.Native.Nat.{ℕ, ◌+◌, ◌-◌, ◌/◌, ◌≤◌, ◌<◌, min, zero-le}
+use Prim.Native.Nat.{ℕ, ◌+◌, ◌-◌, ◌≤◌, ◌<◌, min, zero-le}
 use mathlib.Core.Path.{◌≡◌, refl, sym, ◌∙◌}
 use mathlib.Core.Bool.{true, false}
 use mathlib.Core.List.{List, [], ◌∷◌}
 use native.Mathlib.Omega.{arith}
 use native.Mathlib.Nat.{sub-zero, zero-add}
-use lib.ListN.{length}
 use lib.Dec.{leb}
 use borrow.Author.Tests.{eq-eqb, ne_eqb, lt-leb, leb-true}
 use Rattle.room.specs.Choice.{pick}
 use Rattle.records.specs.declared.Operation.{Operation}
 use Rattle.records.specs.declared.Token.{Token}
-use Rattle.records.specs.Operations.{operation_at, operations_from, operations_of}
+use Rattle.records.specs.Each.{listed_from, listed}
 use Rattle.records.specs.Tokens.{tokens_lent, token_at, tokens_from}
-use Rattle.records.proofs.Operations as O
+use Rattle.records.proofs.EachLaws.{listed_more, listed_none}
 use Rattle.records.proofs.TokenLaws as T
 use Rattle.sizes.specs.Texts.{total, in_text, run_text, run_lent, inserted_by, retained_by}
 use Rattle.numbers.proofs.Orders.{leb_same}
@@ -50,11 +49,6 @@ pub record Adding (spans keys : List ℕ) (n first count end i sum : ℕ) : Type
   pub most : i ≤ end
   pub small : sum ≤ cap
   pub adds : min cap (sum + run_text n (tokens_from spans keys i (end - i))) ≡ min cap (run_text n (tokens_from spans keys first count))
-
-pub adding_begins : (spans keys : List ℕ) (n first count end : ℕ) → end ≡ first + count → Adding spans keys n first count end first 0
-adding_begins spans keys n first count end e =
-    let f : end - first ≡ count = omega arith in
-    record { low = omega arith; most = omega arith; small = zero-le; adds = rw (f, zero-add) }
 
 module _ {spans keys : List ℕ} {n first count end i sum : ℕ} (h : Adding spans keys n first count end i sum) where
   rest_of : i < end → min cap
@@ -113,35 +107,32 @@ module _ (n : ℕ) (spans keys : List ℕ) (o : Operation) where
 pub lent_fits : (spans keys : List ℕ) (o : Operation) → run_lent spans keys o ≡ true → o.first + o.count ≤ tokens_lent spans keys
 lent_fits spans keys o e = leb-true _ _ e
 
--- the operations of a list
+-- what stands at the places of a view
 
-pub record Totals (f : Operation → ℕ) (xs : List ℕ) (count i sum : ℕ) : Type 0 where
+pub record Totals {A : Type 0} (f : A → ℕ) (g : ℕ → A) (count i sum : ℕ) : Type 0 where
   pub most : i ≤ count
   pub small : sum ≤ cap
-  pub adds : min cap (sum + total f (operations_from xs i (count - i))) ≡ min cap (total f (operations_of xs))
+  pub adds : min cap (sum + total f (listed_from g i (count - i))) ≡ min cap (total f (listed g count))
 
-pub totals_begin : (f : Operation → ℕ) (xs : List ℕ) (count : ℕ) → count ≡ length xs / 6 → Totals f xs count 0 0
-unfolding operations_of
-totals_begin f xs count e = record { most = zero-le; small = zero-le; adds = rw (sub-zero, e, zero-add) }
+module _ {A : Type 0} {f : A → ℕ} {g : ℕ → A} {count : ℕ} where
+  pub totals_begin : Totals f g count 0 0
+  totals_begin = record { most = zero-le; small = zero-le; adds = rw (sub-zero, zero-add) }
 
-module _ {f : Operation → ℕ} {xs : List ℕ} {count i sum : ℕ} (h : Totals f xs count i sum) where
-  pub totals_on : (o : Operation) (y s : ℕ) → i < count → o ≡ operation_at xs i → min cap y ≡ min cap (f o) → s ≡ min cap (sum + y)
-      → Totals f xs count (i + 1) s
-  unfolding total
-  totals_on o y s l e ey es =
-      record {
-        most = omega arith;
-        small = omega arith;
-        adds =
-            cap_on sum (f (operation_at xs i)) y s (total f (operations_from xs (i + 1) (count - (i + 1)))) _ es (ey ∙ rw e)
-            (rw (O.from_more xs i count l) at h.adds);
-      }
+  module _ {i sum : ℕ} (h : Totals f g count i sum) where
+    pub totals_on : (x : A) (y s : ℕ) → i < count → x ≡ g i → min cap y ≡ min cap (f x) → s ≡ min cap (sum + y) → Totals f g count (i + 1) s
+    unfolding total
+    totals_on x y s l e ey es =
+        record {
+          most = omega arith;
+          small = omega arith;
+          adds = cap_on sum (f (g i)) y s (total f (listed_from g (i + 1) (count - (i + 1)))) _ es (ey ∙ rw e) (rw (listed_more g i count l) at h.adds);
+        }
 
-  pub totals_end : count ≤ i → sum ≡ min cap (total f (operations_of xs))
-  unfolding total
-  totals_end l =
-      let z : min cap (sum + 0) ≡ min cap (total f (operations_of xs)) = rw (O.from_none xs i count l) at h.adds in
-      omega (arith, h.small)
+    pub totals_end : count ≤ i → sum ≡ min cap (total f (listed g count))
+    unfolding total
+    totals_end l =
+        let z : min cap (sum + 0) ≡ min cap (total f (listed g count)) = rw (listed_none g i count l) at h.adds in
+        omega (arith, h.small)
 
 -- two sums over a list in one
 pub total_both : (f g : Operation → ℕ) (os : List Operation) → total (λ o. f o + g o) os ≡ total f os + total g os

@@ -6,13 +6,13 @@ use Rattle.records.specs.declared.Token.{Token}
 use Rattle.records.specs.Tokens.{tokens_lent, tokens_from, spelling}
 
 -- "Sums are exact": over a list, of what each operation adds
-unfoldable pub total : (Operation → ℕ) → List Operation → ℕ
+unfoldable pub total : {A : Type 0} → (A → ℕ) → List A → ℕ
 total f [] = 0
 total f (o ∷ os) = f o + total f os
 
--- a measure of operations gives what f says, as far as the cap tells
-abbrev pub Measures : {M : Type 0} → (M → Operation → ℕ → Type 0) → M → (Operation → ℕ) → Type 0
-Measures post m f = (o : Operation) (y : ℕ) → post m o y → min 1000000 y ≡ min 1000000 (f o)
+-- a measure of records gives what f says, as far as the cap tells
+abbrev pub Measures : {M A : Type 0} → (M → A → ℕ → Type 0) → M → (A → ℕ) → Type 0
+Measures post m f = (x : _) (y : ℕ) → post m x y → min 1000000 y ≡ min 1000000 (f x)
 
 -- "token or range outside what was lent": inside exactly when its end is not above what was lent, n code points
 abbrev pub in_text : ℕ → Token → Bool

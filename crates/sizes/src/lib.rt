@@ -6,12 +6,12 @@ ghost use Rattle.std.specs.Prelude.{◌≡◌, ℕ, ◌+◌, ◌≤◌, min, ◌
 ghost use Rattle.records.specs.Operations.{operations_of};
 ghost use Rattle.records.specs.Tokens.{tokens_lent, tokens_from};
 ghost use Rattle.records.specs.Cursors.{cursors_of};
-ghost use Rattle.records.specs.declared.Operation.{Operation};
+ghost use Rattle.records.specs.Each.{listed};
 ghost use Rattle.sizes.specs.Texts.{Measures, total, in_text, run_text, run_lent, claimed_by, inserted_by, retained_by, text_length};
 ghost use Rattle.sizes.specs.Sizes.{Small, merging, otherwise, lent_fits, list_fits};
 
-use numbers::wide;
-use records::{Lent, List, Operation, Token, Tokens};
+use records::each::Records;
+use records::{Cursors, INSERT, Lent, List, Operation, Operations, RETAIN, Token, Tokens};
 
 // The sizes of one list.
 #[derive(Clone, Copy)]
@@ -57,7 +57,7 @@ pub fn capped(a: usize, b: usize) -> usize
 pub fn in_text(t: Token, n: usize) -> bool
     ensures { result ≡ in_text n t }
 {
-    wide(t.start) + wide(t.length) <= n
+    t.start as usize + t.length as usize <= n
 }
 
 // Whether an operation's range of tokens is lent.
@@ -73,12 +73,10 @@ pub fn run_text(tokens: Tokens, n: usize, first: usize, count: usize) -> usize
     requires { first + count ≤ tokens_lent tokens.spans.now tokens.keys.now }
     ensures { result ≡ min 1000000 (run_text n (tokens_from tokens.entry.spans.now tokens.entry.keys.now first count)) }
 {
-    let end = first + count;
     let mut sum = 0;
-    'run: for i in first..end {
-        let t = tokens.at(i);
+    'run: for t in tokens.between(first, first + count) {
         if in_text(t, n) {
-            sum = capped(sum, wide(t.length));
+            sum = capped(sum, t.length as usize);
         }
     }
     sum
@@ -87,33 +85,33 @@ pub fn run_text(tokens: Tokens, n: usize, first: usize, count: usize) -> usize
 pub fn claimed_by(o: Operation) -> usize
     ensures { result ≡ claimed_by o }
 {
-    if o.kind == 1 { o.count } else { 0 }
+    if o.kind == INSERT { o.count } else { 0 }
 }
 
 pub fn retained_by(o: Operation) -> usize
     ensures { result ≡ retained_by o }
 {
-    if o.kind == 2 { o.length } else { 0 }
+    if o.kind == RETAIN { o.length } else { 0 }
 }
 
 pub fn inserted_by(tokens: Tokens, n: usize, o: Operation) -> usize
     ensures { result ≡ min 1000000 (inserted_by n tokens.entry.spans.now tokens.entry.keys.now o) }
 {
-    if o.kind == 1 && run_lent(tokens, o) {
+    if o.kind == INSERT && run_lent(tokens, o) {
         run_text(tokens, n, o.first, o.count)
     } else {
         0
     }
 }
 
-// The sum over a list's operations of what a measure gives for each, capped.
-pub fn total_by<F: Fn(Operation) -> usize>(operations: &[usize], measure: F) -> usize
+// The sum over the records of a view of what a measure gives for each, capped.
+pub fn total_by<R: Records, F: Fn(R::Record) -> usize>(records: R, measure: F) -> usize
     requires { F.IsAlwaysCallable measure }
-    ensures { (f : Operation → ℕ) → Measures F.post measure f → result ≡ min 1000000 (total f (operations_of operations.now)) }
+    ensures { (f : R.Record → ℕ) → Measures F.post measure f → result ≡ min 1000000 (total f (listed (R.record_at records) (R.count records))) }
 {
     let mut sum = 0;
-    'sum: for i in 0..operations.len() / 6 {
-        sum = capped(sum, measure(records::operation_at(operations, i)));
+    'sum: for record in records.each() {
+        sum = capped(sum, measure(record));
     }
     sum
 }
@@ -122,21 +120,21 @@ pub fn total_by<F: Fn(Operation) -> usize>(operations: &[usize], measure: F) -> 
 pub fn claimed(operations: &[usize]) -> usize
     ensures { result ≡ min 1000000 (total claimed_by (operations_of operations.now)) }
 {
-    total_by(operations, claimed_by)
+    total_by(Operations(operations), claimed_by)
 }
 
 // The text that a list inserts, capped.
 pub fn inserted(tokens: Tokens, n: usize, operations: &[usize]) -> usize
     ensures { result ≡ min 1000000 (total (inserted_by n tokens.entry.spans.now tokens.entry.keys.now) (operations_of operations.now)) }
 {
-    total_by(operations, |o| inserted_by(tokens, n, o))
+    total_by(Operations(operations), |o| inserted_by(tokens, n, o))
 }
 
 // What an operation adds to its list's text, capped.
 fn text_by(tokens: Tokens, n: usize, o: Operation) -> usize
     ensures { min 1000000 result ≡ min 1000000 (retained_by o + inserted_by n tokens.entry.spans.now tokens.entry.keys.now o) }
 {
-    if o.kind == 1 {
+    if o.kind == INSERT {
         inserted_by(tokens, n, o)
     } else {
         retained_by(o)
@@ -148,7 +146,7 @@ fn text_by(tokens: Tokens, n: usize, o: Operation) -> usize
 pub fn text_length(tokens: Tokens, n: usize, operations: &[usize]) -> usize
     ensures { result ≡ min 1000000 (text_length n tokens.entry.spans.now tokens.entry.keys.now (operations_of operations.now)) }
 {
-    total_by(operations, |o| text_by(tokens, n, o))
+    total_by(Operations(operations), |o| text_by(tokens, n, o))
 }
 
 // Whether the original and the lent inserted text keep their sizes.
@@ -163,10 +161,10 @@ pub fn list_fits(limits: Limits, n: usize, tokens: Tokens, list: List) -> bool
     requires { Small limits }
     ensures { result ≡ list_fits limits n tokens.entry.spans.now tokens.entry.keys.now (operations_of list.entry.operations.now) (cursors_of list.entry.cursors.now) }
 {
-    if limits.operations < list.operations.len() / 6 {
+    if limits.operations < Operations(list.operations).count() {
         return false;
     }
-    if limits.cursors < list.cursors.len() / 2 {
+    if limits.cursors < Cursors(list.cursors).count() {
         return false;
     }
     if limits.tokens < claimed(list.operations) {

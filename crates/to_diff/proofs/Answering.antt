@@ -12,7 +12,7 @@ use Rattle.refusal.specs.declared.Refusal.TheVariants.{Room}
 use Rattle.records.specs.declared.Operation.{Operation}
 use Rattle.records.specs.Operations.{operations_of}
 use Rattle.records.specs.Cursors.{cursors_from, cursors_of}
-use Rattle.records.proofs.Operations.{length_of_lem}
+use Rattle.records.proofs.OperationLaws.{length_of_lem}
 use Rattle.records.specs.Tokens.{spelling}
 use Rattle.diff.specs.Replay.{Edit, delete, insert}
 use Rattle.sizes.specs.declared.Limits.{Limits}

@@ -13,7 +13,7 @@ use Rattle.records.specs.declared.Operation.{Operation}
 use Rattle.records.specs.declared.Token.{Token}
 use Rattle.records.specs.Operations.{operation_at, operations_from, operations_of}
 use Rattle.records.specs.Tokens.{tokens_from, spelling}
-use Rattle.records.proofs.Operations.{from_more, from_none}
+use Rattle.records.proofs.OperationLaws.{from_more, from_none}
 use Rattle.sizes.specs.Texts.{run_text}
 use Rattle.shapes.proofs.Accepted.{run_length, spelled_length}
 use Rattle.edit_format.specs.Items.{added}

@@ -14,7 +14,7 @@ use Rattle.room.proofs.Answers.{one_more, same_room}
 use Rattle.records.specs.declared.Operation.{Operation}
 use Rattle.records.specs.Operations.{operation_at, operations_from, operations_of}
 use Rattle.records.specs.Tokens.{spelling}
-use Rattle.records.proofs.Operations.{from_none}
+use Rattle.records.proofs.OperationLaws.{from_none}
 use Rattle.words.specs.Words.{Lends}
 use Rattle.edit_format.specs.Items.{Item, Keep, Drop, Add, added, texts}
 use Rattle.edit_format.specs.Records.{record_of, records_from, records_of}

@@ -14,8 +14,10 @@ ghost use Rattle.to_diff.specs.Answers.{checked_on, lengths_of, Diffs};
 ghost use Rattle.to_diff.specs.Writes.{keeps, items, Ready, Kept, Inserted, Measures, Fits, Wrote};
 
 use checks::Lengths;
+use diff::diff::{NUMBER, TEXT};
 use item_records::{Counts, dropped_number, plain_number, put_record};
-use records::{Lent, List, Tokens};
+use records::each::Records;
+use records::{DELETE, INSERT, Lent, List, Operations, Tokens};
 use refusal::Refusal;
 
 // The retain that was held back, if there is one, and the place after it.
@@ -27,7 +29,7 @@ fn put_kept(room: &mut [i64], place: usize, kept: usize) -> usize
     if kept == 0 {
         return place;
     }
-    put_record(room, place * 3, 0, plain_number(kept), 0);
+    put_record(room, place * 3, NUMBER, plain_number(kept), 0);
     place + 1
 }
 
@@ -36,7 +38,7 @@ fn put_dropped(room: &mut [i64], place: usize, dropped: usize)
     requires { (dropped < 9223372036854775808) × (place * 3 + 3 ≤ length room.old) }
     ensures { room.new ≡ placed room.old (place * 3) (record_of 0 (Drop dropped)) }
 {
-    put_record(room, place * 3, 0, dropped_number(dropped), 0);
+    put_record(room, place * 3, NUMBER, dropped_number(dropped), 0);
 }
 
 // An insert's text and its item, and the place after the text.
@@ -54,12 +56,17 @@ fn put_insert(
     ensures { Inserted (spelling text.now tokens.entry.spans.now tokens.entry.keys.now first count) place at room.old room.new out.old out.new result }
 {
     let end = words::put_tokens(text, tokens, first, count, out, at);
-    put_record(room, place * 3, 1, plain_number(at), plain_number(end - at));
+    put_record(
+        room,
+        place * 3,
+        TEXT,
+        plain_number(at),
+        plain_number(end - at),
+    );
     end
 }
 
 // How many items and code points a diff has.
-// Kept so: here and below a kind is a number, as the C interface lends it.
 fn measure(lent: Lent, operations: &[usize]) -> Counts
     requires { Ready lent.text.now lent.tokens.spans.now lent.tokens.keys.now (operations_of operations.now) }
     ensures { Measures (items lent.entry.text.now lent.entry.tokens.spans.now lent.entry.tokens.keys.now (operations_of operations.now)) result }
@@ -67,9 +74,8 @@ fn measure(lent: Lent, operations: &[usize]) -> Counts
     let mut found = 0;
     let mut size = 0;
     let mut joins = false;
-    'operations: for i in 0..operations.len() / 6 {
-        let operation = records::operation_at(operations, i);
-        if operation.kind == 1 {
+    'operations: for operation in Operations(operations).each() {
+        if operation.kind == INSERT {
             size += sizes::run_text(
                 lent.tokens,
                 lent.text.len(),
@@ -78,7 +84,7 @@ fn measure(lent: Lent, operations: &[usize]) -> Counts
             );
             found += 1;
             joins = false;
-        } else if operation.kind == 0 {
+        } else if operation.kind == DELETE {
             found += 1;
             joins = false;
         } else if !joins {
@@ -101,9 +107,8 @@ fn write(lent: Lent, operations: &[usize], room: &mut [i64], out: &mut [u32]) ->
     let mut kept = 0;
     let mut place = 0;
     let mut at = 0;
-    'operations: for i in 0..operations.len() / 6 {
-        let o = records::operation_at(operations, i);
-        if o.kind == 1 {
+    'operations: for o in Operations(operations).each() {
+        if o.kind == INSERT {
             place = put_kept(room, place, kept);
             at = put_insert(
                 lent.text,
@@ -117,7 +122,7 @@ fn write(lent: Lent, operations: &[usize], room: &mut [i64], out: &mut [u32]) ->
             );
             kept = 0;
             place += 1;
-        } else if o.kind == 0 {
+        } else if o.kind == DELETE {
             place = put_kept(room, place, kept);
             put_dropped(room, place, o.length);
             kept = 0;
@@ -161,7 +166,7 @@ pub fn to_diff(
     ensures { Diffs (lent_in lent.entry) (operations_of operations.now) room.old out.old room.new out.new result }
 {
     let lengths = check(lent, operations)?;
-    if room.len() / 3 < operations.len() / 6 || out.len() < lengths.inserted {
+    if room.len() / 3 < Operations(operations).count() || out.len() < lengths.inserted {
         let counts = measure(lent, operations);
         if room.len() / 3 < counts.items || out.len() < counts.text {
             return Err(Refusal::Room);

@@ -7,7 +7,7 @@ use mathlib.Core.List.{List, [], ◌∷◌}
 use native.Mathlib.Omega.{arith}
 use lib.ListN.{length}
 use Rattle.records.specs.Operations.{operation_at}
-use Rattle.records.proofs.Operations.{from_more, from_none}
+use Rattle.records.proofs.OperationLaws.{from_more, from_none}
 use Rattle.merging.specs.declared.Op.{Op}
 use Rattle.merging.specs.Operations.{span_of, op_of, ops_from}
 use Rattle.numbers.specs.Sizes.{most}

@@ -8,7 +8,7 @@ use native.Mathlib.Omega.{arith}
 use lib.ListN.{length}
 use Rattle.records.specs.declared.Operation.{Operation}
 use Rattle.records.specs.Operations.{put_operation}
-use Rattle.records.proofs.Operations.{put_answered}
+use Rattle.records.proofs.OperationLaws.{put_answered}
 use Rattle.merging.specs.declared.Op.{Op}
 use Rattle.merging.specs.declared.Op.TheVariants.{Delete, Insert, Retain}
 use Rattle.merging.specs.Lent.{Lent}

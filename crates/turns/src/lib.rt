@@ -12,8 +12,9 @@ ghost use Rattle.turns.specs.Remembering.{Writable, Written, kept_from, Remember
 ghost use Rattle.turns.specs.Emitting.{record_by, Emits};
 
 use merging::Op;
-use operation::{Last, Memory};
-use records::{Operation, Tokens};
+use operation::{Last, Lengths, Memory};
+use records::each::Records;
+use records::{DELETE, INSERT, Operation, Operations, RETAIN, Tokens};
 
 // What is next on a side, the place of the record behind it, and the original text that the list
 // consumed before that one.
@@ -29,8 +30,9 @@ pub fn ahead_of(operations: &[usize], behind: usize, at: usize) -> Ahead
     requires { FirstFits at (list_from operations.now behind at) }
     ensures { Looks operations.now None behind at result }
 {
-    if behind < operations.len() / 6 {
-        let op = merging::op_of(at, records::operation_at(operations, behind));
+    let list = Operations(operations);
+    if behind < list.count() {
+        let op = merging::op_of(at, list.at(behind));
         Ahead {
             next: Some(op),
             behind: behind + 1,
@@ -65,8 +67,8 @@ pub fn put_lengths(spans: &[u32], first: usize, count: usize, work: &mut [u32], 
     requires { ((first + count) * 2 ≤ length spans.now) × (at + count ≤ length work.old) }
     ensures { work.new ≡ placed work.old at (lengths_of (of_spans spans.now) first count) }
 {
-    'lengths: for i in 0..count {
-        work[at + i] = spans[(first + i) * 2 + 1];
+    'lengths: for (i, length) in Lengths(spans).between(first, first + count).enumerate() {
+        work[at + i] = length;
     }
 }
 
@@ -153,7 +155,7 @@ pub fn record_of(side: usize, consumed: usize, a: Op, text: usize) -> Operation
 {
     match a {
         Op::Delete { order, length } => Operation {
-            kind: 0,
+            kind: DELETE,
             order,
             length,
             side,
@@ -161,7 +163,7 @@ pub fn record_of(side: usize, consumed: usize, a: Op, text: usize) -> Operation
             count: 0,
         },
         Op::Insert { first, count, .. } => Operation {
-            kind: 1,
+            kind: INSERT,
             order: consumed,
             length: text,
             side,
@@ -169,7 +171,7 @@ pub fn record_of(side: usize, consumed: usize, a: Op, text: usize) -> Operation
             count,
         },
         Op::Retain { order, length } => Operation {
-            kind: 2,
+            kind: RETAIN,
             order,
             length,
             side,

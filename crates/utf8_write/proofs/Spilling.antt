@@ -5,10 +5,10 @@ use mathlib.Core.List.{List, [], ◌∷◌, ◌++◌}
 use Prim.Native.Nat.{ℕ, zero, suc, ◌+◌, ◌*◌, ◌-◌, ◌≤◌, ◌<◌}
 use native.Mathlib.Omega.{arith}
 use native.Mathlib.Decide.{dec_lt}
-use native.Mathlib.Numerals.{add-one}
 use lib.ListN.{length, get_or, take, drop, length-append, take-append-drop, length-drop, length-take}
-use lib.Seq.{take-suc, take-add, take_all, get_or-drop, get_or-take, length-take-le}
+use lib.Seq.{take-add, take_all, get_or-drop, get_or-take, length-take-le}
 use Rattle.numbers.specs.Steps.{step}
+use Rattle.numbers.specs.Sums.{sum_of}
 use Rattle.numbers.proofs.Steps.{step_yes, step_no}
 use Rattle.std.specs.List.{All}
 use Rattle.std.proofs.lemmas.List.Elements.{All-from_get_or}
@@ -73,19 +73,11 @@ steps x = elim (dec_lt x 0x80) [
   ]
 ]
 
--- one number more of a block
-pub number_more : (s : List ℕ) (k n m : ℕ) → k < length s → n ≡ wide (take k s) → m ≡ length (encode (get_or s k 0)) → n + m ≡ wide (take (k + 1) s)
-number_more s k n m h e g =
-    let t : take (k + 1) s ≡ take k s ++ (get_or s k 0 ∷ []) = rw (add-one k, take-suc s k 0 h) in
-    omega (arith, ap (λ (r : List ℕ). wide r) t, wide_both (take k s) (get_or s k 0 ∷ []), wide_one (get_or s k 0))
-
--- a block more, measured
-pub block_more : (s b r : List ℕ) → s ≡ b ++ r → wide s ≡ wide b + wide r
-block_more s b r e = ap (λ (t : List ℕ). wide t) e ∙ wide_both b r
-
-pub none_left : (s : List ℕ) → length s ≡ 0 → wide s ≡ 0
-none_left [] h = sym wide_none
-none_left (x ∷ s) h = absurd (omega arith)
+-- the bytes of a text, summed up
+pub wide_sum : (s : List ℕ) → sum_of (λ x. length (encode x)) s ≡ wide s
+unfolding sum_of
+wide_sum [] = wide_none
+wide_sum (x ∷ s) = omega (arith, wide_both (x ∷ []) s, wide_one x, wide_sum s)
 
 -- ASCII numbers are their own bytes
 plain_all : (l : List ℕ) → Ascii l 0 (length l) → encode_all l ≡ l
@@ -108,6 +100,17 @@ plain_measured s e h f =
       wide_both (take e s) (drop e s),
       ap length (plain_all (take e s) (λ k a m. rw (get_or-take e s k 0 (omega (arith, length-take-le e s h))) (f k a (omega (arith, length-take-le e s h))))),
       length-take-le e s h,
+    )
+
+-- the ASCII at a text's start, and what the rest sums up to
+pub width_all : (s : List ℕ) (e n : ℕ) → e ≤ length s → Ascii s 0 e → n ≡ sum_of (λ x. length (encode x)) (take (length s - e) (drop e s)) → e + n ≡ wide s
+width_all s e n h f q =
+    omega (
+      arith,
+      q,
+      ap (λ (r : List ℕ). sum_of (λ x. length (encode x)) r) (take_all (length s - e) (drop e s) (omega (arith, length-drop e s))),
+      wide_sum (drop e s),
+      plain_measured s e h f,
     )
 
 -- a number of a part is one of the whole

@@ -20,28 +20,12 @@ fn width(x: u32) -> u32
     1 + numbers::at_least(x, 0x80) + numbers::at_least(x, 0x800) + numbers::at_least(x, 0x10000)
 }
 
-// How many bytes at most 65,536 numbers take.
-fn width_block(src: &[u32]) -> u32
-    requires { length src.now ≤ 65536 }
-    ensures { result ≡ length (encode_all src.now) }
-{
-    let mut n: u32 = 0;
-    'block: for x in src {
-        n += width(*x);
-    }
-    n
-}
-
 // How many bytes a text takes.
 pub fn width_of(text: &[u32]) -> usize
     ensures { result ≡ length (encode_all text.now) }
 {
     let plain = ascii_end::<u32, 16>(text, 0);
-    let mut n = plain;
-    'many: for block in text[plain..].chunks(65536) {
-        n += width_block(block) as usize;
-    }
-    n
+    plain + numbers::sum_by(&text[plain..], width)
 }
 
 // The six low bits under the mark 10.

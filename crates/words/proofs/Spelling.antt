@@ -69,7 +69,7 @@ module _ (text spans keys : List ℕ) (first count : ℕ) (d : List ℕ) (at : �
     long = length_spell text (record { start = from; length = held; key = 0 }) s.inside
 
     -- the range that is held back can be put
-    asks : (from + held ≤ length text) × (to + held ≤ length o)
+    pub asks : (from + held ≤ length text) × (to + held ≤ length o)
     asks = (s.inside, omega (arith, s.ends, s.same, h.place))
 
     module _ {o' : List ℕ} {r : ℕ} (p : Put (range from held) o to o' r) where

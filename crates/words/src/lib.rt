@@ -8,6 +8,7 @@ ghost use Rattle.records.specs.Tokens.{tokens_lent, tokens_from, spelling};
 ghost use Rattle.words.specs.Words.{Lends, first_start};
 
 use records::Tokens;
+use records::each::Records;
 
 // So many code points of the original from a place on.
 pub fn put_original(
@@ -52,8 +53,7 @@ pub fn put_tokens(
     let mut to = at;
     let mut from = first_start(tokens, first, count);
     let mut held = 0;
-    'tokens: for i in first..first + count {
-        let token = tokens.at(i);
+    'tokens: for token in tokens.between(first, first + count) {
         let start = token.start as usize;
         let length = token.length as usize;
         if start == from + held {

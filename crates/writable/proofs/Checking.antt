@@ -1,18 +1,19 @@
 -- The two passes over the items: sums up to a size, and the first item that cannot be written.
 -- What is left of the items decides the whole answer; one law for each way through a turn. Assumes nothing.
 use mathlib.Core.Path.{◌≡◌, refl, sym, ap, ◌∙◌}
-use mathlib.Core.Bool.{Bool, true, false}
+use mathlib.Core.Bool.{Bool, true, false, not, ◌&&◌}
 use mathlib.Core.List.{List, [], ◌∷◌}
 use Prim.Native.Nat.{ℕ, suc, ◌+◌, ◌-◌, ◌/◌, ◌≤◌, ◌<◌, zero-le}
 use native.Mathlib.Nat.{sub-zero}
 use native.Mathlib.Omega.{arith}
 use lib.ListN.{length, take, drop, length-take, length-drop}
 use lib.IntN.{ℤ}
-use lib.Dec.{ltb}
-use borrow.Author.Tests.{lt-ltb, le-ltb, lt-leb, le-leb}
+use lib.Dec.{ltb, leb}
+use borrow.Author.Tests.{lt-ltb, le-ltb, leb-true, leb-false}
 use Rattle.refusal.specs.declared.Refusal.TheVariants.{Record, Size}
 use Rattle.refusal.specs.declared.Refusal.{Refusal}
-use Rattle.std.specs.Prelude.{Ok, Err}
+use Rattle.std.specs.Prelude.{Ok, Err, Some, None}
+use Rattle.room.specs.Choice.{pick}
 use Rattle.diff.proofs.Laws.{refused_by, answered_by}
 use Rattle.verdict.specs.Verdicts.{and_then, accepted}
 use Rattle.verdict.specs.Points.{points_from}
@@ -25,7 +26,7 @@ use Rattle.edit_format.specs.Items.{Item, kept, dropped, added}
 use Rattle.edit_format.specs.Written.{item_lines}
 use Rattle.written_lines.specs.Lengths.{cap}
 use Rattle.writable.specs.Writable.{file_item, file_items, file_of, sizes, shapes, writable}
-use Rattle.writable.specs.Passes.{sums_of, tally_of, checked_by}
+use Rattle.writable.specs.Passes.{sums_of, sums_with, keeps, tally_of, checked_by}
 use Rattle.writable.specs.declared.Sums.{Sums}
 
 -- the file's items from the lent item i on
@@ -48,15 +49,15 @@ pub text_length_lem : (xs : List ℤ) (text : List ℕ) (i : ℕ) {s n : ℕ} �
 text_length_lem xs text i {s} {n} e = let w : s + n ≤ length text = insert_within xs (length text) i e in simp (length-take, length-drop) (omega arith)
 
 -- the sums of the items before i
-pub record Tallying (xs : List ℤ) (text : List ℕ) (i k u a : ℕ) : Type 0 where
-  pub keeps : k ≤ u
-  pub uses : u ≤ 65535
-  pub adds : a ≤ 131070
-  pub kept_sum : kept (file_of xs text) ≡ k + kept (rest xs text i)
-  pub used_sum : kept (file_of xs text) + dropped (file_of xs text) ≡ u + (kept (rest xs text i) + dropped (rest xs text i))
-  pub added_sum : added (file_of xs text) ≡ a + added (rest xs text i)
+pub record Tallying (xs : List ℤ) (text : List ℕ) (s : Sums) (i : ℕ) : Type 0 where
+  pub keeps : s.kept ≤ s.used
+  pub uses : s.used ≤ 65535
+  pub adds : s.added ≤ 131070
+  pub kept_sum : kept (file_of xs text) ≡ s.kept + kept (rest xs text i)
+  pub used_sum : kept (file_of xs text) + dropped (file_of xs text) ≡ s.used + (kept (rest xs text i) + dropped (rest xs text i))
+  pub added_sum : added (file_of xs text) ≡ s.added + added (rest xs text i)
 
-pub tally_begins : (xs : List ℤ) (text : List ℕ) → Tallying xs text 0 0 0 0
+pub tally_begins : (xs : List ℤ) (text : List ℕ) → Tallying xs text (record { kept = 0; used = 0; added = 0 }) 0
 tally_begins xs text = record {
   keeps = zero-le;
   uses = zero-le;
@@ -78,83 +79,90 @@ over_used is h = rw (lt-ltb 65535 (kept is + dropped is) h) (go (ltb 131070 (add
     go true = refl
     go false = refl
 
-module _ {xs : List ℤ} {text : List ℕ} {i k u a : ℕ} (t : Tallying xs text i k u a) where
-  pub tally_retain : {n : ℕ} → i < length xs / 3 → item_at xs (length text) i ≡ Retain n → n ≤ 65535 - u → Tallying xs text (i + 1) (k + n) (u + n) a
-  unfolding file_item kept dropped added
-  tally_retain {n} h e g =
+-- a choice between something and nothing
+pub chosen : {A : Type 0} (t : Bool) (a b : A) → pick t (Some a) None ≡ Some b → (t ≡ true) × (a ≡ b)
+chosen true a b e = (refl, cc)
+chosen false a b e = let z : false ≡ true = cc in (z, cc)
+
+not_chosen : {A : Type 0} (t : Bool) (a : A) → pick t (Some a) None ≡ None → t ≡ false
+not_chosen true a e = cc
+not_chosen false a e = refl
+
+module _ {xs : List ℤ} {text : List ℕ} {s : Sums} {i : ℕ} (t : Tallying xs text s i) (h : i < length xs / 3) where
+  pub tally_on : (x : Lent) {r : Sums} → item_at xs (length text) i ≡ x → Some r ≡ sums_with s x → Tallying xs text r (i + 1)
+  unfolding sums_with file_item kept dropped added
+  tally_on (Retain n) e f =
       let r = rest_at xs text i h e in
+      let c = chosen (leb (s.used + n) 65535) _ _ (sym f) in
+      rw (← c.1)
       record {
         keeps = omega (arith, t.keeps);
-        uses = omega (arith, t.uses);
+        uses = leb-true _ _ c.0;
         adds = t.adds;
         kept_sum = omega (arith, t.kept_sum, ap kept r);
         used_sum = omega (arith, t.used_sum, ap kept r, ap dropped r);
         added_sum = omega (arith, t.added_sum, ap added r);
       }
-
-  pub tally_delete : {n : ℕ} → i < length xs / 3 → item_at xs (length text) i ≡ Delete n → n ≤ 65535 - u → Tallying xs text (i + 1) k (u + n) a
-  unfolding file_item kept dropped added
-  tally_delete {n} h e g =
+  tally_on (Delete n) e f =
       let r = rest_at xs text i h e in
+      let c = chosen (leb (s.used + n) 65535) _ _ (sym f) in
+      rw (← c.1)
       record {
         keeps = omega (arith, t.keeps);
-        uses = omega (arith, t.uses);
+        uses = leb-true _ _ c.0;
         adds = t.adds;
         kept_sum = omega (arith, t.kept_sum, ap kept r);
         used_sum = omega (arith, t.used_sum, ap kept r, ap dropped r);
         added_sum = omega (arith, t.added_sum, ap added r);
       }
-
-  pub tally_insert : {s n : ℕ} → i < length xs / 3 → item_at xs (length text) i ≡ Insert s n → n ≤ 131070 - a → Tallying xs text (i + 1) k u (a + n)
-  unfolding file_item kept dropped added
-  tally_insert {s} {n} h e g =
+  tally_on (Insert a n) e f =
       let r = rest_at xs text i h e in
-      let l : length (take n (drop s text)) ≡ n = text_length_lem xs text i e in
+      let l = text_length_lem xs text i e in
+      let c = chosen (leb (s.added + n) 131070) _ _ (sym f) in
+      rw (← c.1)
       record {
         keeps = t.keeps;
         uses = t.uses;
-        adds = omega (arith, t.adds);
+        adds = leb-true _ _ c.0;
         kept_sum = omega (arith, t.kept_sum, ap kept r);
         used_sum = omega (arith, t.used_sum, ap kept r, ap dropped r);
-        added_sum = omega (arith, t.added_sum, ap added r);
+        added_sum = omega (arith, t.added_sum, ap added r, l);
       }
-
-  pub tally_neither : i < length xs / 3 → item_at xs (length text) i ≡ Neither → Tallying xs text (i + 1) k u a
-  unfolding file_item kept dropped added
-  tally_neither h e =
-      let r = rest_at xs text i h e in
+  tally_on Neither {r} e f =
+      let q = rest_at xs text i h e in
+      let c : r ≡ s = cc in
+      rw c
       record {
         keeps = t.keeps;
         uses = t.uses;
         adds = t.adds;
-        kept_sum = omega (arith, t.kept_sum, ap kept r);
-        used_sum = omega (arith, t.used_sum, ap kept r, ap dropped r);
-        added_sum = omega (arith, t.added_sum, ap added r);
+        kept_sum = omega (arith, t.kept_sum, ap kept q);
+        used_sum = omega (arith, t.used_sum, ap kept q, ap dropped q);
+        added_sum = omega (arith, t.added_sum, ap added q);
       }
 
-  pub retain_over : {n : ℕ} → i < length xs / 3 → item_at xs (length text) i ≡ Retain n → 65535 - u < n → Err Size ≡ tally_of (file_of xs text)
-  unfolding file_item kept dropped
-  retain_over h e g = let r = rest_at xs text i h e in over_used (file_of xs text) (omega (arith, t.uses, t.used_sum, ap kept r, ap dropped r))
-
-  pub delete_over : {n : ℕ} → i < length xs / 3 → item_at xs (length text) i ≡ Delete n → 65535 - u < n → Err Size ≡ tally_of (file_of xs text)
-  unfolding file_item kept dropped
-  delete_over h e g = let r = rest_at xs text i h e in over_used (file_of xs text) (omega (arith, t.uses, t.used_sum, ap kept r, ap dropped r))
-
-  pub insert_over : {s n : ℕ} → i < length xs / 3 → item_at xs (length text) i ≡ Insert s n → 131070 - a < n → Err Size ≡ tally_of (file_of xs text)
-  unfolding file_item added
-  insert_over {s} {n} h e g =
+  pub tally_over : (x : Lent) → item_at xs (length text) i ≡ x → None ≡ sums_with s x → Err Size ≡ tally_of (file_of xs text)
+  unfolding sums_with file_item kept dropped added
+  tally_over (Retain n) e f =
       let r = rest_at xs text i h e in
-      let l : length (take n (drop s text)) ≡ n = text_length_lem xs text i e in
-      over_text (file_of xs text) (omega (arith, t.adds, t.added_sum, ap added r))
+      over_used (file_of xs text) (omega (arith, leb-false _ _ (not_chosen (leb (s.used + n) 65535) _ (sym f)), t.used_sum, ap kept r, ap dropped r))
+  tally_over (Delete n) e f =
+      let r = rest_at xs text i h e in
+      over_used (file_of xs text) (omega (arith, leb-false _ _ (not_chosen (leb (s.used + n) 65535) _ (sym f)), t.used_sum, ap kept r, ap dropped r))
+  tally_over (Insert a n) e f =
+      let r = rest_at xs text i h e in
+      let l = text_length_lem xs text i e in
+      over_text (file_of xs text) (omega (arith, leb-false _ _ (not_chosen (leb (s.added + n) 131070) _ (sym f)), t.added_sum, ap added r, l))
+  tally_over Neither e f = cc
 
-  pub tally_ends : length xs / 3 ≤ i → Ok (record { kept = k; used = u; added = a }) ≡ tally_of (file_of xs text)
-  unfolding tally_of kept dropped added
-  tally_ends h =
-      let r = rest_none xs text i h in
-      let x : kept (file_of xs text) ≡ k = omega (arith, t.kept_sum, ap kept r) in
-      let y : kept (file_of xs text) + dropped (file_of xs text) ≡ u = omega (arith, t.used_sum, ap kept r, ap dropped r) in
-      let z : added (file_of xs text) ≡ a = omega (arith, t.added_sum, ap added r) in
-      rw (le-ltb 131070 (added (file_of xs text)) (omega (arith, t.adds)), le-ltb 65535 (kept (file_of xs text) + dropped (file_of xs text)) (omega (arith, t.uses)), y, x, z)
+pub tally_ends : {xs : List ℤ} {text : List ℕ} {s : Sums} {i : ℕ} → Tallying xs text s i → length xs / 3 ≤ i → Ok s ≡ tally_of (file_of xs text)
+unfolding tally_of kept dropped added
+tally_ends {xs} {text} {s} {i} t h =
+    let r = rest_none xs text i h in
+    let x : kept (file_of xs text) ≡ s.kept = omega (arith, t.kept_sum, ap kept r) in
+    let y : kept (file_of xs text) + dropped (file_of xs text) ≡ s.used = omega (arith, t.used_sum, ap kept r, ap dropped r) in
+    let z : added (file_of xs text) ≡ s.added = omega (arith, t.added_sum, ap added r) in
+    rw (le-ltb 131070 (added (file_of xs text)) (omega (arith, t.adds)), le-ltb 65535 (kept (file_of xs text) + dropped (file_of xs text)) (omega (arith, t.uses)), y, x, z)
 
 -- no item before i is bad, and j says whether the last of them is a keep
 pub record Shaping (xs : List ℤ) (text : List ℕ) (j : Bool) (i : ℕ) : Type 0 where
@@ -167,37 +175,22 @@ module _ {xs : List ℤ} {text : List ℕ} {j : Bool} {i : ℕ} (t : Shaping xs 
   here : {x : Lent} → i < length xs / 3 → item_at xs (length text) i ≡ x → shapes j i (file_item text x ∷ rest xs text (i + 1)) ≡ shapes false 0 (file_of xs text)
   here h e = ap (shapes j i) (sym (rest_at xs text i h e)) ∙ t.same
 
-  pub retain_none : {n : ℕ} → i < length xs / 3 → item_at xs (length text) i ≡ Retain n → n < 1 → Err (Record i) ≡ shapes false 0 (file_of xs text)
-  unfolding file_item shapes
-  retain_none {n} h e g = rw (lt-leb 1 n g) at (here h e)
+  module _ (h : i < length xs / 3) where
+    pub shape_on : (x : Lent) {k : Bool} → item_at xs (length text) i ≡ x → Some k ≡ keeps j x → Shaping xs text k (i + 1)
+    unfolding keeps file_item shapes
+    shape_on (Retain n) e f = let c = chosen (leb 1 n && not j) _ _ (sym f) in record { same = rw (← c.1) (rw c.0 at (here h e)) }
+    shape_on (Delete n) e f = let c = chosen (leb 1 n) _ _ (sym f) in record { same = rw (← c.1) (rw c.0 at (here h e)) }
+    shape_on (Insert a n) e f =
+        let c = chosen (leb 1 n) _ _ (sym f) in
+        record { same = rw (← c.1) (rw (text_length_lem xs text i e, c.0) at (here h e)) }
+    shape_on Neither e f = cc
 
-  pub retain_joined : {n : ℕ} → i < length xs / 3 → item_at xs (length text) i ≡ Retain n → 1 ≤ n → j ≡ true → Err (Record i) ≡ shapes false 0 (file_of xs text)
-  unfolding file_item shapes
-  retain_joined {n} h e g f = rw (le-leb 1 n g, f) at (here h e)
-
-  pub retain_on : {n : ℕ} → i < length xs / 3 → item_at xs (length text) i ≡ Retain n → 1 ≤ n → j ≡ false → Shaping xs text true (i + 1)
-  unfolding file_item shapes
-  retain_on {n} h e g f = record { same = rw (le-leb 1 n g, f) at (here h e) }
-
-  pub delete_none : {n : ℕ} → i < length xs / 3 → item_at xs (length text) i ≡ Delete n → n < 1 → Err (Record i) ≡ shapes false 0 (file_of xs text)
-  unfolding file_item shapes
-  delete_none {n} h e g = rw (lt-leb 1 n g) at (here h e)
-
-  pub delete_on : {n : ℕ} → i < length xs / 3 → item_at xs (length text) i ≡ Delete n → 1 ≤ n → Shaping xs text false (i + 1)
-  unfolding file_item shapes
-  delete_on {n} h e g = record { same = rw (le-leb 1 n g) at (here h e) }
-
-  pub insert_none : {s n : ℕ} → i < length xs / 3 → item_at xs (length text) i ≡ Insert s n → n < 1 → Err (Record i) ≡ shapes false 0 (file_of xs text)
-  unfolding file_item shapes
-  insert_none {s} {n} h e g = rw (text_length_lem xs text i e, lt-leb 1 n g) at (here h e)
-
-  pub insert_on : {s n : ℕ} → i < length xs / 3 → item_at xs (length text) i ≡ Insert s n → 1 ≤ n → Shaping xs text false (i + 1)
-  unfolding file_item shapes
-  insert_on {s} {n} h e g = record { same = rw (text_length_lem xs text i e, le-leb 1 n g) at (here h e) }
-
-  pub neither_bad : i < length xs / 3 → item_at xs (length text) i ≡ Neither → Err (Record i) ≡ shapes false 0 (file_of xs text)
-  unfolding file_item shapes
-  neither_bad h e = here h e
+    pub shape_bad : (x : Lent) → item_at xs (length text) i ≡ x → None ≡ keeps j x → Err (Record i) ≡ shapes false 0 (file_of xs text)
+    unfolding keeps file_item shapes
+    shape_bad (Retain n) e f = rw (not_chosen (leb 1 n && not j) _ (sym f)) at (here h e)
+    shape_bad (Delete n) e f = rw (not_chosen (leb 1 n) _ (sym f)) at (here h e)
+    shape_bad (Insert a n) e f = rw (text_length_lem xs text i e, not_chosen (leb 1 n) _ (sym f)) at (here h e)
+    shape_bad Neither e f = here h e
 
   pub shape_ends : length xs / 3 ≤ i → accepted ≡ shapes false 0 (file_of xs text)
   unfolding shapes

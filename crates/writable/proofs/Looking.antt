@@ -1,9 +1,12 @@
 -- One look at all items: sums, shapes and the length of their lines, where their texts follow one another over all that is lent.
 -- What is summed so far and what is left of the text and of the items give the whole length. Assumes nothing.
-use mathlib.Core.Path.{◌≡◌, refl, ap, ◌∙◌}
-use mathlib.Core.Bool.{Bool, true, false}
+use mathlib.Core.Path.{◌≡◌, refl, sym, ap, ◌∙◌}
+use mathlib.Core.Logic.{◌⊎◌, inl, inr}
+use lib.Dec.{leb}
+use borrow.Author.Tests.{leb-true}
+use mathlib.Core.Bool.{Bool, false}
 use mathlib.Core.List.{List, [], ◌∷◌}
-use Prim.Native.Nat.{ℕ, zero, suc, ◌+◌, ◌*◌, ◌-◌, ◌/◌, ◌≤◌, ◌<◌, zero-le}
+use Prim.Native.Nat.{ℕ, zero, suc, ◌+◌, ◌*◌, ◌/◌, ◌≤◌, ◌<◌, zero-le}
 use native.Mathlib.Omega.{arith}
 use lib.ListN.{length, take, drop, length-append}
 use lib.Seq.{drop-drop}
@@ -19,9 +22,11 @@ use Rattle.written_lines.specs.Lengths.{cap, further}
 use Rattle.written_lines.proofs.Numbers.{few_digits}
 use Rattle.written_lines.proofs.Counting.{add_length, points_further, no_point}
 use Rattle.writable.specs.Writable.{file_item, file_of}
-use Rattle.writable.specs.Passes.{Sound}
-use Rattle.writable.proofs.Checking.{rest, rest_all, rest_at, rest_none, text_length_lem, Tallying, tally_begins, tally_retain, tally_delete, tally_insert, tally_ends, Shaping, shape_begins, retain_on, delete_on, insert_on, shape_ends}
-use Rattle.writable.proofs.Counting.{keep_length, drop_length}
+use Rattle.writable.specs.Passes.{sums_with, keeps, Sound}
+use Rattle.writable.specs.declared.Sums.{Sums}
+use Rattle.std.specs.Prelude.{Some}
+use Rattle.writable.proofs.Checking.{rest, rest_all, rest_at, rest_none, text_length_lem, chosen, Tallying, tally_begins, tally_on, tally_ends, Shaping, shape_begins, shape_on, shape_ends}
+use Rattle.writable.proofs.Counting.{number_length}
 
 further_cut : (n : ℕ) (t : List ℕ) → length (further t) ≡ length (further (take n t)) + length (further (drop n t))
 unfolding further
@@ -41,16 +46,17 @@ pub parted : (t : List ℕ) {p r : ℕ} → (length t ≡ 0 → ⊥) → p ≡ c
 parted [] h e f = absurd (h refl)
 parted (c ∷ cs) h e f = omega (arith, further_points (c ∷ cs) (omega arith))
 
--- the items before i: their sums, that none is bad, and with the text before a the length of their lines
-pub record Looking (xs : List ℤ) (text : List ℕ) (i k u a m : ℕ) (j : Bool) : Type 0 where
-  pub sums : Tallying xs text i k u a
+-- the items before i: their sums, that none is bad, and with the text before the sums' end the length of their lines
+pub record Looking (xs : List ℤ) (text : List ℕ) (s : Sums) (m : ℕ) (j : Bool) (i : ℕ) : Type 0 where
+  pub sums : Tallying xs text s i
   pub shape : Shaping xs text j i
   pub most : i ≤ length xs / 3
-  pub within : a ≤ length text
-  pub small : m ≤ 7 * i + u
-  pub measured : length (item_lines (file_of xs text)) + length (further (drop a text)) ≡ m + length (further text) + length (item_lines (rest xs text i))
+  pub within : s.added ≤ length text
+  pub small : m ≤ 7 * i + s.used
+  pub measured :
+      length (item_lines (file_of xs text)) + length (further (drop s.added text)) ≡ m + length (further text) + length (item_lines (rest xs text i))
 
-pub look_begins : (xs : List ℤ) (text : List ℕ) → Looking xs text 0 0 0 0 0 false
+pub look_begins : (xs : List ℤ) (text : List ℕ) → Looking xs text (record { kept = 0; used = 0; added = 0 }) 0 false 0
 look_begins xs text = record {
   sums = tally_begins xs text;
   shape = shape_begins xs text;
@@ -64,52 +70,56 @@ next_line : (xs : List ℤ) (text : List ℕ) (i : ℕ) {x : Lent} → i < lengt
 unfolding item_lines
 next_line xs text i {x} h e = ap (λ (l : List Item). length (item_lines l)) (rest_at xs text i h e) ∙ length-append (item_line (file_item text x)) (item_lines (rest xs text (i + 1)))
 
-module _ {xs : List ℤ} {text : List ℕ} {i k u a m : ℕ} {j : Bool} (t : Looking xs text i k u a m j) where
-  pub look_retain : {n l : ℕ} → i < length xs / 3 → item_at xs (length text) i ≡ Retain n → n ≤ 65535 - u → 1 ≤ n → j ≡ false → l ≡ cap (5 + length (digits 10 n) + 1) → Looking xs text (i + 1) (k + n) (u + n) a (m + l) true
-  unfolding file_item
-  look_retain {n} h e g f d w = record {
-    sums = tally_retain t.sums h e g;
-    shape = retain_on t.shape h e f d;
-    most = omega arith;
-    within = t.within;
-    small = omega (arith, t.small, few_digits 10 n);
-    measured = omega (arith, t.measured, t.sums.uses, next_line xs text i h e, keep_length n, few_digits 10 n);
-  }
+-- what a number adds to the sums
+with_number : (x : Lent) (s : Sums) {r : Sums} {n : ℕ} → (x ≡ Retain n) ⊎ (x ≡ Delete n) → Some r ≡ sums_with s x → (r.used ≡ s.used + n) × (r.added ≡ s.added)
+unfolding sums_with
+with_number x s {n = n} (inl d) g = let c = (chosen (leb (s.used + n) 65535) _ _ (sym (rw d at g))).1 in (ap (λ q. q.used) (sym c), ap (λ q. q.added) (sym c))
+with_number x s {n = n} (inr d) g = let c = (chosen (leb (s.used + n) 65535) _ _ (sym (rw d at g))).1 in (ap (λ q. q.used) (sym c), ap (λ q. q.added) (sym c))
 
-  pub look_delete : {n l : ℕ} → i < length xs / 3 → item_at xs (length text) i ≡ Delete n → n ≤ 65535 - u → 1 ≤ n → l ≡ cap (5 + length (digits 10 n) + 1) → Looking xs text (i + 1) k (u + n) a (m + l) false
-  unfolding file_item
-  look_delete {n} h e g f w = record {
-    sums = tally_delete t.sums h e g;
-    shape = delete_on t.shape h e f;
-    most = omega arith;
-    within = t.within;
-    small = omega (arith, t.small, few_digits 10 n);
-    measured = omega (arith, t.measured, t.sums.uses, next_line xs text i h e, drop_length n, few_digits 10 n);
-  }
+module _ {xs : List ℤ} {text : List ℕ} {s : Sums} {m : ℕ} {j : Bool} {i : ℕ} (t : Looking xs text s m j i) where
+  module _ {r : Sums} {k : Bool} (h : i < length xs / 3) where
+    pub look_number :
+        {x : Lent} {n l : ℕ} → item_at xs (length text) i ≡ x → Some k ≡ keeps j x → Some r ≡ sums_with s x → (x ≡ Retain n) ⊎ (x ≡ Delete n)
+        → l ≡ cap (5 + length (digits 10 n) + 1) → Looking xs text r (m + l) k (i + 1)
+    look_number {x} {n} e f g d w =
+        let a : Tallying xs text r (i + 1) = tally_on t.sums h x e g in
+        let p = with_number x s d g in
+        record {
+          sums = a;
+          shape = shape_on t.shape h x e f;
+          most = omega arith;
+          within = omega (arith, p.1, t.within);
+          small = omega (arith, p.0, t.small, few_digits 10 n);
+          measured = rw p.1 (omega (arith, p.0, t.measured, a.uses, next_line xs text i h e, number_length text d w, few_digits 10 n));
+        }
 
-  pub look_insert : {s n : ℕ} → length text ≤ 131070 → i < length xs / 3 → item_at xs (length text) i ≡ Insert s n → s ≡ a → 1 ≤ n → Looking xs text (i + 1) k u (a + n) (m + 4) false
-  unfolding file_item
-  look_insert {s} {n} g h e d f =
-      let w : s + n ≤ length text = insert_within xs (length text) i e in
-      let p : List ℕ = take n (drop s text) in
-      let q : length (further (drop n (drop s text))) ≡ length (further (drop (a + n) text)) = ap (λ (l : List ℕ). length (further l)) (drop-drop n s text ∙ ap (λ (b : ℕ). drop (b + n) text) d) in
-      let o : length (further (drop s text)) ≡ length (further (drop a text)) = ap (λ (b : ℕ). length (further (drop b text))) d in
-      record {
-        sums = tally_insert t.sums h e (omega arith);
-        shape = insert_on t.shape h e f;
-        most = omega arith;
-        within = omega arith;
-        small = omega (arith, t.small);
-        measured = omega (arith, t.measured, next_line xs text i h e, add_length p, further_points p (omega (arith, text_length_lem xs text i e)), further_cut n (drop s text), q, o);
-      }
+    pub look_insert : {b n : ℕ} → item_at xs (length text) i ≡ Insert b n → Some k ≡ keeps j (Insert b n) → Some r ≡ sums_with s (Insert b n) → b ≡ s.added → Looking xs text r (m + 4) k (i + 1)
+    unfolding file_item keeps sums_with
+    look_insert {b} {n} e f g d =
+        let w : b + n ≤ length text = insert_within xs (length text) i e in
+        let p : List ℕ = take n (drop b text) in
+        let y : length (further (drop n (drop b text))) ≡ length (further (drop (s.added + n) text)) = ap (λ (l : List ℕ). length (further l)) (drop-drop n b text ∙ ap (λ (z : ℕ). drop (z + n) text) d) in
+        let o : length (further (drop b text)) ≡ length (further (drop s.added text)) = ap (λ (z : ℕ). length (further (drop z text))) d in
+        let c = chosen (leb (s.added + n) 131070) _ _ (sym g) in
+        let z = leb-true 1 n (chosen (leb 1 n) _ _ (sym f)).0 in
+        let u : r.used ≡ s.used = ap (λ q. q.used) (sym c.1) in
+        let v : r.added ≡ s.added + n = ap (λ q. q.added) (sym c.1) in
+        record {
+          sums = tally_on t.sums h (Insert b n) e g;
+          shape = shape_on t.shape h (Insert b n) e f;
+          most = omega arith;
+          within = omega arith;
+          small = omega (arith, t.small);
+          measured = rw v (omega (arith, t.measured, next_line xs text i h e, add_length p, further_points p (omega (arith, text_length_lem xs text i e)), further_cut n (drop b text), y, o));
+        }
 
   pub look_small : length xs / 3 ≤ 8192 → m ≤ 1099511627776
   look_small h = omega (arith, t.small, t.most, t.sums.uses)
 
-  pub look_ends : {b r : ℕ} → length xs / 3 ≤ i → length text ≤ a → b ≡ cap (length (further text)) → r ≡ cap (m + b) → Sound (file_of xs text) (record { kept = k; used = u; added = a }) r
+  pub look_ends : {b r : ℕ} → length xs / 3 ≤ i → length text ≤ s.added → b ≡ cap (length (further text)) → r ≡ cap (m + b) → Sound (file_of xs text) s r
   unfolding item_lines
   look_ends h g e f = record {
     fits = tally_ends t.sums h;
     good = shape_ends t.shape h;
-    lines = omega (arith, t.measured, ap length (no_point text a g), ap (λ (l : List Item). length (item_lines l)) (rest_none xs text i h));
+    lines = omega (arith, t.measured, ap length (no_point text s.added g), ap (λ (l : List Item). length (item_lines l)) (rest_none xs text i h));
   }

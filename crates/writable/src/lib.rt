@@ -3,13 +3,13 @@
 #![tactic(auto)]
 
 ghost use Rattle.std.specs.Prelude.{◌≡◌, false, ◌/◌, ◌<◌, ◌≤◌, length, IfSome};
-ghost use Rattle.edit_format.specs.Written.{item_line, item_lines};
-ghost use Rattle.diff.specs.Items.{item_at};
+ghost use Rattle.edit_format.specs.Written.{item_lines};
 ghost use Rattle.written_lines.specs.Lengths.{cap, further};
-ghost use Rattle.writable.specs.Writable.{file_item, file_of, shapes, writable};
-ghost use Rattle.writable.specs.Passes.{tally_of, checked_by, Sound};
+ghost use Rattle.writable.specs.Writable.{file_of, shapes, writable};
+ghost use Rattle.writable.specs.Passes.{sums_with, keeps, tally_of, checked_by, Sound};
 
 use diff::diff::{Item, Items};
+use records::each::Records;
 use refusal::Refusal;
 
 // What the items keep of an original, use of it, and add.
@@ -20,6 +20,13 @@ pub struct Sums {
     pub added: usize,
 }
 
+// The sums of no items.
+const NOTHING: Sums = Sums {
+    kept: 0,
+    used: 0,
+    added: 0,
+};
+
 // What is known of items that can be written: their sums, and the length of all their lines.
 #[derive(Clone, Copy, Debug, PartialEq, Eq)]
 pub struct Checked {
@@ -27,38 +34,55 @@ pub struct Checked {
     pub lines: usize,
 }
 
+impl Sums {
+    // The sums with one item more; none where that passes a size.
+    #[tactic(auto, unfolding(crate::specs::Passes::sums_with))]
+    fn with(self, item: Item) -> Option<Sums>
+        requires { (self.kept ≤ self.used) × (self.used ≤ 65535) × (self.added ≤ 131070) }
+        ensures { result ≡ sums_with self item }
+    {
+        match item {
+            Item::Retain(n) if n <= 65535 - self.used => Some(Sums {
+                kept: self.kept + n,
+                used: self.used + n,
+                ..self
+            }),
+            Item::Delete(n) if n <= 65535 - self.used => Some(Sums {
+                used: self.used + n,
+                ..self
+            }),
+            Item::Insert { start: _, length } if length <= 131070 - self.added => Some(Sums {
+                added: self.added + length,
+                ..self
+            }),
+            Item::Neither => Some(self),
+            _ => None,
+        }
+    }
+}
+
+// Whether an item is a keep; none where no line can say it: it has no length, is a keep behind another, or is neither number nor text.
+#[tactic(auto, unfolding(crate::specs::Passes::keeps))]
+fn keeps(item: Item, joined: bool) -> Option<bool>
+    ensures { result ≡ keeps joined item }
+{
+    match item {
+        Item::Retain(n) if 1 <= n && !joined => Some(true),
+        Item::Delete(n) if 1 <= n => Some(false),
+        Item::Insert { start: _, length } if 1 <= length => Some(false),
+        _ => None,
+    }
+}
+
 // Refusal 3 by the items: the sums stop at the first step that passes a size.
 fn sum_items(items: Items) -> Result<Sums, Refusal>
     ensures { result ≡ tally_of (file_of items.entry.numbers.now items.entry.text.now) }
 {
-    let mut kept: u64 = 0;
-    let mut used: u64 = 0;
-    let mut added: usize = 0;
-    'items: for i in 0..items.count() {
-        match items.at(i) {
-            Item::Retain(n) => {
-                if 65535 - used < n {
-                    return Err(Refusal::Size);
-                }
-                kept += n;
-                used += n;
-            }
-            Item::Delete(n) => {
-                if 65535 - used < n {
-                    return Err(Refusal::Size);
-                }
-                used += n;
-            }
-            Item::Insert { start: _, length } => {
-                if 131070 - added < length {
-                    return Err(Refusal::Size);
-                }
-                added += length;
-            }
-            Item::Neither => {}
-        }
+    let mut sums = NOTHING;
+    'items: for item in items.each() {
+        sums = sums.with(item).ok_or(Refusal::Size)?;
     }
-    Ok(Sums { kept, used, added })
+    Ok(sums)
 }
 
 // Refusal 1: the first item that no line can say.
@@ -66,53 +90,27 @@ fn first_bad(items: Items) -> Result<(), Refusal>
     ensures { result ≡ shapes false 0 (file_of items.entry.numbers.now items.entry.text.now) }
 {
     let mut joined = false;
-    'items: for i in 0..items.count() {
-        match items.at(i) {
-            Item::Retain(n) => {
-                if n < 1 || joined {
-                    return Err(Refusal::Record { index: i });
-                }
-                joined = true;
-            }
-            Item::Delete(n) => {
-                if n < 1 {
-                    return Err(Refusal::Record { index: i });
-                }
-                joined = false;
-            }
-            Item::Insert { start: _, length } => {
-                if length < 1 {
-                    return Err(Refusal::Record { index: i });
-                }
-                joined = false;
-            }
-            Item::Neither => return Err(Refusal::Record { index: i }),
-        }
+    'items: for (i, item) in items.each().enumerate() {
+        joined = keeps(item, joined).ok_or(Refusal::Record { index: i })?;
     }
     Ok(())
 }
 
-// The length of an item's line.
-fn item_length(items: Items, i: usize) -> usize
-    requires { i < length items.numbers.now / 3 }
-    ensures { result ≡ cap (length (item_line (file_item items.entry.text.now (item_at items.entry.numbers.now (length items.entry.text.now) i)))) }
-{
-    match items.at(i) {
-        Item::Retain(n) | Item::Delete(n) => written_lines::line_length(5, n),
-        Item::Insert { start, length } => written_lines::plus(
-            5,
-            written_lines::points_length(&items.text[start..start + length]),
-        ),
-        Item::Neither => 5,
-    }
-}
-
+// The length of all items' lines.
 fn items_length(items: Items) -> usize
     ensures { result ≡ cap (length (item_lines (file_of items.entry.numbers.now items.entry.text.now))) }
 {
     let mut sum: usize = 0;
-    'items: for i in 0..items.count() {
-        sum = written_lines::plus(sum, item_length(items, i));
+    'items: for item in items.each() {
+        let line = match item {
+            Item::Retain(n) | Item::Delete(n) => written_lines::line_length(5, n),
+            Item::Insert { start, length } => written_lines::plus(
+                5,
+                written_lines::points_length(&items.text[start..start + length]),
+            ),
+            Item::Neither => 5,
+        };
+        sum = written_lines::plus(sum, line);
     }
     sum
 }
@@ -133,46 +131,24 @@ fn look(items: Items) -> Option<Checked>
     requires { (length items.numbers.now / 3 ≤ 8192) × (length items.text.now ≤ 131070) }
     ensures { IfSome result (λ c. Sound (file_of items.entry.numbers.now items.entry.text.now) c.sums c.lines) }
 {
-    let mut kept: u64 = 0;
-    let mut used: u64 = 0;
-    let mut added: usize = 0;
+    let mut sums = NOTHING;
     let mut lines: usize = 0;
-    let mut keeps = false;
-    'look: for i in 0..items.count() {
-        match items.at(i) {
-            Item::Retain(n) => {
-                if 65535 - used < n || n < 1 || keeps {
-                    return None;
-                }
-                lines += written_lines::line_length(5, n);
-                kept += n;
-                used += n;
-                keeps = true;
-            }
-            Item::Delete(n) => {
-                if 65535 - used < n || n < 1 {
-                    return None;
-                }
-                lines += written_lines::line_length(5, n);
-                used += n;
-                keeps = false;
-            }
-            Item::Insert { start, length } => {
-                if start != added || length < 1 {
-                    return None;
-                }
-                lines += 4;
-                added += length;
-                keeps = false;
-            }
-            Item::Neither => return None,
+    let mut joined = false;
+    'look: for item in items.each() {
+        joined = keeps(item, joined)?;
+        let more = sums.with(item)?;
+        match item {
+            Item::Retain(n) | Item::Delete(n) => lines += written_lines::line_length(5, n),
+            Item::Insert { start, length: _ } if start == sums.added => lines += 4,
+            _ => return None,
         }
+        sums = more;
     }
-    if added < items.text.len() {
+    if sums.added < items.text.len() {
         return None;
     }
     Some(Checked {
-        sums: Sums { kept, used, added },
+        sums,
         lines: written_lines::plus(lines, parted_length(items.text)),
     })
 }

@@ -1,18 +1,17 @@
 -- The length of code points in hex: how many digits a number has, how many a block of them, and all of a line.
 -- All digits of a number but the last are those of its sixteenth. Assumes nothing.
-use mathlib.Core.Path.{◌≡◌, refl, ap, ◌∙◌}
-use mathlib.Core.List.{List, [], ◌∷◌, ◌++◌}
+use mathlib.Core.Path.{◌≡◌, refl, ap}
+use mathlib.Core.List.{List, [], ◌∷◌}
 use Prim.Native.Nat.{ℕ, ◌+◌, ◌-◌, ◌/◌, ◌≤◌, ◌<◌}
-use native.Mathlib.Numerals.{add-one}
 use native.Mathlib.Omega.{arith}
 use native.Mathlib.Decide.{dec_lt}
-use lib.ListN.{length, get_or, take, length-append}
-use lib.Seq.{take-suc, take_all}
+use lib.ListN.{length, length-append}
 use Rattle.numbers.specs.Steps.{step}
+use Rattle.numbers.specs.Sums.{sum_of}
 use Rattle.numbers.proofs.Steps.{step_yes, step_no}
 use Rattle.edit_format.specs.Digits.{digits}
 use Rattle.edit_format.specs.Written.{points}
-use Rattle.written_lines.specs.Lengths.{further, hexes}
+use Rattle.written_lines.specs.Lengths.{further}
 use Rattle.written_lines.proofs.Numbers.{one_digit, one_less}
 use Rattle.written_lines.proofs.Counting.{points_further}
 
@@ -63,34 +62,17 @@ hex_steps n h = elim (dec_lt n 16) [
   ]
 ]
 
-pub no_hexes : 0 ≡ hexes []
-unfolding hexes
-no_hexes = refl
-
-hexes_one : (c : ℕ) → hexes (c ∷ []) ≡ length (digits 16 c)
-unfolding hexes
-hexes_one c = omega arith
-
-pub hexes_both : (s t : List ℕ) → hexes (s ++ t) ≡ hexes s + hexes t
-unfolding hexes
-hexes_both [] t = omega arith
-hexes_both (c ∷ s) t = omega (arith, hexes_both s t)
-
-pub hexes_more : (s : List ℕ) (k n m : ℕ) → k < length s → n ≡ hexes (take k s) → m ≡ length (digits 16 (get_or s k 0)) → n + m ≡ hexes (take (k + 1) s)
-hexes_more s k n m h e g =
-    let t : take (k + 1) s ≡ take k s ++ (get_or s k 0 ∷ []) = rw (add-one k, take-suc s k 0 h) in
-    omega (arith, ap (λ (r : List ℕ). hexes r) t, hexes_both (take k s) (get_or s k 0 ∷ []), hexes_one (get_or s k 0))
-
-pub hexes_all : (s : List ℕ) (k n : ℕ) → length s ≤ k → n ≡ hexes (take k s) → n ≡ hexes s
-hexes_all s k n h e = e ∙ ap (λ (r : List ℕ). hexes r) (take_all k s h)
+-- how many hexadecimal digits numbers have together
+abbrev pub hexes : List ℕ → ℕ
+hexes = sum_of (λ c. length (digits 16 c))
 
 further_length : (cs : List ℕ) → length (further cs) ≡ length cs + hexes cs
-unfolding further hexes
+unfolding further sum_of
 further_length [] = refl
 further_length (c ∷ cs) = omega (arith, length-append (digits 16 c) (further cs), further_length cs)
 
 -- the digits and a space between each two
 pub points_length : (t : List ℕ) → length t - 1 + hexes t ≡ length (points t)
-unfolding points hexes
+unfolding points sum_of
 points_length [] = refl
 points_length (c ∷ cs) = omega (arith, ap length (points_further c cs), length-append (digits 16 c) (further cs), further_length cs)

@@ -1,5 +1,5 @@
 -- What the lines of an edit file are measured by: lengths as they are held, code points in hexadecimal. Assumes nothing.
-use Rattle.std.specs.Prelude.{ℕ, ◌+◌, ◌/◌, ◌%◌, min, List, [], ◌∷◌, ◌++◌, length}
+use Rattle.std.specs.Prelude.{ℕ, ◌/◌, ◌%◌, min, List, [], ◌∷◌, ◌++◌}
 use Rattle.edit_format.specs.Digits.{digit, digits}
 
 -- a length as it is held: exact below the cap, which is above every file's
@@ -14,8 +14,3 @@ further (c ∷ cs) = 32 ∷ digits 16 c ++ further cs
 -- the last two hexadecimal digits of a number
 unfoldable pub last_two : ℕ → List ℕ
 last_two c = digit (c / 16 % 16) ∷ digit (c % 16) ∷ []
-
--- how many hexadecimal digits numbers have together
-unfoldable pub hexes : List ℕ → ℕ
-hexes [] = 0
-hexes (c ∷ cs) = length (digits 16 c) + hexes cs

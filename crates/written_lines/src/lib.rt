@@ -6,7 +6,7 @@ ghost use Rattle.room.specs.Placed.{Put};
 ghost use Rattle.edit_format.specs.Digits.{digit, digits};
 ghost use Rattle.edit_format.specs.Items.{Add};
 ghost use Rattle.edit_format.specs.Written.{points, number_line, item_line};
-ghost use Rattle.written_lines.specs.Lengths.{cap, further, last_two, hexes};
+ghost use Rattle.written_lines.specs.Lengths.{cap, further, last_two};
 
 // How many decimal digits a number has: most have few, and are measured without a division.
 #[tactic(auto, using(crate::proofs::Numbers::one_ten, crate::proofs::Numbers::tens_2, crate::proofs::Numbers::tens_3, crate::proofs::Numbers::tens_4, crate::proofs::Numbers::tens_5, crate::proofs::Numbers::five_less, crate::proofs::Numbers::few_digits))]
@@ -117,18 +117,6 @@ fn hex_width(c: u32) -> u32
         + numbers::at_least(c, 0x10000000)
 }
 
-// How many hexadecimal digits at most 65,536 numbers have. No way out before the end: it is made of vectors.
-fn hex_block(block: &[u32]) -> u32
-    requires { length block.now ≤ 65536 }
-    ensures { result ≡ hexes block.now }
-{
-    let mut count: u32 = 0;
-    'block: for c in block {
-        count += hex_width(*c);
-    }
-    count
-}
-
 // A sum of lengths, held up to the cap.
 pub fn plus(a: usize, b: usize) -> usize
     requires { a ≤ 1099511627776 }
@@ -149,11 +137,8 @@ pub fn line_length(key: usize, n: u64) -> usize
 pub fn points_length(text: &[u32]) -> usize
     ensures { result ≡ cap (length (points text.now)) }
 {
-    let mut sum = plus(0, text.len().saturating_sub(1));
-    'parts: for block in text.chunks(65536) {
-        sum = plus(sum, hex_block(block) as usize);
-    }
-    sum
+    let spaces = plus(0, text.len().saturating_sub(1));
+    plus(spaces, numbers::sum_by(text, hex_width))
 }
 
 // A key, a decimal and LF at a place.

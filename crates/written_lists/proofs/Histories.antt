@@ -10,12 +10,12 @@ use Rattle.room.proofs.Answers.{at_start}
 use Rattle.room.proofs.Placing.{placed_none, placed_length, placed_more}
 use Rattle.records.specs.declared.Operation.{Operation}
 use Rattle.records.specs.Operations.{operation_at, operations_of}
-use Rattle.records.proofs.Operations.{from_more, from_none, length_of_lem}
+use Rattle.records.proofs.OperationLaws.{from_more, from_none, length_of_lem}
 use Rattle.merging.specs.Lent.{Lent}
 use Rattle.merging.specs.Outputs.{Span, history_text, flat_spans}
 use Rattle.written_lists.specs.Parts.{words_by, span_by, history_by, Lies, AllLie, Told, Wrote}
 use Rattle.written_lists.proofs.Parts.{span_is}
-use Rattle.written_lists.proofs.Texts.{left, left_all, Gives, Filling, fill_begins, fill_ends, fill_fits, fill_on, lie_all, lie_first, lie_rest, Writing}
+use Rattle.written_lists.proofs.Texts.{left, left_all, Gives, Filling, fill_begins, fill_ends, fill_fits, fill_on, lie_all, lie_first, lie_rest}
 
 -- the text of a list's spans
 abbrev told_by : Lent → List Operation → List ℕ
@@ -87,8 +87,3 @@ module _ (lent : Lent) (xs h d : List ℕ) where
                 ∙ ap (placed h' (i * 4)) (sym next)
                 ∙ t.stands);
           }
-
--- text and history in one pass
-pub record Both (lent : Lent) (xs d h t d' h' t' : List ℕ) (i at to : ℕ) : Type 0 where
-  pub text : Writing lent xs d d' i at
-  pub history : Telling lent xs h t h' t' i to

@@ -7,7 +7,7 @@ use native.Mathlib.Omega.{arith}
 use lib.ListN.{length, take}
 use lib.Seq.{get_or-take, length-take-le}
 use Rattle.records.specs.Cursors.{cursors_from, cursors_of}
-use Rattle.records.proofs.Cursors.{length_of_lem}
+use Rattle.records.proofs.CursorLaws.{length_of_lem}
 
 from_take : (xs : List ℕ) (n i k : ℕ) → (i + k) * 2 ≤ n → cursors_from (take n xs) i k ≡ cursors_from xs i k
 unfolding cursors_from

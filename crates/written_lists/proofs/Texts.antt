@@ -11,7 +11,7 @@ use Rattle.room.proofs.Answers.{at_start}
 use Rattle.room.proofs.Placing.{placed_none, placed_length, placed_more}
 use Rattle.records.specs.declared.Operation.{Operation}
 use Rattle.records.specs.Operations.{operation_at, operations_from, operations_of}
-use Rattle.records.proofs.Operations.{from_more, from_none}
+use Rattle.records.proofs.OperationLaws.{from_more, from_none}
 use Rattle.merging.specs.Lent.{Lent}
 use Rattle.written_lists.specs.Parts.{given_by, text_by, Lies, AllLie}
 

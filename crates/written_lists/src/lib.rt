@@ -12,15 +12,15 @@ ghost use Rattle.sizes.specs.Texts.{total};
 ghost use Rattle.merging.specs.Outputs.{history_text as text_of_history};
 ghost use Rattle.written_lists.specs.Parts.{words_by, given_by, text_by, span_by, history_by, removed_by, side_of, Lies, AllLie, Told, Wrote};
 
-use records::{Lent, Operation};
+use records::each::Records;
+use records::{Cursors, DELETE, INSERT, Lent, Operation, Operations, RETAIN};
 
 // The words of an operation: a range of the original, or what its tokens spell.
-// Kept so: here and below a kind is a number, as the C interface lends it.
 fn put_words(lent: Lent, o: Operation, out: &mut [u32], at: usize) -> usize
     requires { Lies (lent_in lent) o × (at + length (words_by (lent_in lent) o) ≤ length out.old) }
     ensures { Put (words_by (lent_in lent.entry) o) out.old at out.new result }
 {
-    if o.kind == 1 {
+    if o.kind == INSERT {
         words::put_tokens(lent.text, lent.tokens, o.first, o.count, out, at)
     } else {
         words::put_original(lent.original, o.order, o.length, out, at)
@@ -32,7 +32,7 @@ fn put_text(lent: Lent, o: Operation, out: &mut [u32], at: usize) -> usize
     requires { Lies (lent_in lent) o × (at + length (given_by (lent_in lent) o) ≤ length out.old) }
     ensures { Put (given_by (lent_in lent.entry) o) out.old at out.new result }
 {
-    if o.kind == 0 {
+    if o.kind == DELETE {
         at
     } else {
         put_words(lent, o, out, at)
@@ -43,7 +43,7 @@ fn put_text(lent: Lent, o: Operation, out: &mut [u32], at: usize) -> usize
 fn side_of(o: Operation) -> usize
     ensures { result ≡ side_of o }
 {
-    if o.kind == 2 { 0 } else { o.side }
+    if o.kind == RETAIN { 0 } else { o.side }
 }
 
 // An operation's span and its words, each into its room. Kinds of spans are those of operations,
@@ -60,7 +60,11 @@ fn tell(
     ensures { Told (span_by (lent_in lent.entry) o) history.old out.old i at history.new out.new result }
 {
     let next = put_words(lent, o, out, at);
-    room::put(&[2 - o.kind, side_of(o), at, next - at], history, i * 4);
+    room::put(
+        &[RETAIN - o.kind, side_of(o), at, next - at],
+        history,
+        i * 4,
+    );
     next
 }
 
@@ -71,8 +75,7 @@ pub fn write_text(lent: Lent, operations: &[usize], out: &mut [u32])
     ensures { out.new ≡ answered (text_by (lent_in lent.entry) (operations_of operations.now)) out.old }
 {
     let mut at = 0;
-    'text: for i in 0..operations.len() / 6 {
-        let o = records::operation_at(operations, i);
+    'text: for o in Operations(operations).each() {
         at = put_text(lent, o, out, at);
     }
 }
@@ -83,8 +86,7 @@ pub fn write_history(lent: Lent, operations: &[usize], history: &mut [usize], ou
     ensures { Wrote (history_by (lent_in lent.entry) (operations_of operations.now)) history.old out.old history.new out.new }
 {
     let mut at = 0;
-    'history: for i in 0..operations.len() / 6 {
-        let o = records::operation_at(operations, i);
+    'history: for (i, o) in Operations(operations).each().enumerate() {
         at = tell(lent, o, i, history, out, at);
     }
 }
@@ -102,8 +104,7 @@ pub fn write_all(
 {
     let mut at = 0;
     let mut told = 0;
-    'all: for i in 0..operations.len() / 6 {
-        let o = records::operation_at(operations, i);
+    'all: for (i, o) in Operations(operations).each().enumerate() {
         at = put_text(lent, o, out, at);
         told = tell(lent, o, i, history, history_text, told);
     }
@@ -114,21 +115,21 @@ pub fn sort_cursors(cursors: &[usize], moved: &mut [usize])
     requires { length (cursors_of cursors.now) * 2 ≤ length moved.old }
     ensures { moved.new ≡ answered (flat_cursors (sorted (cursors_of cursors.now))) moved.old }
 {
-    let whole = cursors.len() / 2 * 2;
+    let whole = Cursors(cursors).count() * 2;
     cursors::sort_into(&cursors[..whole], moved);
 }
 
 fn removed_by(o: Operation) -> usize
     ensures { result ≡ removed_by o }
 {
-    if o.kind == 0 { o.length } else { 0 }
+    if o.kind == DELETE { o.length } else { 0 }
 }
 
 // The code points that a list's operations delete, capped.
 pub fn removed(operations: &[usize]) -> usize
     ensures { result ≡ min 1000000 (total removed_by (operations_of operations.now)) }
 {
-    sizes::total_by(operations, removed_by)
+    sizes::total_by(Operations(operations), removed_by)
 }
 
 // Whether two rooms are as long as asked: `room` numbers for so many records of WIDTH numbers, `out` code

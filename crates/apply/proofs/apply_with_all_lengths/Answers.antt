@@ -1,12 +1,12 @@
 -- `apply_with_all_lengths` counts what `apply_with_all` writes.
 -- By the verdict, as Answering says.
 use Rattle.apply.proofs.Answering.{text_small, all_refuse, all_count}
-use Rattle.records.proofs.Cursors as cursors
-use Rattle.records.proofs.Operations.{length_of_lem}
+use Rattle.records.proofs.CursorLaws as cursors
+use Rattle.records.proofs.OperationLaws.{length_of_lem}
 use Rattle.merging.specs.Lent.{lent_in}
 use Rattle.records.specs.Cursors.{cursors_of}
 use Rattle.records.specs.Operations.{operations_of}
-use mathlib.Core.Path.{sym}
+use mathlib.Core.Path.{sym, ◌∙◌}
 use native.Mathlib.Omega.{arith}
 use Rattle.std.proofs.lemmas.Result.{err_from_is_err_and}
 use Rattle.apply.proofs.apply_with_all_lengths.Goals as goal
@@ -28,5 +28,5 @@ pub returns : goal.returns
 returns c = let L = lent_in c.args.lent in
     let os = operations_of c.args.list.operations.now in
     let cs = cursors_of c.args.list.cursors.now in
-    all_count L os cs c.other_limits.ensures _ c.in_ok-lengths.ensures _ _ _ (sym (cursors.length_of_lem c.args.list.cursors.now))
-    (sym (length_of_lem c.args.list.operations.now)) c.removed-gone.ensures
+    all_count L os cs c.other_limits.ensures _ c.in_ok-lengths.ensures _ _ _ (c.count.ensures ∙ sym (cursors.length_of_lem c.args.list.cursors.now))
+    (c.count-2.ensures ∙ sym (length_of_lem c.args.list.operations.now)) c.removed-gone.ensures

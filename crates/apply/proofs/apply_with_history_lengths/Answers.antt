@@ -1,10 +1,10 @@
 -- `apply_with_history_lengths` counts what `apply_with_history` writes.
 -- By the verdict, as Answering says.
 use Rattle.apply.proofs.Answering.{checks_none, text_small, told_refuse, told_count}
-use Rattle.records.proofs.Operations.{length_of_lem}
+use Rattle.records.proofs.OperationLaws.{length_of_lem}
 use Rattle.merging.specs.Lent.{lent_in}
 use Rattle.records.specs.Operations.{operations_of}
-use mathlib.Core.Path.{sym}
+use mathlib.Core.Path.{sym, ◌∙◌}
 use mathlib.Core.List.{[]}
 use native.Mathlib.Omega.{arith}
 use Rattle.std.proofs.lemmas.Result.{err_from_is_err_and}
@@ -24,4 +24,4 @@ returns-in_err-lengths c = let p = err_from_is_err_and c.from_residual.result c.
 pub returns : goal.returns
 returns c = let L = lent_in c.args.lent in
     let os = operations_of c.args.operations.now in
-    told_count L os c.other_limits.ensures _ (checks_none L os c.other_limits.result c.in_ok-lengths.ensures) _ _ (sym (length_of_lem c.args.operations.now)) c.removed-gone.ensures
+    told_count L os c.other_limits.ensures _ (checks_none L os c.other_limits.result c.in_ok-lengths.ensures) _ _ (c.count.ensures ∙ sym (length_of_lem c.args.operations.now)) c.removed-gone.ensures

@@ -6,4 +6,4 @@ pub returns-in-Ok : goal.returns-in-Ok
 returns-in-Ok c =
     let t = c.args.lent in
     good_list c.args.limits _ _ t.tokens.spans.now t.tokens.keys.now c.args.list.operations.now c.args.list.cursors.now c.in_ok-sums.sums _ c.requires.0 c.requires.1
-    c.if-limits-list.false c.if-limits-list-2.false c.in_ok-sums.ensures c.check_cursors.ensures c.in-Ok.is
+    (rw c.count.ensures at c.if-limits-count.false) (rw c.count-2.ensures at c.if-limits-count-2.false) c.in_ok-sums.ensures c.check_cursors.ensures c.in-Ok.is

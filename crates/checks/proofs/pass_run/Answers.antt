@@ -1,17 +1,18 @@
-use Rattle.checks.proofs.Passing.{run_begins, run_on, run_ends}
-use native.Mathlib.Omega.{arith}
-use mathlib.Core.Path.{refl, sym, ◌∙◌}
+use Rattle.checks.proofs.Passing.{run_on, run_ends}
+use Rattle.records.proofs.EachLaws.{comes_more, comes_is, comes_on, all_came}
+use Rattle.std.proofs.Common.{sym, ◌∙◌}
 use Rattle.checks.proofs.pass_run.Goals as goal
 
-pub run-init : goal.run-init
-run-init c = run_begins _ _ _ _ _ _ refl
-
-pub capped-sum-requires : goal.capped-sum-requires
-capped-sum-requires c = c.run.invariant.adds.small
-
 pub run-preserved : goal.run-preserved
-run-preserved c = run_on c.run.invariant c.at-t.result _ c.run-test.true c.at-t.ensures c.if-t-eq0.false
-    (sym c.in_text.ensures ∙ c.if-not-in_text.false) (c.capped-sum.ensures ∙ rw c.wide.ensures)
+run-preserved c =
+    let i = c.run.invariant in
+    let s = c.in-Some.ensures.steps in
+    record {
+      reads = comes_on i.reads s;
+      runs = rw s.on
+          (run_on i.runs c.in-Some.t _ (comes_more i.reads s) (comes_is i.reads s) c.if-t-eq0.false (sym c.in_text.ensures ∙ c.if-not-in_text.false)
+          c.capped-sum.ensures);
+    }
 
 pub returns : goal.returns
-returns c = run_ends c.run.invariant (omega arith)
+returns c = run_ends c.run.invariant.runs (all_came c.run.invariant.reads c.in-None.ensures.steps)

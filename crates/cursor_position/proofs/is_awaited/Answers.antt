@@ -5,8 +5,10 @@ use borrow.Author.Tests.{le-ltb}
 use mathlib.Core.Path.{◌∙◌}
 use Rattle.cursor_position.proofs.is_awaited.Goals as goal
 
-pub returns-then-p-cursors : goal.returns-then-p-cursors
-returns-then-p-cursors c = waits_first _ _ c.args.p c.cursor_at.result c.if-p-cursors.true c.cursor_at.ensures
+pub returns-then-p-count : goal.returns-then-p-count
+returns-then-p-count c = waits_first _ _ c.args.p c.at.result (rw c.count.ensures at c.if-p-count.true) c.at.ensures
 
-pub returns-else-p-cursors : goal.returns-else-p-cursors
-returns-else-p-cursors c = le-ltb _ _ c.if-p-cursors.false ∙ waits_none _ _ c.args.p c.if-p-cursors.false
+pub returns-else-p-count : goal.returns-else-p-count
+returns-else-p-count c =
+    let l = rw c.count.ensures at c.if-p-count.false in
+    rw c.count.ensures (le-ltb _ _ l ∙ waits_none _ _ c.args.p l)

@@ -15,31 +15,31 @@ pub stream_priority-priority-requires : goal.stream_priority-priority-requires
 stream_priority-priority-requires c = record { ready = accepted_ready c.requires.left_accepted; ready_2 = accepted_ready c.requires.right_accepted }
 
 pub slice_bounds-lefts-end : goal.slice_bounds-lefts-end
-slice_bounds-lefts-end c = part_most c.args.left.cursors.now _ _ c.sort_into.ensures (short c.args.left.cursors.now c.requires.left_accepted.cursors_most)
+slice_bounds-lefts-end c = part_most c.args.left.cursors.now _ _ c.count-left_end.ensures c.sort_into.ensures (short c.args.left.cursors.now c.requires.left_accepted.cursors_most)
 
 pub slice_bounds-run-end : goal.slice_bounds-run-end
-slice_bounds-run-end c = part_length c.args.left.cursors.now _ _ c.sort_into.ensures (short c.args.left.cursors.now c.requires.left_accepted.cursors_most)
+slice_bounds-run-end c = part_length c.args.left.cursors.now _ _ c.count-left_end.ensures c.sort_into.ensures (short c.args.left.cursors.now c.requires.left_accepted.cursors_most)
 
 pub slice_bounds-rights-end : goal.slice_bounds-rights-end
-slice_bounds-rights-end c = part_most c.args.right.cursors.now _ _ c.sort_into-2.ensures (short c.args.right.cursors.now c.requires.right_accepted.cursors_most)
+slice_bounds-rights-end c = part_most c.args.right.cursors.now _ _ c.count-right_end.ensures c.sort_into-2.ensures (short c.args.right.cursors.now c.requires.right_accepted.cursors_most)
 
 pub slice_bounds-run-end-2 : goal.slice_bounds-run-end-2
-slice_bounds-run-end-2 c = part_length c.args.right.cursors.now _ _ c.sort_into-2.ensures (short c.args.right.cursors.now c.requires.right_accepted.cursors_most)
+slice_bounds-run-end-2 c = part_length c.args.right.cursors.now _ _ c.count-right_end.ensures c.sort_into-2.ensures (short c.args.right.cursors.now c.requires.right_accepted.cursors_most)
 
 pub run-totals-requires : goal.run-totals-requires
-run-totals-requires c = let l = part_sorted c.args.left.cursors.now _ _ c.sort_into.ensures (short c.args.left.cursors.now c.requires.left_accepted.cursors_most) in
-    let r = part_sorted c.args.right.cursors.now _ _ c.sort_into-2.ensures (short c.args.right.cursors.now c.requires.right_accepted.cursors_most) in
+run-totals-requires c = let l = part_sorted c.args.left.cursors.now _ _ c.count-left_end.ensures c.sort_into.ensures (short c.args.left.cursors.now c.requires.left_accepted.cursors_most) in
+    let r = part_sorted c.args.right.cursors.now _ _ c.count-right_end.ensures c.sort_into-2.ensures (short c.args.right.cursors.now c.requires.right_accepted.cursors_most) in
     runnable c.requires _ _ l r _ c.stream_priority-priority.ensures
-    (part_many c.args.left.cursors.now _ _ c.sort_into.ensures (short c.args.left.cursors.now c.requires.left_accepted.cursors_most))
-    (part_many c.args.right.cursors.now _ _ c.sort_into-2.ensures (short c.args.right.cursors.now c.requires.right_accepted.cursors_most))
+    (part_many c.args.left.cursors.now _ _ c.count-left_end.ensures c.sort_into.ensures (short c.args.left.cursors.now c.requires.left_accepted.cursors_most))
+    (part_many c.args.right.cursors.now _ _ c.count-right_end.ensures c.sort_into-2.ensures (short c.args.right.cursors.now c.requires.right_accepted.cursors_most))
     (omega (arith, c.well_formed.1.1.0))
 
 pub sort_room-requires : goal.sort_room-requires
-sort_room-requires c = let l = part_sorted c.args.left.cursors.now _ _ c.sort_into.ensures (short c.args.left.cursors.now c.requires.left_accepted.cursors_most) in
-    let r = part_sorted c.args.right.cursors.now _ _ c.sort_into-2.ensures (short c.args.right.cursors.now c.requires.right_accepted.cursors_most) in
+sort_room-requires c = let l = part_sorted c.args.left.cursors.now _ _ c.count-left_end.ensures c.sort_into.ensures (short c.args.left.cursors.now c.requires.left_accepted.cursors_most) in
+    let r = part_sorted c.args.right.cursors.now _ _ c.count-right_end.ensures c.sort_into-2.ensures (short c.args.right.cursors.now c.requires.right_accepted.cursors_most) in
     in_room c.requires _ _ l r _ c.stream_priority-priority.ensures c.run-totals.ensures
 
 pub returns : goal.returns
-returns c = let l = part_sorted c.args.left.cursors.now _ _ c.sort_into.ensures (short c.args.left.cursors.now c.requires.left_accepted.cursors_most) in
-    let r = part_sorted c.args.right.cursors.now _ _ c.sort_into-2.ensures (short c.args.right.cursors.now c.requires.right_accepted.cursors_most) in
+returns c = let l = part_sorted c.args.left.cursors.now _ _ c.count-left_end.ensures c.sort_into.ensures (short c.args.left.cursors.now c.requires.left_accepted.cursors_most) in
+    let r = part_sorted c.args.right.cursors.now _ _ c.count-right_end.ensures c.sort_into-2.ensures (short c.args.right.cursors.now c.requires.right_accepted.cursors_most) in
     merges c.requires _ _ l r _ c.stream_priority-priority.ensures c.run-totals.ensures c.sort_room.ensures

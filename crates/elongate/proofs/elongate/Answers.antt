@@ -32,16 +32,16 @@ pub returns-then-not-rooms_fit : goal.returns-then-not-rooms_fit
 returns-then-not-rooms_fit c =
     refuses _ _ _ _ _ _ _ _ _ _ _
     (no_room _ _ _ _ _ _ _ _ _ (sym c.raw_fits.ensures ∙ c.if-not-raw_fits.false) (sym c.check_raws.ensures ∙ c.in_ok-check_raws.was) c.claimed-tokens.result
-    c.claimed-tokens.ensures (sym c.rooms_fit.ensures ∙ c.if-not-rooms_fit.true) (sym c.check_text.ensures ∙ c.in_ok-check_text.was))
+    c.claimed-tokens.ensures (rw c.count.ensures at (sym c.rooms_fit.ensures ∙ c.if-not-rooms_fit.true)) (sym c.check_text.ensures ∙ c.in_ok-check_text.was))
 
 pub write-requires : goal.write-requires
 write-requires c =
     ready _ _ _ _ _ _ _ _ _ (sym c.raw_fits.ensures ∙ c.if-not-raw_fits.false) (sym c.check_raws.ensures ∙ c.in_ok-check_raws.was) c.claimed-tokens.result
-    c.claimed-tokens.ensures (sym c.rooms_fit.ensures ∙ c.if-not-rooms_fit.false)
+    c.claimed-tokens.ensures (rw c.count.ensures at (sym c.rooms_fit.ensures ∙ c.if-not-rooms_fit.false))
 
 pub returns : goal.returns
 returns c =
     writes _ _ _ _ _ _ _ _ _ (sym c.raw_fits.ensures ∙ c.if-not-raw_fits.false) (sym c.check_raws.ensures ∙ c.in_ok-check_raws.was) _ _ _ _ _
     (accepts _ _ _ _ _ _ _ _ _ (sym c.raw_fits.ensures ∙ c.if-not-raw_fits.false) (sym c.check_raws.ensures ∙ c.in_ok-check_raws.was) c.claimed-tokens.result
-    c.claimed-tokens.ensures (sym c.rooms_fit.ensures ∙ c.if-not-rooms_fit.false) (sym c.check_text.ensures ∙ c.in_ok-check_text.was))
+    c.claimed-tokens.ensures (rw c.count.ensures at (sym c.rooms_fit.ensures ∙ c.if-not-rooms_fit.false)) (sym c.check_text.ensures ∙ c.in_ok-check_text.was))
     c.write.ensures

@@ -3,8 +3,8 @@
 use borrow.Author.Tests.{eq-eqb, ne_eqb}
 use Rattle.sizes.proofs.retained_by.Goals as goal
 
-pub returns-then-o-eq2 : goal.returns-then-o-eq2
-returns-then-o-eq2 c = rw (eq-eqb _ _ c.if-o-eq2.true)
+pub returns-then-o-eq-RETAIN : goal.returns-then-o-eq-RETAIN
+returns-then-o-eq-RETAIN c = rw (eq-eqb _ _ c.if-o-eq-RETAIN.true)
 
-pub returns-else-o-eq2 : goal.returns-else-o-eq2
-returns-else-o-eq2 c = rw (ne_eqb _ _ c.if-o-eq2.false)
+pub returns-else-o-eq-RETAIN : goal.returns-else-o-eq-RETAIN
+returns-else-o-eq-RETAIN c = rw (ne_eqb _ _ c.if-o-eq-RETAIN.false)

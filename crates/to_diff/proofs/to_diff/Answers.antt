@@ -8,7 +8,7 @@ use Rattle.to_diff.specs.Answers.{verdict_on}
 use mathlib.Core.Path.{sym}
 use Rattle.std.proofs.lemmas.Result.{err_from_is_err_and}
 use Rattle.to_diff.proofs.to_diff.Goals as goal
-use Rattle.to_diff.proofs.to_diff.Goals.{then-room-counts-via-then-room-counts, then-room-counts-via-else-room-counts+then-out-counts, then-room-operations+else-room-counts+else-out-counts, else-room-operations+else-out-lengths}
+use Rattle.to_diff.proofs.to_diff.Goals.{then-room-counts-via-then-room-counts, then-room-counts-via-else-room-counts+then-out-counts, then-room-count+else-room-counts+else-out-counts, else-room-count+else-out-lengths}
 use Rattle.to_diff.specs.Writes.{items, Fits}
 
 pub returns-in_err-lengths : goal.returns-in_err-lengths
@@ -34,11 +34,11 @@ pub write-requires : goal.write-requires
 write-requires c = let a = c.args in
     let h = says_yes (verdict_on (lent_in a.lent) (operations_of a.operations.now)) _ _ (sym c.in_ok-lengths.ensures) in (
       ready a.lent.original.now _ _ _ _ h,
-      elim c.if-room-operations.branch [
-        | then-room-operations+else-room-counts+else-out-counts w ↦
+      elim c.if-room-count.branch [
+        | then-room-count+else-room-counts+else-out-counts w ↦
             room_enough a.lent.original.now _ _ _ _ h w.measure-counts.result w.measure-counts.ensures _ _ w.if-room-counts.false w.if-out-counts.false
-        | else-room-operations+else-out-lengths w ↦
-            ample_fits a.lent.original.now _ _ _ a.operations.now _ _ _ c.in_ok-lengths.ensures w.if-room-operations.false w.if-out-lengths.false
+        | else-room-count+else-out-lengths w ↦
+            ample_fits a.lent.original.now _ _ _ a.operations.now _ _ _ c.in_ok-lengths.ensures (rw c.count.ensures at w.if-room-count.false) w.if-out-lengths.false
       ],
     )
 
@@ -46,10 +46,10 @@ pub returns : goal.returns
 returns c = let a = c.args in
     let h = says_yes (verdict_on (lent_in a.lent) (operations_of a.operations.now)) _ _ (sym c.in_ok-lengths.ensures) in
     let f : Fits (items a.lent.text.now a.lent.tokens.spans.now a.lent.tokens.keys.now (operations_of a.operations.now)) a.room.now a.out.now =
-    elim c.if-room-operations.branch [
-      | then-room-operations+else-room-counts+else-out-counts w ↦
+    elim c.if-room-count.branch [
+      | then-room-count+else-room-counts+else-out-counts w ↦
           room_enough a.lent.original.now _ _ _ _ h w.measure-counts.result w.measure-counts.ensures _ _ w.if-room-counts.false w.if-out-counts.false
-      | else-room-operations+else-out-lengths w ↦
-          ample_fits a.lent.original.now _ _ _ a.operations.now _ _ _ c.in_ok-lengths.ensures w.if-room-operations.false w.if-out-lengths.false
+      | else-room-count+else-out-lengths w ↦
+          ample_fits a.lent.original.now _ _ _ a.operations.now _ _ _ c.in_ok-lengths.ensures (rw c.count.ensures at w.if-room-count.false) w.if-out-lengths.false
     ] in
     writes a.lent.original.now _ _ _ _ h f c.write.ensures

@@ -8,18 +8,18 @@ use mathlib.Core.Path.{◌∙◌, ap}
 use native.Mathlib.Omega.{arith}
 use Rattle.turns.proofs.ahead_of.Goals as goal
 
-pub overflow_add-result-then-behind-operations : goal.overflow_add-result-then-behind-operations
-overflow_add-result-then-behind-operations c = omega (
+pub overflow_add-result-then-behind-count : goal.overflow_add-result-then-behind-count
+overflow_add-result-then-behind-count c = omega (
   arith,
-  first_fits c.args.operations.now c.args.behind c.args.at c.if-behind-operations.true c.requires,
+  first_fits c.args.operations.now c.args.behind c.args.at (rw c.count.ensures at c.if-behind-count.true) c.requires,
   ap span_of
-      (c.op_of-op.ensures ∙ ap (λ (o : Operation). op_of c.args.at o) c.operation_at.ensures),
+      (c.op_of-op.ensures ∙ ap (λ (o : Operation). op_of c.args.at o) c.at.ensures),
 )
 
-pub returns-then-behind-operations : goal.returns-then-behind-operations
-returns-then-behind-operations c = looks_here _ _ _ c.op_of-op.result _ c.if-behind-operations.true
-    (c.op_of-op.ensures ∙ ap (λ (o : Operation). op_of c.args.at o) c.operation_at.ensures)
+pub returns-then-behind-count : goal.returns-then-behind-count
+returns-then-behind-count c = looks_here _ _ _ c.op_of-op.result _ (rw c.count.ensures at c.if-behind-count.true)
+    (c.op_of-op.ensures ∙ ap (λ (o : Operation). op_of c.args.at o) c.at.ensures)
     (ap (λ (k : ℕ). c.args.at + k) c.span.ensures)
 
-pub returns-else-behind-operations : goal.returns-else-behind-operations
-returns-else-behind-operations c = looks_done _ _ _ c.if-behind-operations.false
+pub returns-else-behind-count : goal.returns-else-behind-count
+returns-else-behind-count c = looks_done _ _ _ (rw c.count.ensures at c.if-behind-count.false)

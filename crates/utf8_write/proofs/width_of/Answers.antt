@@ -1,30 +1,22 @@
-use Rattle.std.proofs.Common.{ℕ, ◌-◌, length, drop, length-append, length-drop, ap, arith, ◌∙◌}
-use Rattle.std.proofs.Math.Seq.{take_all}
-use Rattle.std.specs.Slice.Iter.{chunks_rest}
-use Rattle.utf8_write.proofs.Spilling.{plain_measured, wide_most, block_more, none_left}
+-- `width_of` is how many bytes a text takes: the ASCII at its start is as wide as it is long, and the rest is summed up.
+use Rattle.std.proofs.Common.{length, arith}
+use Rattle.utf8_read.specs.Table.{encode}
+use Rattle.utf8_write.proofs.Spilling.{width_all, at_most_4, wide_most}
 use Rattle.utf8_write.proofs.width_of.Goals as goal
 
-pub many-init : goal.many-init
-many-init c =
-    let e = c.ascii_end-plain.ensures in
-    let p = c.ascii_end-plain.result in
-    let s = c.args.text.now in
-    let q = rw (← c.into_iter-block-iterator.ensures.into_iter_gives) at c.chunks-block-items.ensures.rest ∙ take_all (length s - p) (drop p s) (omega (arith, length-drop p s)) in
-    record {
-      size = rw c.into_iter-block-iterator.ensures.into_iter_gives c.chunks-block-items.ensures.size;
-      few = omega (arith, ap length q, length-drop p s, e.1);
-      sum = rw q (plain_measured _ _ e.1 (λ k l h. e.2 k 0 l h));
-    }
-
-pub many-preserved : goal.many-preserved
-many-preserved c =
-    let s = c.in-Some.ensures.steps in
-    let i = c.many.invariant in
-    record {
-      size = s.0 ∙ i.size;
-      few = omega (arith, i.few, ap length s.1.0, length-append {A = ℕ}, c.width_block.ensures, wide_most c.in-Some.block.now);
-      sum = omega (arith, i.sum, block_more _ c.in-Some.block.now (chunks_rest c.next.new.self) s.1.0, c.width_block.ensures);
-    }
+pub sum_by-requires-clause-small : goal.sum_by-requires-clause-small
+sum_by-requires-clause-small c = λ x y e. omega (arith, at_most_4 x)
 
 pub returns : goal.returns
-returns c = omega (arith, c.many.invariant.sum, none_left (chunks_rest c.many.block-iterator) c.in-None.ensures.steps.1.0)
+returns c =
+    let e = c.ascii_end-plain.ensures in
+    width_all c.args.text.now c.ascii_end-plain.result c.sum_by.result e.1 (λ k l h. e.2 k 0 l h) (c.sum_by.ensures (λ x. length (encode x)) (λ x y q. q))
+
+pub overflow_add-result : goal.overflow_add-result
+overflow_add-result c =
+    let e = c.ascii_end-plain.ensures in
+    omega (
+      arith,
+      width_all c.args.text.now c.ascii_end-plain.result c.sum_by.result e.1 (λ k l h. e.2 k 0 l h) (c.sum_by.ensures (λ x. length (encode x)) (λ x y q. q)),
+      wide_most c.args.text.now,
+    )

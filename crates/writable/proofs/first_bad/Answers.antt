@@ -1,37 +1,28 @@
-use mathlib.Core.Path.{sym, ◌∙◌}
-use native.Mathlib.Omega.{arith}
-use Rattle.writable.proofs.Checking.{shape_begins, shape_ends, retain_none, retain_joined, retain_on, delete_none, delete_on, insert_none, insert_on, neither_bad}
-use Rattle.writable.proofs.first_bad.Goals.{then-n-lt1-via-then-n-lt1, then-n-lt1-via-else-n-lt1+then-joined, in-Retain+else-n-lt1+else-joined, in-Delete+else-n-lt1-2, in-Insert+else-length-lt1}
+use Rattle.refusal.specs.declared.Refusal.TheVariants.{Record}
+use Rattle.diff.proofs.Loops.{counted_begins, counted_on, over_ends, came}
+use Rattle.writable.proofs.Checking.{shape_begins, shape_on, shape_bad, shape_ends}
+use Rattle.std.proofs.lemmas.Result.{err_from_is_err_and}
+use Rattle.std.proofs.Common.{◌≡◌, ◌∙◌}
 use Rattle.writable.proofs.first_bad.Goals as goal
 
 pub items-init : goal.items-init
-items-init c = shape_begins _ _
+items-init c =
+    rw c.into_iter-i-iterator.ensures.into_iter_gives
+    (counted_begins _ (c.enumerate-i-items.ensures.source ∙ c.each.ensures) c.enumerate-i-items.ensures.count (shape_begins _ _))
 
-pub returns-then-n-lt1 : goal.returns-then-n-lt1
-returns-then-n-lt1 c = elim c.then-n-lt1.branch [
-  | then-n-lt1-via-then-n-lt1 w ↦ retain_none c.items.invariant (omega arith) (sym c.at.ensures ∙ c.in-Retain.is) w.if-n-lt1.true
-  | then-n-lt1-via-else-n-lt1+then-joined w ↦
-      retain_joined c.items.invariant (omega arith) (sym c.at.ensures ∙ c.in-Retain.is) w.if-n-lt1.false w.if-joined.true
-]
-
-pub returns-then-n-lt1-2 : goal.returns-then-n-lt1-2
-returns-then-n-lt1-2 c = delete_none c.items.invariant (omega arith) (sym c.at.ensures ∙ c.in-Delete.is) c.if-n-lt1-2.true
-
-pub returns-then-length-lt1 : goal.returns-then-length-lt1
-returns-then-length-lt1 c = insert_none c.items.invariant (omega arith) (sym c.at.ensures ∙ c.in-Insert.is) c.if-length-lt1.true
-
-pub returns-in-Neither : goal.returns-in-Neither
-returns-in-Neither c = neither_bad c.items.invariant (omega arith) (sym c.at.ensures ∙ c.in-Neither.is)
+pub returns-in_err-joined : goal.returns-in_err-joined
+returns-in_err-joined c =
+    let s = c.in-Some.ensures.steps in
+    let p = err_from_is_err_and c.from_residual.result c.from_residual.ensures.1 in
+    let v = rw c.in_err-joined.ensures.ok_part at c.in_err-joined.ensures.value in
+    let e : c.in_err-joined.field-0.0 ≡ Record c.in-Some.i = cc in
+    rw (p.1, p.2, e, s.1, c.items.invariant.here)
+    (came c.items.invariant.over s.0 (λ k l f. shape_bad k l _ f (rw c.in_err-joined.ensures.ok_part at c.keeps.ensures)))
 
 pub items-preserved : goal.items-preserved
-items-preserved c = elim c.match-at.branch [
-  | in-Retain+else-n-lt1+else-joined w ↦
-      rw w.joined-is (retain_on c.items.invariant (omega arith) (sym c.at.ensures ∙ w.in-Retain.is) w.if-n-lt1.false w.if-joined.false)
-  | in-Delete+else-n-lt1-2 w ↦
-      rw w.joined-is (delete_on c.items.invariant (omega arith) (sym c.at.ensures ∙ w.in-Delete.is) w.if-n-lt1-2.false)
-  | in-Insert+else-length-lt1 w ↦
-      rw w.joined-is (insert_on c.items.invariant (omega arith) (sym c.at.ensures ∙ w.in-Insert.is) w.if-length-lt1.false)
-]
+items-preserved c =
+    let s = c.in-Some.ensures.steps in
+    counted_on c.items.invariant s.0 s.2 (λ k l f. shape_on k l _ f (rw c.in_ok-joined.ensures.ok_part at c.keeps.ensures))
 
 pub returns : goal.returns
-returns c = shape_ends c.items.invariant (omega arith)
+returns c = over_ends c.items.invariant.over c.in-None.ensures.steps.0 shape_ends

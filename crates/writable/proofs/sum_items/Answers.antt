@@ -1,31 +1,23 @@
-use mathlib.Core.Path.{sym, ◌∙◌}
-use native.Mathlib.Omega.{arith}
-use Rattle.writable.proofs.Checking.{tally_begins, tally_retain, tally_delete, tally_insert, tally_neither, retain_over, delete_over, insert_over, tally_ends}
-use Rattle.writable.proofs.sum_items.Goals.{in-Retain+else-used-n, in-Delete+else-used-n-2, in-Insert+else-added-length, in-Neither}
+use Rattle.refusal.specs.declared.Refusal.TheVariants.{Size}
+use Rattle.diff.proofs.Loops.{over_begins, over_on, over_ends, came}
+use Rattle.writable.proofs.Checking.{tally_begins, tally_on, tally_over, tally_ends}
+use Rattle.std.proofs.lemmas.Result.{err_from_is_err_and}
+use Rattle.std.proofs.Common.{◌≡◌, ◌∙◌}
 use Rattle.writable.proofs.sum_items.Goals as goal
 
 pub items-init : goal.items-init
-items-init c = tally_begins _ _
+items-init c = over_begins _ (c.into_iter-item-iterator.ensures.into_iter_gives ∙ c.each-item-items.ensures) (tally_begins _ _)
 
-pub returns-then-used-n : goal.returns-then-used-n
-returns-then-used-n c = retain_over c.items.invariant (omega arith) (sym c.at.ensures ∙ c.in-Retain.is) c.if-used-n.true
-
-pub returns-then-used-n-2 : goal.returns-then-used-n-2
-returns-then-used-n-2 c = delete_over c.items.invariant (omega arith) (sym c.at.ensures ∙ c.in-Delete.is) c.if-used-n-2.true
-
-pub returns-then-added-length : goal.returns-then-added-length
-returns-then-added-length c = insert_over c.items.invariant (omega arith) (sym c.at.ensures ∙ c.in-Insert.is) c.if-added-length.true
+pub returns-in_err-sums : goal.returns-in_err-sums
+returns-in_err-sums c =
+    let p = err_from_is_err_and c.from_residual.result c.from_residual.ensures.1 in
+    let v = rw c.in_err-sums.ensures.ok_part at c.in_err-sums.ensures.value in
+    let e : c.in_err-sums.field-0.0 ≡ Size = cc in
+    rw (p.1, p.2, e)
+    (came c.items.invariant c.in-Some.ensures.steps (λ k l f. tally_over k l _ f (rw c.in_err-sums.ensures.ok_part at c.with.ensures)))
 
 pub items-preserved : goal.items-preserved
-items-preserved c = elim c.match-at.branch [
-  | in-Retain+else-used-n w ↦
-      rw (w.kept-is, w.used-is, w.added-is) (tally_retain c.items.invariant (omega arith) (sym c.at.ensures ∙ w.in-Retain.is) w.if-used-n.false)
-  | in-Delete+else-used-n-2 w ↦
-      rw (w.kept-is, w.used-is, w.added-is) (tally_delete c.items.invariant (omega arith) (sym c.at.ensures ∙ w.in-Delete.is) w.if-used-n-2.false)
-  | in-Insert+else-added-length w ↦
-      rw (w.kept-is, w.used-is, w.added-is) (tally_insert c.items.invariant (omega arith) (sym c.at.ensures ∙ w.in-Insert.is) w.if-added-length.false)
-  | in-Neither w ↦ rw (w.kept-is, w.used-is, w.added-is) (tally_neither c.items.invariant (omega arith) (sym c.at.ensures ∙ w.in-Neither.is))
-]
+items-preserved c = over_on c.items.invariant c.in-Some.ensures.steps (λ k l f. tally_on k l _ f (rw c.in_ok-sums.ensures.ok_part at c.with.ensures))
 
 pub returns : goal.returns
-returns c = tally_ends c.items.invariant (omega arith)
+returns c = over_ends c.items.invariant c.in-None.ensures.steps tally_ends

@@ -8,7 +8,7 @@ pub fall-init : goal.fall-init
 fall-init c = begin c.fill.invariant.best (omega arith) (omega arith)
 
 pub fall-preserved : goal.fall-preserved
-fall-preserved c = rw c.wide-matched.ensures (fall c.fall.invariant c.if-key-new.false (c.fill.invariant.right.at c.fall.matched (omega arith) (omega arith)))
+fall-preserved c = fall c.fall.invariant c.if-key-new.false (c.fill.invariant.right.at c.fall.matched (omega arith) (omega arith))
 
 pub fill-preserved : goal.fill-preserved
 fill-preserved c = filling_more c.if-key-new.matched c.fill.invariant c.fill-test.true

@@ -13,7 +13,7 @@ pub scan-preserved : goal.scan-preserved
 scan-preserved c = scanned_miss c.fall.invariant (omega arith) c.if-key-new.false c.if-matched-eq0.true
 
 pub fall-preserved : goal.fall-preserved
-fall-preserved c = rw c.wide-matched.ensures (fallen c.fall.invariant c.requires.table c.if-matched-eq0.false c.if-key-new.false)
+fall-preserved c = fallen c.fall.invariant c.requires.table c.if-matched-eq0.false c.if-key-new.false
 
 pub returns-after-scan : goal.returns-after-scan
 returns-after-scan c = scanned_out c.scan.invariant (omega arith)
