@@ -4,8 +4,8 @@ use mathlib.Core.Path.{◌≡◌, refl, sym, ap, ◌∙◌}
 use mathlib.Core.List.{List, [], ◌∷◌, ◌++◌}
 use Prim.Native.Nat.{ℕ, suc, ◌+◌, ◌-◌, ◌*◌, ◌≤◌, ◌<◌, zero-le}
 use native.Mathlib.Omega.{arith}
-use lib.ListN.{length, take, drop, get_or, length-append, length-drop}
-use lib.Seq.{drop-cons, length-take-le}
+use lib.ListN.{length, take, drop, get_or, length-append, length-drop, length-take}
+use lib.Seq.{drop-cons, length-take-le, get_or-take, get_or-drop}
 use lib.IntN.{ℤ}
 use Rattle.room.specs.Placed.{placed, answered}
 use Rattle.room.proofs.Answers.{at_start}
@@ -94,6 +94,13 @@ left_more text from count j h l =
     let g : from + j + 1 ≡ from + (j + 1) = omega arith in
     rw (e, drop-cons text (from + j) 0 (omega arith), f, g)
 
+-- a part of the text as it is lent: so many code points, each that of its place
+pub part_count : (text : List ℕ) (from count : ℕ) → from + count ≤ length text → length (take (from + count - from) (drop from text)) ≡ count
+part_count text from count f = omega (arith, length-take (from + count - from) (drop from text), length-drop from text)
+
+pub part_point : (text : List ℕ) (from count j : ℕ) → j < count → get_or (take (from + count - from) (drop from text)) j 0 ≡ get_or text (from + j) 0
+part_point text from count j l = get_or-take (from + count - from) (drop from text) j 0 (omega arith) ∙ get_or-drop from text j 0
+
 pub record Pointing (text : List ℕ) (from count at : ℕ) (s₀ k₀ s k : List ℕ) (j : ℕ) : Type 0 where
   pub most : j ≤ count
   pub puts : Putting (points_left text from count j) (at + j) (point_tokens from (take count (drop from text))) at s₀ k₀ s k
@@ -116,9 +123,10 @@ module _ {text : List ℕ} {from count at : ℕ} {s₀ k₀ s k : List ℕ} {j :
   pub next_fits : j < count → ((at + j) * 2 + 2 ≤ length s) × (at + j + 1 ≤ length k)
   next_fits l = (omega (arith, (next_puts l).fits_spans), omega (arith, (next_puts l).fits_keys))
 
-  pub points_on : {s' k' : List ℕ} → j < count → TokensPut (record { start = from + j; length = 1; key = get_or text (from + j) 0; joins = 3 } ∷ []) (at + j) s k s' k'
-      → Pointing text from count at s₀ k₀ s' k' (j + 1)
-  points_on {s'} {k'} l t =
+  pub points_on : {s' k' : List ℕ} {x : ℕ} → j < count → x ≡ get_or text (from + j) 0
+      → TokensPut (record { start = from + j; length = 1; key = x; joins = 3 } ∷ []) (at + j) s k s' k' → Pointing text from count at s₀ k₀ s' k' (j + 1)
+  points_on {s'} {k'} l e t₀ =
+      let t = rw e at t₀ in
       let p : Piece = record { start = from + j; length = 1; key = get_or text (from + j) 0; joins = 3 } in
       let q = putting_on (p ∷ []) (points_left text from count (j + 1)) (at + j) (point_tokens from (take count (drop from text))) at s₀ k₀ s k s' k' (next_puts l) t in
       record { most = omega arith; puts = as_putting (points_left text from count (j + 1)) (at + (j + 1)) refl (omega arith) q }

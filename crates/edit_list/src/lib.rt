@@ -58,12 +58,11 @@ impl<'a> RawRooms<'a> {
         ensures raw { self.new.raw.now ≡ self.old.raw.now }
         ensures tokens { TokensPut (point_tokens from (take count (drop from text.now))) at self.old.spans.now self.old.keys.now self.new.spans.now self.new.keys.now }
     {
-        'points: for j in 0..count {
-            let place = from + j;
+        'points: for (j, point) in text[from..from + count].iter().enumerate() {
             let token = Token {
-                start: place as u32,
+                start: (from + j) as u32,
                 length: 1,
-                key: text[place],
+                key: *point,
             };
             self.put_token(at + j, token);
         }

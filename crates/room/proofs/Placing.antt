@@ -2,7 +2,7 @@
 -- List arithmetic over `take` and `drop`, for values of any type. Assumes nothing.
 use mathlib.Core.Path.{◌≡◌, sym, ap}
 use mathlib.Core.List.{List, [], ◌++◌, append_assoc, append-nil}
-use Prim.Native.Nat.{ℕ, ◌+◌, ◌≤◌}
+use Prim.Native.Nat.{ℕ, ◌+◌, ◌-◌, ◌≤◌}
 use native.Mathlib.Nat.{add-zero}
 use native.Mathlib.Omega.{arith}
 use lib.ListN.{length, take, drop, length-append, length-take, length-drop, take-append-drop}
@@ -31,3 +31,10 @@ placed_more {A} d at s t h =
     = rw (← e, drop-append-add, e, drop-drop, g) in
     rw (take_at (take at d ++ s) (drop (at + length s) d) (at + length s) e, f)
     (ap (λ (l : List A). l ++ drop (at + length (s ++ t)) d) (append_assoc (take at d) s t))
+
+-- what is written over the part from one place to another stands at the first, where it is as long as the part
+pub over_part : {A : Type 0} (d s : List A) (at end : ℕ) → end ≡ at + length s → take at d ++ (s ++ drop (end - at) (drop at d)) ≡ placed d at s
+unfolding placed
+over_part d s at end e =
+    let n : end - at ≡ length s = omega arith in
+    rw (n, append_assoc, drop-drop)

@@ -8,7 +8,17 @@ pub fn put<T: Copy>(src: &[T], out: &mut [T], at: usize) -> usize
     requires { at + length src.now ≤ length out.old }
     ensures { Put src.now out.old at out.new result }
 {
-    // Kept so: tried, and slower: most runs are short, and the library's copy of one is a call.
+    let end = at + src.len();
+    out[at..end].copy_from_slice(src);
+    end
+}
+
+// The same of a run that is mostly short, and whose length is not known where it is put.
+// Kept so: tried, and slower: the library's copy of such a run is a call.
+pub fn put_short<T: Copy>(src: &[T], out: &mut [T], at: usize) -> usize
+    requires { at + length src.now ≤ length out.old }
+    ensures { Put src.now out.old at out.new result }
+{
     'put: for (i, x) in src.iter().enumerate() {
         out[at + i] = *x;
     }

@@ -21,7 +21,7 @@ pub fn put_original(
     requires { (from + count ≤ length original.now) × (at + count ≤ length out.old) }
     ensures { Put (take count (drop from original.now)) out.old at out.new result }
 {
-    room::put(&original[from..from + count], out, at)
+    room::put_short(&original[from..from + count], out, at)
 }
 
 // Where the first of so many tokens starts; 0 where there is none.

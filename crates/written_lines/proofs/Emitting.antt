@@ -14,7 +14,7 @@ use Rattle.edit_format.specs.Items.{Add}
 use Rattle.edit_format.specs.Written.{points, number_line, add_key, item_line}
 use Rattle.written_lines.specs.Lengths.{further, last_two}
 use Rattle.edit_format.proofs.DigitLaws.{digits_one, digits_last}
-use Rattle.written_lines.proofs.Numbers.{one_digit, one_less}
+use Rattle.written_lines.proofs.Numbers.{one_digit}
 use Rattle.written_lines.proofs.Counting.{line_length, add_length, points_further, next_point, no_point}
 
 pub put_length : {s d d₁ : List ℕ} {at a : ℕ} → Put s d at d₁ a → at + length s ≤ length d → length d₁ ≡ length d
@@ -40,17 +40,6 @@ next_in p h = omega (arith, put_length p (omega arith), p.next)
 -- a number of one digit
 pub one_put : (m : ℕ) (d : List ℕ) (at c : ℕ) → c < m → at + length (digits m c) ≤ length d → Put (digits m c) d at (set d at (digit c)) (at + 1)
 one_put m d at c h g = rw (digits_one m c h) (one_byte d at (digit c) (omega (arith, one_digit m c h)))
-
--- a number in decimal, and its last digit behind the others
-module _ (n : ℕ) (big : 10 ≤ n) {d d₁ : List ℕ} {at a : ℕ} (fits : at + length (digits 10 n) ≤ length d) (p : Put (digits 10 (n / 10)) d at d₁ a) where
-  pub last_in : a < length d₁
-  last_in = next_in p (omega (arith, one_less 10 n (omega arith) big))
-
-  pub decimal_put : Put (digits 10 n) d at (set d₁ a (digit (n % 10))) (a + 1)
-  decimal_put = rw (digits_last 10 n (omega arith) big) (put_byte (digit (n % 10)) p (omega (arith, one_less 10 n (omega arith) big)))
-
-  pub decimal_long : length (set d₁ a (digit (n % 10))) ≡ length d
-  decimal_long = put_length decimal_put fits
 
 -- numbers in hexadecimal, two digits at a time
 pub pair_put : (d : List ℕ) (at c : ℕ) → at + 2 ≤ length d → Put (last_two c) d at (set (set d at (digit (c / 16 % 16))) (at + 1) (digit (c % 16))) (at + 2)

@@ -19,8 +19,16 @@ fn width(n: u64) -> usize
         100..=999 => 3,
         1000..=9999 => 4,
         10000..=99999 => 5,
-        _ => 5 + width(n / 100000),
+        _ => 5 + long_width(n / 100000),
     }
+}
+
+// The same, digit by digit.
+#[tactic(auto, using(crate::proofs::Numbers::one_ten, crate::proofs::Numbers::ten_less, crate::proofs::Numbers::few_digits))]
+fn long_width(n: u64) -> usize
+    ensures { result ≡ length (digits 10 n) }
+{
+    if n < 10 { 1 } else { 1 + long_width(n / 10) }
 }
 
 // The byte of a decimal digit.
@@ -32,18 +40,22 @@ fn decimal_byte(d: u64) -> u8
     b'0' + d as u8
 }
 
-// A number in decimal at a place.
+// A number in decimal at a place, its last digit first.
+// Kept so: tried, and slower: a function that calls itself for all but the last digit.
 fn put_decimal(out: &mut [u8], at: usize, n: u64) -> usize
     requires { at + length (digits 10 n) ≤ length out.old }
     ensures { Put (digits 10 n) out.old at out.new result }
 {
-    if n < 10 {
-        out[at] = decimal_byte(n);
-        return at + 1;
+    let end = at + width(n);
+    let mut left = n;
+    let mut place = end - 1;
+    'digits: while 10 <= left {
+        out[place] = decimal_byte(left % 10);
+        left /= 10;
+        place -= 1;
     }
-    let last = put_decimal(out, at, n / 10);
-    out[last] = decimal_byte(n % 10);
-    last + 1
+    out[place] = decimal_byte(left);
+    end
 }
 
 // The byte of a hexadecimal digit: a sum, since which of them are letters no branch can foretell.
@@ -146,7 +158,7 @@ pub fn put_line(out: &mut [u8], at: usize, key: &[u8], n: u64) -> usize
     requires { at + length (number_line key.now n) ≤ length out.old }
     ensures { Put (number_line key.now n) out.old at out.new result }
 {
-    let a = room::put(key, out, at);
+    let a = room::put_short(key, out, at);
     let b = put_decimal(out, a, n);
     out[b] = b'\n';
     b + 1

@@ -1,4 +1,4 @@
-use Rattle.std.proofs.Common.{refl, arith, inl, inr}
+use Rattle.std.proofs.Common.{refl, arith, inl, inr, ◌∙◌}
 use Rattle.records.proofs.EachLaws.{reads_from, comes_more, comes_is, comes_on, all_came}
 use Rattle.order.proofs.Pairs.{paired_starts, left_reads, right_reads, pair_decides, pair_equal, part_fits, part_same, ends}
 use mathlib.Core.Logic.{⊎_elim}
@@ -70,5 +70,6 @@ pairs-preserved c =
 pub returns : goal.returns
 returns c =
     let i = c.pairs.invariant in
-    rw (c.cmp.ensures, c.count.ensures, c.count-2.ensures)
+    c.cmp.ensures
+    ∙ rw (c.count.ensures, c.count-2.ensures)
     (ends i.pairs (⊎_elim (λ z. inl (all_came i.lefts z.1)) (λ z. inr (rw i.even at (all_came i.rights z.1))) c.in-None.ensures.steps))

@@ -22,7 +22,7 @@ pub returns-then-not-is_raw : goal.returns-then-not-is_raw
 returns-then-not-is_raw c =
     let i = c.raws.invariant in
     let s = c.in-Some.ensures.steps in
-    rw (s.1 ∙ i.here) (shaping_bad i.shapes c.in-Some.r (comes_more i.reads s.0) (comes_is i.reads s.0) (sym c.is_raw.ensures ∙ c.if-not-is_raw.true))
+    rw (← s.1 ∙ i.here) at (shaping_bad i.shapes c.in-Some.r (comes_more i.reads s.0) (comes_is i.reads s.0) (sym c.is_raw.ensures ∙ c.if-not-is_raw.true))
 
 pub returns : goal.returns
 returns c = shaping_ends c.raws.invariant.shapes (all_came c.raws.invariant.reads c.in-None.ensures.steps.0)

@@ -22,7 +22,7 @@ pub returns-then-end-c : goal.returns-then-end-c
 returns-then-end-c c =
     let i = c.cursors.invariant in
     let s = c.in-Some.ensures.steps in
-    rw (s.1 ∙ i.here) (marks_past i.marks c.in-Some.c (comes_more i.reads s.0) (comes_is i.reads s.0) c.if-end-c.true)
+    rw (← s.1 ∙ i.here) at (marks_past i.marks c.in-Some.c (comes_more i.reads s.0) (comes_is i.reads s.0) c.if-end-c.true)
 
 pub returns : goal.returns
 returns c = marks_end c.cursors.invariant.marks (all_came c.cursors.invariant.reads c.in-None.ensures.steps.0)

@@ -22,7 +22,7 @@ pub returns-then-not-is_record : goal.returns-then-not-is_record
 returns-then-not-is_record c =
     let i = c.records.invariant in
     let s = c.in-Some.ensures.steps in
-    rw (s.1 ∙ i.here) (records_bad i.keeps c.in-Some.o (comes_more i.reads s.0) (comes_is i.reads s.0) (sym c.is_record.ensures ∙ c.if-not-is_record.true))
+    rw (← s.1 ∙ i.here) at (records_bad i.keeps c.in-Some.o (comes_more i.reads s.0) (comes_is i.reads s.0) (sym c.is_record.ensures ∙ c.if-not-is_record.true))
 
 pub returns : goal.returns
 returns c = records_end c.records.invariant.keeps (all_came c.records.invariant.reads c.in-None.ensures.steps.0)

@@ -22,14 +22,14 @@ pub returns-then-o-at : goal.returns-then-o-at
 returns-then-o-at c =
     let i = c.tiles.invariant in
     let s = c.in-Some.ensures.steps in
-    rw (s.1 ∙ i.here)
+    rw (← s.1 ∙ i.here) at
     (tiled_order i.tiles c.in-Some.o (comes_more i.reads s.0) (comes_is i.reads s.0) c.if-o-eq-INSERT.false c.if-o-at.true)
 
 pub returns-then-n-at : goal.returns-then-n-at
 returns-then-n-at c =
     let i = c.tiles.invariant in
     let s = c.in-Some.ensures.steps in
-    rw (s.1 ∙ i.here)
+    rw (← s.1 ∙ i.here) at
     (tiled_long i.tiles c.in-Some.o (comes_more i.reads s.0) (comes_is i.reads s.0) c.if-o-eq-INSERT.false c.if-o-at.false c.if-n-at.true)
 
 pub tiles-preserved : goal.tiles-preserved
@@ -49,5 +49,5 @@ returns-then-at-n c =
 
 pub returns : goal.returns
 returns c =
-    rw c.count.ensures
+    rw (← c.count.ensures) at
     (tiled_short c.tiles.invariant.tiles (all_came c.tiles.invariant.reads c.in-None.ensures.steps.0) c.if-at-n.false)

@@ -1,7 +1,7 @@
 use Rattle.written_lists.proofs.Histories.{tell_begins, tell_asks, tell_on, tell_ends}
 use Rattle.written_lists.proofs.Texts.{text_begins, text_asks, text_on, text_ends}
 use Rattle.records.proofs.EachLaws.{reads_from, comes_more, comes_is, comes_on, all_came}
-use Rattle.std.proofs.Common.{refl, arith, ◌∙◌}
+use Rattle.std.proofs.Common.{refl, sym, arith, ◌∙◌}
 use Rattle.written_lists.proofs.write_all.Goals as goal
 
 pub all-init : goal.all-init
@@ -19,7 +19,7 @@ pub tell-told-requires : goal.tell-told-requires
 tell-told-requires c =
     let i = c.all.invariant in
     let s = c.in-Some.ensures.steps in
-    rw (s.1 ∙ i.here) (tell_asks _ _ _ _ i.history (comes_more i.reads s.0) c.requires.1.1.0 c.requires.1.1.1 _ (comes_is i.reads s.0))
+    rw (sym (s.1 ∙ i.here)) at (tell_asks _ _ _ _ i.history (comes_more i.reads s.0) c.requires.1.1.0 c.requires.1.1.1 _ (comes_is i.reads s.0))
 
 pub all-preserved : goal.all-preserved
 all-preserved c =

@@ -1,6 +1,6 @@
 use Rattle.written_lists.proofs.Histories.{tell_begins, tell_asks, tell_on, tell_ends}
 use Rattle.records.proofs.EachLaws.{reads_from, comes_more, comes_is, comes_on, all_came}
-use Rattle.std.proofs.Common.{refl, arith, ◌∙◌}
+use Rattle.std.proofs.Common.{refl, sym, arith, ◌∙◌}
 use Rattle.written_lists.proofs.write_history.Goals as goal
 
 pub history-init : goal.history-init
@@ -12,7 +12,7 @@ pub tell-at-requires : goal.tell-at-requires
 tell-at-requires c =
     let i = c.history.invariant in
     let s = c.in-Some.ensures.steps in
-    rw (s.1 ∙ i.here) (tell_asks _ _ _ _ i.keeps (comes_more i.reads s.0) c.requires.1.0 c.requires.1.1 _ (comes_is i.reads s.0))
+    rw (sym (s.1 ∙ i.here)) at (tell_asks _ _ _ _ i.keeps (comes_more i.reads s.0) c.requires.1.0 c.requires.1.1 _ (comes_is i.reads s.0))
 
 pub history-preserved : goal.history-preserved
 history-preserved c =

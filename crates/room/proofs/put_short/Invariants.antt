@@ -1,7 +1,7 @@
--- `put` puts all of src at the place.
+-- `put_short` puts all of src at the place.
 -- The loop's invariant and its ways are those of Copying.
 use Rattle.room.proofs.Copying.{Copying}
-use Rattle.room.proofs.put.Given as goal
+use Rattle.room.proofs.put_short.Given as goal
 
 abbrev pub invariant-put : goal.invariant-put
 invariant-put g l = Copying l.src l.initial.out l.at l.out l.i
