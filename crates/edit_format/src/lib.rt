@@ -5,6 +5,7 @@ ghost use Rattle.std.specs.Prelude.{◌≡◌, ◌<◌};
 ghost use Rattle.edit_format.specs.Digits.{value_of};
 
 // The digit that a byte writes in lower-case hex, and 16 for every other byte.
+// Kept so: an Option is no plainer, since every caller compares with a base of at most 16, which tells what is no digit too.
 #[tactic(auto, using(crate::proofs::DigitLaws::value_low, crate::proofs::DigitLaws::value_ten, crate::proofs::DigitLaws::value_gap, crate::proofs::DigitLaws::value_six, crate::proofs::DigitLaws::value_high))]
 pub fn value(b: u8) -> u32
     ensures { result ≡ value_of b }

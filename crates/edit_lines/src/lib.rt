@@ -40,7 +40,7 @@ fn number_at(bytes: &[u8], at: usize, base: u32) -> Option<Number>
     if base <= n {
         return None;
     }
-    // Kept so, here and below: the place is part of the answer, and an iterator's count would have to be added to where it began.
+    // Kept so, here and below: an iterator is no plainer, since the place is part of the answer: its count would have to be added to where it began.
     'digits: for i in at + 1..bytes.len() {
         let digit = edit_format::value(bytes[i]);
         if base <= digit {

@@ -85,7 +85,7 @@ impl<'a> RawRooms<'a> {
     }
 
     // The i-th item as the i-th raw operation.
-    // Kept so: items and text apart, since `ItemsLent` and `run_in` speak of places of the whole text, and definitions do not change.
+    // Kept so: a struct of items and text is no plainer, since the clauses speak of places of the whole text, of which the items' is a part.
     fn put_item(
         &mut self,
         items: &[i64],
@@ -112,7 +112,7 @@ impl<'a> RawRooms<'a> {
     }
 
     // All items as a raw list; how many tokens they make.
-    // Kept so: by place, as `put_item` takes them, which puts an item at its own place, its text at a place of the whole text.
+    // Kept so: an iterator is no plainer, since `put_item` puts an item at its own place, and its text at a place of the whole text.
     fn fill(&mut self, items: &[i64], count: usize, lent: usize, text: &[u32], at: usize) -> usize
         requires { ItemsLent items.now count lent text.now at × Fits (runs_in text.now at (items_from items.now lent 0 count)) self.old.raw.now self.old.spans.now self.old.keys.now }
         ensures same { SameRooms self.old self.new }
@@ -154,7 +154,7 @@ fn raws_of(file: &[u8], at: usize, text: &mut [u32], rooms: &mut RawRooms) -> Ma
 }
 
 // The first tokens of so many operations, each so much further on.
-// Kept so: by place, since a view of records is read and not written.
+// Kept so: chunks that are written to are no plainer, since the proof would have to say what stands in the room around each.
 fn shift(operations: &mut [usize], count: usize, by: usize)
     requires { Shiftable operations.old count by }
     ensures { operations.new ≡ shifted_from operations.old by 0 count }

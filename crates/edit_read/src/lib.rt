@@ -332,7 +332,7 @@ fn fill(bytes: &[u8], file: Accepted, items: &mut [i64], text: &mut [u32])
         start: 0,
         next: file.first,
     };
-    // Kept so: a record's place in the room is what is asked; the file's lines are found as they are read.
+    // Kept so: chunks that are written to are no plainer, since the proof would have to say what stands in the room around each.
     'items: for i in 0..file.items {
         spot = put_item(bytes, spot, items, i * 3, text);
     }

@@ -61,7 +61,7 @@ fn put_file(items: Items, original: u64, res: u64, out: &mut [u8]) -> usize
     written_lines::put_line(out, e, b"end=", count)
 }
 
-// How many bytes the edit file of a diff has. Kept so: this call and the next take a diff in the parts that the C interface lends.
+// How many bytes the edit file of a diff has. Kept so: here and in the next call a struct of both slices is no plainer, since each is handed on as C lends it and makes the `Items` once.
 pub fn write_length(items: &[i64], text: &[u32]) -> Result<usize, Refusal>
     ensures { result ≡ length_of (file_of items.now text.now) text.now }
 {

@@ -26,6 +26,7 @@ pub enum Place {
 }
 
 // A step of the walk: an operation to take; or none at this place.
+// Kept so: an Option is no plainer, since a step without an operation and the end are two cases.
 #[derive(Clone, Copy)]
 pub enum Step {
     Take(Raw, Place),
@@ -163,7 +164,7 @@ impl Current {
 }
 
 // The tokens of a raw operation into their rooms.
-// Kept so: a struct of the three rooms needs a clause for each that it is still the same room.
+// Kept so: a struct of the three rooms is no plainer, since it needs a clause for each that it is still the same room.
 fn append(
     lent: RawTokens,
     r: Raw,
@@ -229,9 +230,9 @@ fn write(
                 let at = current.first + current.count;
                 append(lent, r, spanned, keyed, joined, at);
                 let length = sizes::run_text(lent.tokens, n, r.first, r.count);
-                let left = lent.joins[r.first] % 2 == 1;
+                let left = lent.left_joinable(r.first);
                 let last = r.first + r.count - 1;
-                let right = lent.joins[last] / 2 % 2 == 1;
+                let right = lent.right_joinable(last);
                 if current.joins(r.kind, left) {
                     current = current.extended(length, r.count, right);
                 } else {

@@ -11,6 +11,7 @@ use records::{Lent, List, Tokens};
 use refusal::Refusal;
 
 // How many bytes stand in the room: a merged edit file, or a refusal's line; or that it is too short.
+// Kept so: a Result is no plainer: a refusal's line that was written is no `Err`, so its `Ok` would be an enum again, and each caller would match twice.
 #[derive(Clone, Copy)]
 pub enum Outcome {
     Merged(usize),

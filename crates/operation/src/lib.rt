@@ -20,6 +20,7 @@ use std::cmp::min;
 
 // What is remembered of a side. Of an insert it is tokens, which stand in the work room from `from`
 // up to where the side has filled it.
+// Kept so: an Option of the three other cases is no plainer, since each match would name it at every case.
 #[derive(Clone, Copy)]
 pub enum Last {
     Nothing,
@@ -294,6 +295,7 @@ pub fn tokens_length(spans: &[u32], first: usize, count: usize) -> usize
 }
 
 // How much text an operation gives.
+// Kept so: one function for this and the next is no plainer, since each is a definition of its own, and of a retain they ask for different numbers.
 pub fn length_of(spans: &[u32], a: Op) -> usize
     requires { Lies spans.now a }
     ensures { result ≡ length_of (of_spans spans.now) a }

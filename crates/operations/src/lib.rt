@@ -12,7 +12,8 @@ use refusal::Refusal;
 
 // A walk over the tiles: the original's length, the operations seen, how much they consume, and
 // whether each one was in its place. It stays at the first that is not.
-// Kept so: the clauses of `tile_step` and `tile_all` speak of the walk that has stopped, too.
+// Kept so: an Option in place of `good` is no plainer: the walk goes over the whole list, so each clause of `tile_step` and `tile_all` would
+// have a case for one that has stopped.
 #[derive(Clone, Copy)]
 pub struct Tile {
     pub n: usize,

@@ -56,7 +56,7 @@ pub fn cmp_priority(lent: Lent, a: Op, b: Op) -> Ordering
 
 // Whether two records are one retain or delete. Lists that begin alike are then passed over without
 // making operations of their records, which takes most of the time.
-// Kept so: no derived equality, since side and tokens of a record mean nothing here.
+// Kept so: a derived equality would be no plainer, since side and tokens of a record mean nothing here and would have to be made alike first.
 fn same_part(x: Operation, y: Operation) -> bool
     ensures { result ≡ true → SamePart x y }
 {

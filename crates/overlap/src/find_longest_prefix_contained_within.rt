@@ -22,7 +22,7 @@ pub fn fill(new: &[u32], table: &mut [u32])
     }
     table[0] = 0;
     let mut matched: usize = 0;
-    // Kept so: keys and table are read at places that the loop finds, and the table is written at its own.
+    // Kept so: an iterator over new is no plainer, since new and table are read at other places too, and the table is written.
     'fill: for i in 1..new.len() {
         let key = new[i];
         'fall: loop {

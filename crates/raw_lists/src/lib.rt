@@ -1,7 +1,7 @@
 // Raw lists: their records and tokens, and which lists are refused for their sizes or their shape.
 #![tactic(auto)]
 
-ghost use Rattle.std.specs.Prelude.{◌≡◌, ◌+◌, ◌*◌, ◌/◌, ◌≤◌, min, length};
+ghost use Rattle.std.specs.Prelude.{◌≡◌, ◌+◌, ◌*◌, ◌/◌, ◌%◌, ◌<◌, ◌≤◌, min, length, get_or, eqb};
 ghost use Rattle.raw_lists.specs.Raws.{raw_at, raws_of, pieces_lent};
 ghost use Rattle.raw_lists.specs.Checks.{total, claimed_by, text_by, run_lent, raw_fits, is_raw, shapes_from};
 
@@ -38,6 +38,22 @@ impl<'a> RawTokens<'a> {
     {
         let lent = self.count();
         r.count <= lent && r.first <= lent - r.count
+    }
+
+    // Whether a token may be joined on its left: the first bit of its flags.
+    pub fn left_joinable(self, i: usize) -> bool
+        requires { i < length self.joins.now }
+        ensures { result ≡ eqb (get_or self.entry.joins.now i 0 % 2) 1 }
+    {
+        self.joins[i] % 2 == 1
+    }
+
+    // And on its right: the second.
+    pub fn right_joinable(self, i: usize) -> bool
+        requires { i < length self.joins.now }
+        ensures { result ≡ eqb (get_or self.entry.joins.now i 0 / 2 % 2) 1 }
+    {
+        self.joins[i] / 2 % 2 == 1
     }
 }
 

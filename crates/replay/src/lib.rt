@@ -79,7 +79,7 @@ fn fill(original: &[u32], items: Items, out: &mut [u32], len: usize) -> Result<u
     Ok(build(original, items, out))
 }
 
-// The length of the replayed text, plain. Kept so: this call and the three after it take a diff in the parts that the C interface lends.
+// The length of the replayed text, plain. Kept so: here and in the three calls after it a struct of both slices is no plainer, since each is handed on as C lends it and makes the `Items` once.
 #[tactic(auto, unfolding(crate::specs::Answers::judged, crate::specs::Answers::length_of))]
 pub fn from_diff_length(original: &[u32], items: &[i64], text: &[u32]) -> Result<usize, Refusal>
     ensures { result ≡ length_of plain (diff original.now items.now text.now) }

@@ -21,7 +21,7 @@ use records::{DELETE, INSERT, Lent, List, Operations, Tokens};
 use refusal::Refusal;
 
 // The retain that was held back, if there is one, and the place after it.
-// Kept so: no retain is empty, so 0 is none, as `keeps` of specs/ says.
+// Kept so: an Option is no plainer: no retain is empty, so 0 is none, as `keeps` of specs/ says, and lengths are added to it.
 fn put_kept(room: &mut [i64], place: usize, kept: usize) -> usize
     requires { (kept < 9223372036854775808) × ((place + length (keeps kept)) * 3 ≤ length room.old) }
     ensures { Kept kept place room.old room.new result }

@@ -81,7 +81,7 @@ fn put_code(out: &mut [u8], at: usize, x: u32) -> usize
 }
 
 // An ASCII number as a byte.
-// Kept so: a closure would say the bound once more in a `requires` of its own.
+// Kept so: a closure is no plainer, since it would say the bound once more in a `requires` of its own.
 fn low(x: u32) -> u8
     requires { x < 0x80 }
     ensures { result ≡ x }

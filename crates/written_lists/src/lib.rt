@@ -16,9 +16,9 @@ use records::each::Records;
 use records::{Cursors, DELETE, INSERT, Lent, Operation, Operations, RETAIN};
 
 // The words of an operation: a range of the original, or what its tokens spell.
-fn put_words(lent: Lent, o: Operation, out: &mut [u32], at: usize) -> usize
-    requires { Lies (lent_in lent) o × (at + length (words_by (lent_in lent) o) ≤ length out.old) }
-    ensures { Put (words_by (lent_in lent.entry) o) out.old at out.new result }
+fn put_words(lent: &Lent, o: Operation, out: &mut [u32], at: usize) -> usize
+    requires { Lies (lent_in lent.now) o × (at + length (words_by (lent_in lent.now) o) ≤ length out.old) }
+    ensures { Put (words_by (lent_in lent.now) o) out.old at out.new result }
 {
     if o.kind == INSERT {
         words::put_tokens(lent.text, lent.tokens, o.first, o.count, out, at)
@@ -28,9 +28,9 @@ fn put_words(lent: Lent, o: Operation, out: &mut [u32], at: usize) -> usize
 }
 
 // What an operation gives to the text: its words, or nothing where it deletes.
-fn put_text(lent: Lent, o: Operation, out: &mut [u32], at: usize) -> usize
-    requires { Lies (lent_in lent) o × (at + length (given_by (lent_in lent) o) ≤ length out.old) }
-    ensures { Put (given_by (lent_in lent.entry) o) out.old at out.new result }
+fn put_text(lent: &Lent, o: Operation, out: &mut [u32], at: usize) -> usize
+    requires { Lies (lent_in lent.now) o × (at + length (given_by (lent_in lent.now) o) ≤ length out.old) }
+    ensures { Put (given_by (lent_in lent.now) o) out.old at out.new result }
 {
     if o.kind == DELETE {
         at
@@ -49,15 +49,15 @@ fn side_of(o: Operation) -> usize
 // An operation's span and its words, each into its room. Kinds of spans are those of operations,
 // counted the other way.
 fn tell(
-    lent: Lent,
+    lent: &Lent,
     o: Operation,
     i: usize,
     history: &mut [usize],
     out: &mut [u32],
     at: usize,
 ) -> usize
-    requires { Lies (lent_in lent) o × ((i * 4 + 4 ≤ length history.old) × (at + length (words_by (lent_in lent) o) ≤ length out.old)) }
-    ensures { Told (span_by (lent_in lent.entry) o) history.old out.old i at history.new out.new result }
+    requires { Lies (lent_in lent.now) o × ((i * 4 + 4 ≤ length history.old) × (at + length (words_by (lent_in lent.now) o) ≤ length out.old)) }
+    ensures { Told (span_by (lent_in lent.now) o) history.old out.old i at history.new out.new result }
 {
     let next = put_words(lent, o, out, at);
     room::put(
@@ -76,7 +76,7 @@ pub fn write_text(lent: Lent, operations: &[usize], out: &mut [u32])
 {
     let mut at = 0;
     'text: for o in Operations(operations).each() {
-        at = put_text(lent, o, out, at);
+        at = put_text(&lent, o, out, at);
     }
 }
 
@@ -87,7 +87,7 @@ pub fn write_history(lent: Lent, operations: &[usize], history: &mut [usize], ou
 {
     let mut at = 0;
     'history: for (i, o) in Operations(operations).each().enumerate() {
-        at = tell(lent, o, i, history, out, at);
+        at = tell(&lent, o, i, history, out, at);
     }
 }
 
@@ -105,8 +105,8 @@ pub fn write_all(
     let mut at = 0;
     let mut told = 0;
     'all: for (i, o) in Operations(operations).each().enumerate() {
-        at = put_text(lent, o, out, at);
-        told = tell(lent, o, i, history, history_text, told);
+        at = put_text(&lent, o, out, at);
+        told = tell(&lent, o, i, history, history_text, told);
     }
 }
 

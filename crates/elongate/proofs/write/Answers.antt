@@ -1,6 +1,6 @@
 use Rattle.elongate.proofs.Walking.{walk_starts, appends, lent_run, some_run, tokens_most, sums_most, walk_joins, walk_parts, parts_fits, ends_fits, walk_ends}
 use Rattle.elongate.proofs.Walks.{walk_begins, took, ended}
-use Rattle.std.proofs.Common.{sym, ◌∙◌, refl, arith}
+use Rattle.std.proofs.Common.{sym, ◌∙◌, arith}
 use Rattle.elongate.proofs.write.Goals as goal
 
 pub walk-init : goal.walk-init
@@ -18,8 +18,8 @@ append-requires c = appends (rw ((took c.step.ensures c.in-Take.is).0) at c.walk
 pub run_text-length-requires : goal.run_text-length-requires
 run_text-length-requires c = omega (arith, lent_run (rw ((took c.step.ensures c.in-Take.is).0) at c.walk.invariant.1))
 
-pub bounds-lent-r : goal.bounds-lent-r
-bounds-lent-r c = let h = rw ((took c.step.ensures c.in-Take.is).0) at c.walk.invariant.1 in omega (arith, lent_run h, some_run h)
+pub left_joinable-left-requires : goal.left_joinable-left-requires
+left_joinable-left-requires c = let h = rw ((took c.step.ensures c.in-Take.is).0) at c.walk.invariant.1 in omega (arith, lent_run h, some_run h)
 
 pub overflow_add-last : goal.overflow_add-last
 overflow_add-last c = omega (arith, lent_run (rw ((took c.step.ensures c.in-Take.is).0) at c.walk.invariant.1), c.well_formed)
@@ -27,8 +27,8 @@ overflow_add-last c = omega (arith, lent_run (rw ((took c.step.ensures c.in-Take
 pub overflow_sub-last : goal.overflow_sub-last
 overflow_sub-last c = omega (arith, some_run (rw ((took c.step.ensures c.in-Take.is).0) at c.walk.invariant.1))
 
-pub bounds-lent-last : goal.bounds-lent-last
-bounds-lent-last c = let h = rw ((took c.step.ensures c.in-Take.is).0) at c.walk.invariant.1 in omega (arith, lent_run h, some_run h)
+pub right_joinable-right-requires : goal.right_joinable-right-requires
+right_joinable-right-requires c = let h = rw ((took c.step.ensures c.in-Take.is).0) at c.walk.invariant.1 in omega (arith, lent_run h, some_run h)
 
 pub extended-current-requires : goal.extended-current-requires
 extended-current-requires c =
@@ -38,16 +38,16 @@ extended-current-requires c =
 pub walk-preserved-then-joins : goal.walk-preserved-then-joins
 walk-preserved-then-joins c =
     let t = took c.step.ensures c.in-Take.is in
-    (t.1.1, walk_joins (rw t.0 at c.walk.invariant.1) c.run_text-length.ensures refl refl c.append.ensures (sym c.joins.ensures ∙ c.if-joins.true) c.extended-current.ensures)
+    (t.1.1, walk_joins (rw t.0 at c.walk.invariant.1) c.run_text-length.ensures c.left_joinable-left.ensures c.right_joinable-right.ensures c.append.ensures (sym c.joins.ensures ∙ c.if-joins.true) c.extended-current.ensures)
 
 pub close-written-requires : goal.close-written-requires
 close-written-requires c =
-    parts_fits (rw ((took c.step.ensures c.in-Take.is).0) at c.walk.invariant.1) c.run_text-length.ensures refl refl (sym c.joins.ensures ∙ c.if-joins.false)
+    parts_fits (rw ((took c.step.ensures c.in-Take.is).0) at c.walk.invariant.1) c.run_text-length.ensures c.left_joinable-left.ensures c.right_joinable-right.ensures (sym c.joins.ensures ∙ c.if-joins.false)
 
 pub walk-preserved : goal.walk-preserved
 walk-preserved c =
     let t = took c.step.ensures c.in-Take.is in (
       t.1.1,
-      walk_parts (rw t.0 at c.walk.invariant.1) c.run_text-length.ensures refl refl c.append.ensures (sym c.joins.ensures ∙ c.if-joins.false) c.close-written.ensures
+      walk_parts (rw t.0 at c.walk.invariant.1) c.run_text-length.ensures c.left_joinable-left.ensures c.right_joinable-right.ensures c.append.ensures (sym c.joins.ensures ∙ c.if-joins.false) c.close-written.ensures
           c.next-current.ensures,
     )
