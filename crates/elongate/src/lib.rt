@@ -178,9 +178,9 @@ fn append(
 {
     let first = r.first;
     let end = first + r.count;
-    room::put(&lent.tokens.spans[first * 2..end * 2], spanned, at * 2);
-    room::put(&lent.tokens.keys[first..end], keyed, at);
-    room::put(&lent.joins[first..end], joined, at);
+    room::put_short(&lent.tokens.spans[first * 2..end * 2], spanned, at * 2);
+    room::put_short(&lent.tokens.keys[first..end], keyed, at);
+    room::put_short(&lent.joins[first..end], joined, at);
 }
 
 // How many operations and tokens were written.

@@ -85,7 +85,7 @@ pub fn remember_tokens(
     requires { Writable tokens.spans.now tokens.keys.now work.old first count fill half }
     ensures { Written tokens.entry.spans.now tokens.entry.keys.now work.old work.new first count fill half }
 {
-    room::put(&tokens.keys[first..first + count], work, fill);
+    room::put_short(&tokens.keys[first..first + count], work, fill);
     put_lengths(tokens.spans, first, count, work, half + fill);
 }
 

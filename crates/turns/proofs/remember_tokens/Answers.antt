@@ -4,4 +4,4 @@ use Rattle.turns.proofs.Memories.{written}
 use Rattle.turns.proofs.remember_tokens.Goals as goal
 
 pub returns : goal.returns
-returns c = written _ _ c.requires c.put.ensures.stands c.put_lengths.ensures
+returns c = written _ _ c.requires c.put_short.ensures.stands c.put_lengths.ensures
