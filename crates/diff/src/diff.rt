@@ -1,7 +1,7 @@
 // A diff is lent as a flat slice of 64-bit numbers, three to an item: kind, number or start, length.
 // Kind 0 is a number, whose sign chooses retain or delete; kind 1 a text, a range of the lent text.
 // Kept so: the C interface lends items as numbers.
-ghost use Rattle.std.specs.Prelude.{◌≡◌, ◌+◌, ◌-◌, ◌*◌, ◌/◌, ◌<◌, ◌≤◌, length, IfOk, IfErr};
+ghost use Rattle.std.specs.Prelude.{◌≡◌, ◌+◌, ◌-◌, ◌*◌, ◌/◌, ◌<◌, ◌≤◌, length, nat_abs, IfOk, IfErr};
 ghost use Rattle.refusal.specs.declared.Refusal.TheVariants.{Short};
 ghost use Rattle.diff.specs.Items.{numbered, ranged, item_at, items_of};
 ghost use Rattle.diff.specs.Replay.{edits_of};
@@ -25,15 +25,22 @@ pub enum Item {
     Neither,
 }
 
+// The size of a number, that of the smallest included: no negation of it is made.
+pub fn magnitude(number: i64) -> u64
+    ensures { result ≡ nat_abs number }
+{
+    number.unsigned_abs()
+}
+
 // What a number asks for.
 #[tactic(auto, unfolding(crate::specs::Items::numbered))]
 pub fn number_item(number: i64) -> Item
     ensures { result ≡ numbered number }
 {
     if number < 0 {
-        Item::Delete(number.unsigned_abs())
+        Item::Delete(magnitude(number))
     } else {
-        Item::Retain(number.unsigned_abs())
+        Item::Retain(magnitude(number))
     }
 }
 
@@ -42,9 +49,13 @@ pub fn number_item(number: i64) -> Item
 pub fn text_item(start: i64, length: i64, lent: usize) -> Item
     ensures { result ≡ ranged start length lent }
 {
-    match (usize::try_from(start), usize::try_from(length)) {
-        (Ok(start), Ok(length)) if start + length <= lent => Item::Insert { start, length },
-        _ => Item::Neither,
+    if 0 <= start && 0 <= length && start as usize + length as usize <= lent {
+        Item::Insert {
+            start: start as usize,
+            length: length as usize,
+        }
+    } else {
+        Item::Neither
     }
 }
 
@@ -60,6 +71,54 @@ pub fn item_at(items: &[i64], lent: usize, i: usize) -> Item
         TEXT => text_item(items[b + 1], items[b + 2], lent),
         _ => Item::Neither,
     }
+}
+
+// The items of a diff by their numbers, and how many code points are lent for their texts.
+#[derive(Clone, Copy)]
+struct LentItems<'a> {
+    numbers: &'a [i64],
+    lent: usize,
+}
+
+impl<'a> Records for LentItems<'a> {
+    type Record = Item;
+
+    ghost count = { λ t. length t.numbers.now / 3 };
+
+    ghost record_at = { λ t i. item_at t.numbers.now t.lent i };
+
+    fn count(self) -> usize {
+        self.numbers.len() / 3
+    }
+
+    fn at(self, i: usize) -> Item {
+        item_at(self.numbers, self.lent, i)
+    }
+}
+
+// What a look at all items finds, of so many code points lent: refusal 3 by what the texts use, and within it refusal 1, the first item that is neither number nor text, or how much text is used.
+pub fn survey(items: &[i64], lent: usize) -> Result<Result<usize, Refusal>, Refusal>
+    ensures { result ≡ surveyed (items_of items.now lent) }
+{
+    let mut sum: usize = 0;
+    let mut checked = Ok(());
+    let lent_items = LentItems {
+        numbers: items,
+        lent,
+    };
+    'items: for (i, item) in lent_items.each().enumerate() {
+        match item {
+            Item::Insert { start: _, length } => {
+                if 131070 - sum < length {
+                    return Err(Refusal::Size);
+                }
+                sum += length;
+            }
+            Item::Retain(_) | Item::Delete(_) => {}
+            Item::Neither => checked = checked.and(Err(Refusal::Record { index: i })),
+        }
+    }
+    Ok(checked.and(Ok(sum)))
 }
 
 // The items of a diff as they are lent: their numbers, and the text that they use.
@@ -116,25 +175,11 @@ impl<'a> Items<'a> {
         Items { numbers, text }
     }
 
-    // Refusal 3 by what the texts use, and within it refusal 1, the first item that is neither number nor text, or how much text is used.
+    // The same of items and the text that they use.
     pub fn survey(self) -> Result<Result<usize, Refusal>, Refusal>
         ensures { result ≡ surveyed (items_of self.entry.numbers.now (length self.entry.text.now)) }
     {
-        let mut sum: usize = 0;
-        let mut checked = Ok(());
-        'items: for (i, item) in self.each().enumerate() {
-            match item {
-                Item::Insert { start: _, length } => {
-                    if 131070 - sum < length {
-                        return Err(Refusal::Size);
-                    }
-                    sum += length;
-                }
-                Item::Retain(_) | Item::Delete(_) => {}
-                Item::Neither => checked = checked.and(Err(Refusal::Record { index: i })),
-            }
-        }
-        Ok(checked.and(Ok(sum)))
+        survey(self.numbers, self.text.len())
     }
 
     // Where the numbers lead over an original of so many code points; refusal 6, the first that asks too much.

@@ -47,7 +47,8 @@ fn side_of(o: Operation) -> usize
 }
 
 // An operation's span and its words, each into its room. Kinds of spans are those of operations,
-// counted the other way.
+// counted the other way. Laid out in each loop over operations: a call for each would hand it on through the stack.
+#[inline(always)]
 fn tell(
     lent: &Lent,
     o: Operation,

@@ -1,12 +1,12 @@
-use Rattle.diff.proofs.Loops.{counted_begins, counted_on, came, over_ends}
+use Rattle.diff.proofs.Loops.{lent_begins, counted_on, came, over_ends}
 use Rattle.diff.proofs.Turns.{survey_begins, survey_ends, survey_number, survey_insert, survey_long, survey_neither}
 use Rattle.std.proofs.Common.{◌∙◌}
-use Rattle.diff.proofs.diff.Items.survey.Goals as goal
+use Rattle.diff.proofs.diff.survey.Goals as goal
 
 pub items-init : goal.items-init
 items-init c =
     rw c.into_iter-i-iterator.ensures.into_iter_gives
-    (counted_begins _ (c.enumerate-i-items.ensures.source ∙ c.each.ensures) c.enumerate-i-items.ensures.count (survey_begins _ _))
+    (lent_begins _ (c.enumerate-i-items.ensures.source ∙ c.each.ensures) c.enumerate-i-items.ensures.count (survey_begins _ _))
 
 pub returns-then-sum-length : goal.returns-then-sum-length
 returns-then-sum-length c = came c.items.invariant.over c.in-Some.ensures.steps.0 (λ k l e. survey_long k l (e ∙ c.in-Insert.is) c.if-sum-length.true)
