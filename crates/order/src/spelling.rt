@@ -11,7 +11,7 @@ use records::each::Records;
 use std::cmp::Ordering;
 
 // What is left of a spelling: the rest of one token's text, and then `count` tokens from `next` on.
-#[derive(Drop)]
+#[derive(Clone, Copy)]
 pub struct Reader<'a> {
     pub lent: Lent<'a>,
     pub rest: &'a [u32],
