@@ -41,16 +41,22 @@ pub fn agrees<'a>(lent: Lent, list: List, text: Text<'a>, history: History<'a>) 
 
 // Where `apply` refuses, by a cursor perhaps, so does `apply_with_all`, and writes no history.
 fn both<'a>(text: Text<'a>, history: History<'a>) -> All<'a> {
-    if text.due.is_refusal() {
-        return refused(text.due);
-    }
+    let written = if text.due.is_refusal() {
+        History {
+            spans: &[],
+            told: &[],
+            ..history
+        }
+    } else {
+        history
+    };
     All {
         applied: text.due,
         counted: history.due,
         words: text.words,
         moved: text.moved,
-        spans: history.spans,
-        told: history.told,
+        spans: written.spans,
+        told: written.told,
     }
 }
 
@@ -85,11 +91,12 @@ fn gives(lent: Lent, list: List, lengths: Lengths, all: All) -> bool {
 }
 
 impl<'a> All<'a> {
+    // Of the history's line its counts alone are asked, as `apply`'s line says whether there is a refusal.
     fn is_answer(self, answer: Result<WithAll, Refusal>) -> bool {
         match answer {
             Ok(n) => {
-                self.applied == Due::counts(n.text, n.cursors, 0)
-                    && self.counted == Due::counts(n.spans, n.history_text, 0)
+                self.applied.is_answer(Ok([n.text, n.cursors]))
+                    && self.counted.begins_with(&[n.spans, n.history_text])
             }
             Err(why) => self.applied == Due::from(why),
         }

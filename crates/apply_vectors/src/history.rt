@@ -23,7 +23,7 @@ pub fn agrees(lent: Lent, operations: &[usize], history: History) -> bool {
         told: &[],
     };
     let asked = [0, 0, history.spans.len(), history.told.len()];
-    due_of(apply::apply_with_history_lengths(lent, operations)) == history.due
+    is_due(apply::apply_with_history_lengths(lent, operations), history.due)
         && rooms::agrees(asked, |lengths, short| {
             gives(
                 lent,
@@ -41,11 +41,11 @@ fn gives(lent: Lent, operations: &[usize], lengths: Lengths, history: History) -
     let [_, _, spans, told] = lengths;
     let spans = &mut spans_room[..spans.min(AMPLE)];
     let told = &mut told_room[..told.min(AMPLE)];
-    due_of(apply::apply_with_history(lent, operations, spans, told)) == history.due
+    is_due(apply::apply_with_history(lent, operations, spans, told), history.due)
         && marked::holds(spans, history.spans)
         && marked::holds(told, history.told)
 }
 
-fn due_of(answer: Result<WithHistory, Refusal>) -> Due {
-    answer.map_or_else(Due::from, |n| Due::counts(n.spans, n.text, 0))
+fn is_due(answer: Result<WithHistory, Refusal>, due: Due) -> bool {
+    due.is_answer(answer.map(|n| [n.spans, n.text]))
 }

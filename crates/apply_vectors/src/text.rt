@@ -23,7 +23,7 @@ pub fn agrees(lent: Lent, list: List, text: Text) -> bool {
         moved: &[],
     };
     let asked = [text.words.len(), text.moved.len(), 0, 0];
-    due_of(apply::apply_lengths(lent, list)) == text.due
+    is_due(apply::apply_lengths(lent, list), text.due)
         && rooms::agrees(asked, |lengths, short| {
             gives(lent, list, lengths, if short { nothing } else { text })
         })
@@ -36,11 +36,11 @@ fn gives(lent: Lent, list: List, lengths: Lengths, text: Text) -> bool {
     let [words, moved, _, _] = lengths;
     let words = &mut words_room[..words.min(AMPLE)];
     let moved = &mut moved_room[..moved.min(AMPLE)];
-    due_of(apply::apply(lent, list, words, moved)) == text.due
+    is_due(apply::apply(lent, list, words, moved), text.due)
         && marked::holds(words, text.words)
         && marked::holds(moved, text.moved)
 }
 
-fn due_of(answer: Result<Applied, Refusal>) -> Due {
-    answer.map_or_else(Due::from, |n| Due::counts(n.text, n.cursors, 0))
+fn is_due(answer: Result<Applied, Refusal>, due: Due) -> bool {
+    due.is_answer(answer.map(|n| [n.text, n.cursors]))
 }

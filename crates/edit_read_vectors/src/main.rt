@@ -4,6 +4,7 @@
 // each of its bits flipped, 0 where that is accepted. File, text and items are in pieces; the last two lines are empty in most cases.
 #![tactic(auto)]
 
+use item_records::Counts;
 use marked::Mark;
 use refusal::Refusal;
 use vectors::{Due, Tally};
@@ -90,7 +91,7 @@ fn more_at(bytes: &[u8], at: usize, tallies: Tallies, file: &[u8]) -> Turn {
 fn reads(file: &[u8], due: Due, items: &[i64], text: &[u32]) -> bool {
     let i = items.len();
     let t = text.len();
-    if lengths(file) != due {
+    if !is_due(edit_read::read_lengths(file), due) {
         return false;
     }
     if !leaves(file, i, t, due, items, text) {
@@ -124,7 +125,7 @@ fn leaves(
     let mut items_room = [i64::MARK; 24584];
     let mut text_room = [u32::MARK; 131080];
     let answer = lend(file, items_lent, text_lent, &mut items_room, &mut text_room);
-    answer == due && marked::holds(&items_room, items) && marked::holds(&text_room, text)
+    is_due(answer, due) && marked::holds(&items_room, items) && marked::holds(&text_room, text)
 }
 
 // Reading into the beginnings of rooms.
@@ -134,22 +135,15 @@ fn lend(
     text_lent: usize,
     items: &mut [i64],
     text: &mut [u32],
-) -> Due {
+) -> Result<Counts, Refusal> {
     match (items.get_mut(..items_lent), text.get_mut(..text_lent)) {
-        (Some(items), Some(text)) => edit_read::read(file, items, text).map_or_else(
-            Due::from,
-            |read| Due::counts(read.items, read.text, 0),
-        ),
-        _ => Due::counts(0, 0, 0),
+        (Some(items), Some(text)) => edit_read::read(file, items, text),
+        _ => Ok(Counts { items: 0, text: 0 }),
     }
 }
 
-// What the lengths of a file are due as.
-fn lengths(file: &[u8]) -> Due {
-    edit_read::read_lengths(file).map_or_else(
-        Due::from,
-        |read| Due::counts(read.items, read.text, 0),
-    )
+fn is_due(answer: Result<Counts, Refusal>, due: Due) -> bool {
+    due.is_answer(answer.map(|read| [read.items, read.text]))
 }
 
 fn believes(file: &[u8], lengths: &[usize], tally: Tally) -> Tally {

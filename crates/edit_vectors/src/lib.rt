@@ -2,6 +2,8 @@
 // said in short lines.
 #![tactic(auto)]
 
+ghost use Rattle.edit_vectors.specs.Cases.{Fits};
+
 mod pieces;
 
 use vectors::Due;
@@ -23,7 +25,9 @@ pub fn case_at<'a>(
     file: &'a mut [u8],
     text: &'a mut [u32],
     items: &'a mut [i64],
-) -> Case<'a> {
+) -> Case<'a>
+    ensures { Fits file.old text.old items.old result }
+{
     let file_line = pieces::spread_at(bytes, at, items);
     let file = pieces::converted(file_line.numbers, file);
     let answer = vectors::due_at(bytes, file_line.next);

@@ -1,10 +1,13 @@
 // A line of pieces: how often a piece stands, how many numbers it has, and these. The numbers that it says, in full.
 ghost use Rattle.std.specs.Prelude.{◌≤◌, length};
+ghost use Rattle.vectors.specs.Lines.{Read};
 
 use vectors::{FromDecimal, Line};
 
 // The line at an offset, its pieces spread out into the room.
-pub fn spread_at<'a>(bytes: &[u8], at: usize, room: &'a mut [i64]) -> Line<'a, i64> {
+pub fn spread_at<'a>(bytes: &[u8], at: usize, room: &'a mut [i64]) -> Line<'a, i64>
+    ensures { Read bytes.now room.old at result }
+{
     let mut line = [0i64; 1024];
     let read = vectors::numbers(bytes, at, &mut line);
     let next = read.next;
@@ -25,7 +28,12 @@ fn spread(line: &[i64], room: &mut [i64]) -> usize
             return n;
         };
         'times: for _ in 0..as_usize(*times) {
-            n = put(piece, room, n);
+            let end = put(piece, room, n);
+            // Nor would another put more: the piece is empty or the room is full.
+            if end == n {
+                break 'times;
+            }
+            n = end;
         }
         rest = behind;
     }
@@ -47,7 +55,9 @@ fn as_usize(n: i64) -> usize {
 }
 
 // The numbers as bytes or code points; what the room has no place for is left out.
-pub fn converted<'a, T: FromDecimal>(numbers: &[i64], room: &'a mut [T]) -> &'a [T] {
+pub fn converted<'a, T: FromDecimal>(numbers: &[i64], room: &'a mut [T]) -> &'a [T]
+    ensures { length result.now ≤ length room.old }
+{
     for (out, n) in room.iter_mut().zip(numbers) {
         *out = T::from_decimal(n.unsigned_abs(), *n < 0);
     }

@@ -35,7 +35,7 @@ fn turn_at(bytes: &[u8], at: usize, file: &mut [u8], text: &mut [u32], items: &m
 // Whether the calls give what is due, in rooms that are longer, just long enough and one short.
 fn writes(items: &[i64], text: &[u32], due: Due, file: &[u8]) -> bool {
     let f = file.len();
-    if Due::from(edit_write::write_length(items, text)) != due
+    if !due.is_answer(edit_write::write_length(items, text).map(|n| [n]))
         || !leaves(items, text, f, due, file)
         || f > 327680
         || !leaves(items, text, f + 1, due, file)
@@ -50,7 +50,7 @@ fn writes(items: &[i64], text: &[u32], due: Due, file: &[u8]) -> bool {
 fn leaves(items: &[i64], text: &[u32], lent: usize, due: Due, file: &[u8]) -> bool {
     let mut room = [u8::MARK; 327688];
     let answer = lend(items, text, lent, &mut room);
-    Due::from(answer) == due && marked::holds(&room, file)
+    due.is_answer(answer.map(|n| [n])) && marked::holds(&room, file)
 }
 
 // Writing into the beginning of a room.

@@ -100,7 +100,7 @@ impl<'a> Pair<'a> {
         let answer = edited_text::merge(
             self.lent, self.left, self.right, operations, cursors, work,
         );
-        answer.map_or_else(Due::from, |n| Due::counts(n.operations, n.cursors, 0)) == due
+        due.is_answer(answer.map(|n| [n.operations, n.cursors]))
             && marked::holds(operations, merged.operations)
             && marked::holds(cursors, merged.cursors)
             && (!due.is_refusal() || marked::holds(work, &[]))

@@ -65,6 +65,6 @@ fn gives(old: &[u32], new: &[u32], lent: usize, due: Due) -> bool {
 // Of the work room only a refusal promises what it holds.
 fn gives_in(old: &[u32], new: &[u32], due: Due, work: &mut [u32]) -> bool {
     let found = find_longest_prefix_contained_within(old, new, work);
-    found.map_or_else(Due::from, |range| Due::counts(range.start, range.end, 0)) == due
+    due.is_answer(found.map(|range| [range.start, range.end]))
         && (!due.is_refusal() || marked::holds(work, &[]))
 }

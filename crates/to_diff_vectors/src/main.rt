@@ -83,7 +83,7 @@ impl<'a> Edit<'a> {
     fn agrees(self, diff: Diff) -> bool {
         let items = diff.items.len();
         let words = diff.words.len();
-        due_of(to_diff::to_diff_lengths(self.lent, self.operations)) == diff.due
+        is_due(to_diff::to_diff_lengths(self.lent, self.operations), diff.due)
             && self.gives(AMPLE, AMPLE, diff)
             && self.gives(items, words, diff)
             && (items == 0 || self.refuses(items.saturating_sub(1), words))
@@ -106,12 +106,12 @@ impl<'a> Edit<'a> {
         let items_lent = &mut items_room[..items.min(AMPLE)];
         let words_lent = &mut words_room[..words.min(AMPLE)];
         let answer = to_diff::to_diff(self.lent, self.operations, items_lent, words_lent);
-        due_of(answer) == diff.due
+        is_due(answer, diff.due)
             && marked::holds(items_lent, diff.items)
             && marked::holds(words_lent, diff.words)
     }
 }
 
-fn due_of(answer: Result<Counts, Refusal>) -> Due {
-    answer.map_or_else(Due::from, |n| Due::counts(n.items, n.text, 0))
+fn is_due(answer: Result<Counts, Refusal>, due: Due) -> bool {
+    due.is_answer(answer.map(|n| [n.items, n.text]))
 }

@@ -78,7 +78,7 @@ fn string_agrees(index: usize, due: Due, points: &[u32]) -> bool {
 
 fn agrees(bytes: &[u8], due: Due, points: &[u32]) -> bool {
     let mut room = [0u32; 2];
-    Due::from(utf8::read_length(bytes)) == due
-        && Due::from(utf8::read(bytes, &mut room)) == due
+    due.is_answer(utf8::read_length(bytes).map(|n| [n]))
+        && due.is_answer(utf8::read(bytes, &mut room).map(|n| [n]))
         && room.starts_with(points)
 }

@@ -3,7 +3,7 @@
 // `0 count` or `10 offset`, and the code points.
 #![tactic(auto)]
 
-use vectors::{Case, Due};
+use vectors::Case;
 
 fn main() {
     let mut space = io::large_buffer();
@@ -26,8 +26,9 @@ fn case_at(bytes: &[u8], at: usize, text: &mut [u8], points: &mut [u32], room: &
     let text_line = vectors::numbers(bytes, at, text);
     let answer = vectors::due_at(bytes, text_line.next);
     let points_line = vectors::numbers(bytes, answer.next, points);
-    let agrees = Due::from(utf8::read_length(text_line.numbers)) == answer.due
-        && Due::from(utf8::read(text_line.numbers, room)) == answer.due
+    let due = answer.due;
+    let agrees = due.is_answer(utf8::read_length(text_line.numbers).map(|n| [n]))
+        && due.is_answer(utf8::read(text_line.numbers, room).map(|n| [n]))
         && room.starts_with(points_line.numbers);
     Case {
         agrees,

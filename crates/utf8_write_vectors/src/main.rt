@@ -3,7 +3,7 @@
 // answer `0 count` or `4 index`, and the bytes.
 #![tactic(auto)]
 
-use vectors::{Case, Due};
+use vectors::Case;
 
 fn main() {
     let mut space = io::large_buffer();
@@ -26,8 +26,9 @@ fn case_at(bytes: &[u8], at: usize, text: &mut [u32], written: &mut [u8], room: 
     let text_line = vectors::numbers(bytes, at, text);
     let answer = vectors::due_at(bytes, text_line.next);
     let written_line = vectors::numbers(bytes, answer.next, written);
-    let agrees = Due::from(utf8::write_length(text_line.numbers)) == answer.due
-        && Due::from(utf8::write(text_line.numbers, room)) == answer.due
+    let due = answer.due;
+    let agrees = due.is_answer(utf8::write_length(text_line.numbers).map(|n| [n]))
+        && due.is_answer(utf8::write(text_line.numbers, room).map(|n| [n]))
         && room.starts_with(written_line.numbers);
     Case {
         agrees,

@@ -1,4 +1,7 @@
-// What a case's answer line says, and what a call's answer is in the same words.
+// What a case's answer line says, and whether a call's answer is that.
+ghost use Rattle.std.specs.Prelude.{◌≢◌, ◌↔◌, IsTrue};
+ghost use Rattle.vectors.specs.Answers.{Begins, IsDue};
+
 use refusal::{Refusal, Values};
 
 // An answer, as its line says it: 0 and the counts, or a refusal's number and values; 0 after the last.
@@ -33,20 +36,32 @@ pub fn due_at(bytes: &[u8], at: usize) -> DueLine {
 }
 
 impl Due {
-    // An answer of so many counts, 0 after the last.
-    pub fn counts(first: usize, second: usize, third: usize) -> Due {
-        Due {
-            number: 0,
-            values: Values {
-                first: first as u64,
-                second: second as u64,
-                third: third as u64,
-            },
-        }
+    pub fn is_refusal(self) -> bool
+        ensures { IsTrue result ↔ (self.number ≢ 0) }
+    {
+        self.number != 0
     }
 
-    pub fn is_refusal(self) -> bool {
-        self.number != 0
+    // Whether the line has these counts behind its first number; what it has behind them is not asked.
+    pub fn begins_with(self, counts: &[usize]) -> bool
+        ensures { IsTrue result ↔ Begins self counts.now }
+    {
+        let Values {
+            first,
+            second,
+            third,
+        } = self.values;
+        [first as usize, second as usize, third as usize].starts_with(counts)
+    }
+
+    // Whether a call's answer is due: as many counts as it has, or the refusal with all its values.
+    pub fn is_answer<const N: usize>(self, answer: Result<[usize; N], Refusal>) -> bool
+        ensures { IsTrue result ↔ IsDue self answer.entry }
+    {
+        match answer {
+            Ok(counts) => !self.is_refusal() && self.begins_with(&counts),
+            Err(why) => self.number == why.number() && self.values == why.values(),
+        }
     }
 }
 
@@ -55,16 +70,6 @@ impl From<Refusal> for Due {
         Due {
             number: why.number(),
             values: why.values(),
-        }
-    }
-}
-
-// What an answer of one count is due as.
-impl From<Result<usize, Refusal>> for Due {
-    fn from(answer: Result<usize, Refusal>) -> Due {
-        match answer {
-            Ok(count) => Due::counts(count, 0, 0),
-            Err(why) => Due::from(why),
         }
     }
 }
