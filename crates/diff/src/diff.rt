@@ -73,41 +73,15 @@ pub fn item_at(items: &[i64], lent: usize, i: usize) -> Item
     }
 }
 
-// The items of a diff by their numbers, and how many code points are lent for their texts.
-#[derive(Clone, Copy)]
-struct LentItems<'a> {
-    numbers: &'a [i64],
-    lent: usize,
-}
-
-impl<'a> Records for LentItems<'a> {
-    type Record = Item;
-
-    ghost count = { λ t. length t.numbers.now / 3 };
-
-    ghost record_at = { λ t i. item_at t.numbers.now t.lent i };
-
-    fn count(self) -> usize {
-        self.numbers.len() / 3
-    }
-
-    fn at(self, i: usize) -> Item {
-        item_at(self.numbers, self.lent, i)
-    }
-}
-
 // What a look at all items finds, of so many code points lent: refusal 3 by what the texts use, and within it refusal 1, the first item that is neither number nor text, or how much text is used.
 pub fn survey(items: &[i64], lent: usize) -> Result<Result<usize, Refusal>, Refusal>
     ensures { result ≡ surveyed (items_of items.now lent) }
 {
     let mut sum: usize = 0;
     let mut checked = Ok(());
-    let lent_items = LentItems {
-        numbers: items,
-        lent,
-    };
-    'items: for (i, item) in lent_items.each().enumerate() {
-        match item {
+    // Kept so, here and in `walk`: tried, and slower: an iterator hands each item on as one that may be none, and what it is is asked again.
+    'items: for i in 0..items.len() / 3 {
+        match item_at(items, lent, i) {
             Item::Insert { start: _, length } => {
                 if 131070 - sum < length {
                     return Err(Refusal::Size);
@@ -188,8 +162,8 @@ impl<'a> Items<'a> {
     {
         let mut position: usize = 0;
         let mut kept: usize = 0;
-        'items: for item in self.each() {
-            match item {
+        'items: for i in 0..self.numbers.len() / 3 {
+            match item_at(self.numbers, self.text.len(), i) {
                 Item::Retain(n) => {
                     let n = asked(position, len, n)?;
                     position += n;

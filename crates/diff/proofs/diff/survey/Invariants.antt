@@ -1,7 +1,6 @@
 -- `survey` finds too much text, the first item that is neither, or what is used. Its turns are those of Surveying (Turns).
-use Rattle.diff.proofs.Loops.{LentCounted}
 use Rattle.diff.proofs.Turns.{Surveying}
 use Rattle.diff.proofs.diff.survey.Given as goal
 
 abbrev pub invariant-items : goal.invariant-items
-invariant-items l = LentCounted l.items l.lent (λ i. Surveying l.items l.lent i l.sum l.checked) l.i-iterator
+invariant-items l = Surveying l.items l.lent l.i l.sum l.checked
