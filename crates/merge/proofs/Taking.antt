@@ -2,7 +2,7 @@
 -- By the choice: a turn of the left, or, with the sides exchanged, one of the right. Assumes nothing.
 use Rattle.std.specs.Prelude.{Option, Some, None}
 use Prim.Native.Nat.{ℕ, ◌+◌, ◌<◌}
-use mathlib.Core.Path.{◌≡◌, refl, sym, subst}
+use mathlib.Core.Path.{◌≡◌, sym, subst}
 use mathlib.Core.List.{List}
 use native.Mathlib.Omega.{arith}
 use lib.ListN.{length}
@@ -19,16 +19,11 @@ use Rattle.merge.specs.declared.Sides.{Sides}
 use Rattle.merge.specs.declared.Which.{Which}
 use Rattle.merge.specs.declared.Which.TheVariants.{Left, Right}
 use Rattle.merge.specs.declared.Choice.{Choice}
-use Rattle.merge.specs.Choosing.{choice_of, of_which, number_of, which_of}
+use Rattle.merge.specs.Choosing.{choice_of, of_which, number_of}
 use Rattle.merge.specs.Turning.{Turnable, Turns}
 use Rattle.merge.proofs.OneTurn.{state_of}
 use Rattle.merge.proofs.Running.{Frame, frame, exchanged, Going, exchange, Taking, goes_left, goes_right, side_turnable, side_less, side_step}
 use Rattle.merge.proofs.Ends.{ChosenOf, Chosen, chosen}
-
--- the side of a side's number is that side
-pub numbered : (s : Which) → which_of (number_of s) ≡ s
-numbered Left = refl
-numbered Right = refl
 
 module _ (priority : Ordering) {original text spans keys lops rops lcs rcs : List ℕ} {mid half : ℕ} {w₀ out₀ moved₀ w out moved : List ℕ} {left right : Side} {totals : Totals}
     (G : Going (frame original text spans keys lops rops lcs rcs priority mid half w₀ out₀ moved₀) w out moved left right totals) where

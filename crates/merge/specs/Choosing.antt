@@ -1,6 +1,5 @@
 -- The side of a turn. Assumes nothing.
-use Rattle.std.specs.Prelude.{true, false, List, ℕ, Option, Some, None, eqb}
-use Rattle.room.specs.Choice.{pick}
+use Rattle.std.specs.Prelude.{true, false, List, ℕ, Option, Some, None}
 use Rattle.merging.specs.declared.Op.{Op}
 use Rattle.std.specs.declared.cmp.Ordering.{Ordering}
 use Rattle.merging.specs.Lent.{Lent}
@@ -32,7 +31,3 @@ of_which Right x y = y
 abbrev pub number_of : Which → ℕ
 number_of Left = 0
 number_of Right = 1
-
--- the side of a number: 0 is left, any other right
-abbrev pub which_of : ℕ → Which
-which_of n = pick (eqb n 0) Left Right

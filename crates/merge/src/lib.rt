@@ -10,7 +10,7 @@ ghost use Rattle.cursor_position.specs.Moves.{Fits, left_of, waits, Spacious, We
 ghost use Rattle.turns.specs.Looking.{list_from, FirstFits, Looks};
 ghost use Rattle.merge.specs.Meetings.{Shifted, Facing, Meets};
 ghost use Rattle.merge.specs.Turning.{Turnable, Turns};
-ghost use Rattle.merge.specs.Choosing.{NextReadable, choice_of, of_which, number_of, which_of};
+ghost use Rattle.merge.specs.Choosing.{NextReadable, choice_of, of_which, number_of};
 ghost use Rattle.merge.specs.Running.{starting, Runnable, Ran};
 
 use cursor_position::{Progress, end_cursors};
@@ -137,16 +137,6 @@ impl Which {
             Which::Right => 1,
         }
     }
-
-    // The side of a number: 0 is left, any other right.
-    fn of_number(number: usize) -> Which
-        ensures { result ≡ which_of number }
-    {
-        if number == 0 {
-            return Which::Left;
-        }
-        Which::Right
-    }
 }
 
 // The side of a turn, with the operation that it takes.
@@ -207,14 +197,13 @@ fn move_side(
     p
 }
 
-// A turn of the side `own`, which has a number, 0 left and any other right: it takes a, and what it emits has that
-// number. The lists are those of both sides. Kept so: tried, and slower: a list of one side, picked at each turn, is
-// held on the stack.
+// A turn of the side `own`, as it was chosen; what it emits has the side's number, which may be any. The lists are
+// those of both sides. Kept so: tried, and slower: a list of one side, picked at each turn, is held on the stack.
 pub fn turn(
     tokens: Tokens,
     left: List,
     right: List,
-    a: Op,
+    choice: Choice,
     number: usize,
     sides: Sides,
     work: &mut [u32],
@@ -222,19 +211,18 @@ pub fn turn(
     out: &mut [usize],
     moved: &mut [usize],
 ) -> Sides
-    requires { Turnable tokens.spans.now tokens.keys.now (of_which (which_of number) left.operations.now right.operations.now) (of_which (which_of number) left.cursors.now right.cursors.now) work.old half a sides.own sides.other sides.totals number out.old moved.old }
-    ensures { Turns tokens.entry.spans.now tokens.entry.keys.now (of_which (which_of number) left.entry.operations.now right.entry.operations.now) (of_which (which_of number) left.entry.cursors.now right.entry.cursors.now) work.old work.new half a sides.own sides.other sides.totals number out.old out.new moved.old moved.new result }
+    requires { Turnable tokens.spans.now tokens.keys.now (of_which choice.side left.operations.now right.operations.now) (of_which choice.side left.cursors.now right.cursors.now) work.old half choice.op sides.own sides.other sides.totals number out.old moved.old }
+    ensures { Turns tokens.entry.spans.now tokens.entry.keys.now (of_which choice.side left.entry.operations.now right.entry.operations.now) (of_which choice.side left.entry.cursors.now right.entry.cursors.now) work.old work.new half choice.op sides.own sides.other sides.totals number out.old out.new moved.old moved.new result }
 {
     let Sides { own, other, totals } = sides;
-    let taking_side = Which::of_number(number);
-    let split = operation::split_retain_before(a, other.ahead.next);
+    let split = operation::split_retain_before(choice.op, other.ahead.next);
     let length = operation::length_of(tokens.spans, split.front);
     let p = Progress {
         next: own.cursor,
         count: totals.cursors,
     };
     let awaited = is_side_awaited(
-        taking_side,
+        choice.side,
         left.cursors,
         right.cursors,
         p,
@@ -250,7 +238,7 @@ pub fn turn(
     let meeting = meet(tokens, taken, other.memory, work, half, own.memory.fill);
     let shift = meeting.shift;
     let progress = move_side(
-        taking_side,
+        choice.side,
         split.front,
         left.cursors,
         right.cursors,
@@ -271,7 +259,7 @@ pub fn turn(
         text,
     );
     let coming = advance_side(
-        taking_side,
+        choice.side,
         left.operations,
         right.operations,
         split.tail,
@@ -461,7 +449,7 @@ pub fn run(
             lent.tokens,
             left,
             right,
-            choice.op,
+            choice,
             side.number(),
             sides,
             work,

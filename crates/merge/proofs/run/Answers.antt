@@ -1,7 +1,7 @@
 use mathlib.Core.Path.{refl}
 use Rattle.turns.specs.Looking.{list_from}
 use Rattle.merge.proofs.Ends.{first_fits, next_readable, started, finished}
-use Rattle.merge.proofs.Taking.{none_taken, numbered, seat_turnable, seat_less, seat_step}
+use Rattle.merge.proofs.Taking.{none_taken, seat_turnable, seat_less, seat_step}
 use Rattle.merge.proofs.run.Goals as goal
 
 pub ahead_of-requires : goal.ahead_of-requires
@@ -21,19 +21,19 @@ choose-requires c = let t = c.turns in (
 
 pub turn-t-requires : goal.turn-t-requires
 turn-t-requires c = let t = c.turns in
-    rw (c.number.ensures, numbered c.in-Some.choice.side)
+    rw c.number.ensures
     (seat_turnable _ t.invariant c.in-Some.choice c.in-Some.ensures refl refl
     c.side_of.ensures c.side_of-in-Some.ensures)
 
 pub turns-smaller : goal.turns-smaller
 turns-smaller c = let t = c.turns in
     seat_less _ t.invariant c.in-Some.choice c.in-Some.ensures refl refl
-    c.side_of.ensures c.side_of-in-Some.ensures (rw (c.number.ensures, numbered c.in-Some.choice.side) at c.turn-t.ensures) c.side_of-left_side.ensures c.side_of-right_side.ensures
+    c.side_of.ensures c.side_of-in-Some.ensures (rw c.number.ensures at c.turn-t.ensures) c.side_of-left_side.ensures c.side_of-right_side.ensures
 
 pub turns-preserved : goal.turns-preserved
 turns-preserved c = let t = c.turns in
     seat_step _ t.invariant c.in-Some.choice c.in-Some.ensures refl refl
-    c.side_of.ensures c.side_of-in-Some.ensures (rw (c.number.ensures, numbered c.in-Some.choice.side) at c.turn-t.ensures) c.side_of-left_side.ensures c.side_of-right_side.ensures
+    c.side_of.ensures c.side_of-in-Some.ensures (rw c.number.ensures at c.turn-t.ensures) c.side_of-left_side.ensures c.side_of-right_side.ensures
     c.turn-t.auto.out c.turn-t.auto.moved
 
 pub returns : goal.returns

@@ -48,9 +48,7 @@ meet-meeting-requires c = (rw c.split_retain_before-split.ensures.0 (facing c.re
 pub move_side-progress-requires : goal.move_side-progress-requires
 move_side-progress-requires c = let e = c.split_retain_before-split.ensures.0 in
     let m = of-taken e c.meet-meeting.ensures in
-    let n = c.of_number-taking_side.ensures in
-    rw n
-    (shift_fits c.requires m, c.requires.space, awaits_shift c.requires m _ (c.length_of-length.ensures ∙ ap (length_of (of_spans c.args.tokens.spans.now)) e) (rw n at c.is_side_awaited-awaited.ensures))
+    (shift_fits c.requires m, c.requires.space, awaits_shift c.requires m _ (c.length_of-length.ensures ∙ ap (length_of (of_spans c.args.tokens.spans.now)) e) c.is_side_awaited-awaited.ensures)
 
 pub shortened-result-requires : goal.shortened-result-requires
 shortened-result-requires c = (rw c.split_retain_before-split.ensures.0 (taken_sound c.requires).reaches, c.meet-meeting.ensures.most)
@@ -69,7 +67,7 @@ emit-place-requires c = let e = c.split_retain_before-split.ensures.0 in
     rw (c.shortened-result.ensures, e) (emittable c.requires m)
 
 pub advance_side-coming-requires : goal.advance_side-coming-requires
-advance_side-coming-requires c = rw c.of_number-taking_side.ensures c.requires.first
+advance_side-coming-requires c = c.requires.first
 
 pub overflow_add-result : goal.overflow_add-result
 overflow_add-result c = omega (arith, length_most c.requires (of-taken c.split_retain_before-split.ensures.0 c.meet-meeting.ensures), c.requires.seen)
@@ -92,13 +90,13 @@ pub returns : goal.returns
 returns c = assembled c.requires
     (at-taken c.split_retain_before-split.ensures.0
     (record {
-      awaits = rw (c.length_of-length.ensures, c.of_number-taking_side.ensures) at c.is_side_awaited-awaited.ensures;
+      awaits = rw c.length_of-length.ensures at c.is_side_awaited-awaited.ensures;
       meets = c.meet-meeting.ensures;
-      went = rw c.of_number-taking_side.ensures at c.move_side-progress.ensures;
+      went = c.move_side-progress.ensures;
       rest = c.shortened-result.ensures;
       remembers = c.remember_operation-kept.ensures;
       emits = c.emit-place.ensures;
-      looks = rw c.of_number-taking_side.ensures at c.advance_side-coming.ensures;
+      looks = c.advance_side-coming.ensures;
       spans_is = c.span.ensures;
     }))
     c.split_retain_before-split.ensures.1
