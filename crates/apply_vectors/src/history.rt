@@ -23,15 +23,17 @@ pub fn agrees(lent: Lent, operations: &[usize], history: History) -> bool {
         told: &[],
     };
     let asked = [0, 0, history.spans.len(), history.told.len()];
-    is_due(apply::apply_with_history_lengths(lent, operations), history.due)
-        && rooms::agrees(asked, |lengths, short| {
-            gives(
-                lent,
-                operations,
-                lengths,
-                if short { nothing } else { history },
-            )
-        })
+    is_due(
+        apply::apply_with_history_lengths(lent, operations),
+        history.due,
+    ) && rooms::agrees(asked, |lengths, short| {
+        gives(
+            lent,
+            operations,
+            lengths,
+            if short { nothing } else { history },
+        )
+    })
 }
 
 // Whether the call in rooms of these lengths gives what is due.
@@ -41,8 +43,10 @@ fn gives(lent: Lent, operations: &[usize], lengths: Lengths, history: History) -
     let [_, _, spans, told] = lengths;
     let spans = &mut spans_room[..spans.min(AMPLE)];
     let told = &mut told_room[..told.min(AMPLE)];
-    is_due(apply::apply_with_history(lent, operations, spans, told), history.due)
-        && marked::holds(spans, history.spans)
+    is_due(
+        apply::apply_with_history(lent, operations, spans, told),
+        history.due,
+    ) && marked::holds(spans, history.spans)
         && marked::holds(told, history.told)
 }
 

@@ -83,8 +83,10 @@ impl<'a> Edit<'a> {
     fn agrees(self, diff: Diff) -> bool {
         let items = diff.items.len();
         let words = diff.words.len();
-        is_due(to_diff::to_diff_lengths(self.lent, self.operations), diff.due)
-            && self.gives(AMPLE, AMPLE, diff)
+        is_due(
+            to_diff::to_diff_lengths(self.lent, self.operations),
+            diff.due,
+        ) && self.gives(AMPLE, AMPLE, diff)
             && self.gives(items, words, diff)
             && (items == 0 || self.refuses(items.saturating_sub(1), words))
             && (words == 0 || self.refuses(items, words.saturating_sub(1)))
