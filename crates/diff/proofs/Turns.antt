@@ -3,7 +3,7 @@
 use mathlib.Core.Path.{◌≡◌, refl, sym, ap, ◌∙◌}
 use mathlib.Core.Logic.{◌⊎◌, inl, inr}
 use mathlib.Core.List.{List, [], ◌∷◌}
-use Prim.Native.Nat.{ℕ, ◌+◌, ◌-◌, ◌/◌, ◌≤◌, ◌<◌, zero-le}
+use Prim.Native.Nat.{ℕ, ◌+◌, ◌-◌, ◌/◌, ◌≤◌, ◌<◌, min, zero-le}
 use native.Mathlib.Nat.{sub-zero}
 use native.Mathlib.Omega.{arith}
 use lib.ListN.{length}
@@ -18,8 +18,7 @@ use Rattle.diff.specs.Checks.{text_most, used, records, numbers}
 use Rattle.diff.specs.Passes.{surveyed, walked}
 use Rattle.diff.proofs.Decoding.{items_more, items_none}
 use Rattle.std.specs.Prelude.{Ok, Err}
-use Rattle.verdict.specs.Verdicts.{Verdict, accepted, and_then}
-use Rattle.std.specs.Result.{result_and}
+use Rattle.verdict.specs.Verdicts.{accepted}
 
 -- the items from a place on
 abbrev pub rest : List ℤ → ℕ → ℕ → List Item
@@ -35,55 +34,79 @@ pub rest_all : (xs : List ℤ) (lent : ℕ) → rest xs lent 0 ≡ items_of xs l
 unfolding items_of
 rest_all xs lent = rw (sub-zero (length xs / 3))
 
--- the look at all items: the sum of the texts, and the first item that is neither
-pub record Surveying (xs : List ℤ) (lent i sum : ℕ) (checked : Verdict) : Type 0 where
+-- the look at all items: the sum of the texts, and the place of the first item that is neither, or how many there are
+pub record Surveying (xs : List ℤ) (lent i sum bad : ℕ) : Type 0 where
   pub below : sum ≤ text_most
   pub same : sum + used (rest xs lent i) ≡ used (items_of xs lent)
-  pub good : and_then checked (records i (rest xs lent i)) ≡ records 0 (items_of xs lent)
+  pub good :
+      ((bad ≡ length xs / 3) × (records i (rest xs lent i) ≡ records 0 (items_of xs lent)))
+      ⊎ ((bad < i) × (bad < length xs / 3) × (Err (Record bad) ≡ records 0 (items_of xs lent)))
 
-pub survey_begins : (xs : List ℤ) (lent : ℕ) → Surveying xs lent 0 0 accepted
+pub survey_begins : (xs : List ℤ) (lent : ℕ) → Surveying xs lent 0 0 (length xs / 3)
 survey_begins xs lent = record {
   below = zero-le;
   same = omega (arith, ap used (rest_all xs lent));
-  good = ap (records 0) (rest_all xs lent);
+  good = inl (refl, ap (records 0) (rest_all xs lent));
 }
 
--- a refusal hides those after it, and an answer stands behind both or neither
-twice : (v : Verdict) (i : ℕ) (w : Verdict) → and_then (result_and v (Err (Record i))) w ≡ and_then v (Err (Record i))
-twice (Ok u) i w = refl
-twice (Err r) i w = refl
+module _ {xs : List ℤ} {lent i sum bad : ℕ} (h : Surveying xs lent i sum bad) where
+  used_all : length xs / 3 ≤ i → sum ≡ used (items_of xs lent)
+  unfolding used
+  used_all l = omega (arith, h.same, ap used (rest_none xs lent i l))
 
-answer : (v : Verdict) (n : ℕ) → result_and v (Ok n) ≡ and_then (and_then v accepted) (Ok n)
-answer (Ok u) n = refl
-answer (Err r) n = refl
+  pub survey_ends : length xs / 3 ≤ i → length xs / 3 ≤ bad → Ok (Ok sum) ≡ surveyed (items_of xs lent)
+  unfolding surveyed records
+  survey_ends l f =
+      let r : accepted ≡ records 0 (items_of xs lent) = elim h.good [
+        | inl g ↦ (rw (rest_none xs lent i l) at g.1)
+        | inr g ↦ absurd (omega (arith, g.1))
+      ] in
+      rw (← used_all l, le-ltb _ _ h.below, ← r)
 
-module _ {xs : List ℤ} {lent i sum : ℕ} {checked : Verdict} (h : Surveying xs lent i sum checked) where
-  pub survey_ends : length xs / 3 ≤ i → Ok (result_and checked (Ok sum)) ≡ surveyed (items_of xs lent)
-  unfolding surveyed records used
-  survey_ends l =
-      let n = rest_none xs lent i l in
-      let e : sum ≡ used (items_of xs lent) = omega (arith, h.same, ap used n) in
-      let r : and_then checked accepted ≡ records 0 (items_of xs lent) = ap (λ (is : List Item). and_then checked (records i is)) (sym n) ∙ h.good in
-      rw (← e, le-ltb _ _ h.below, ← r, answer checked sum)
+  pub survey_broken : length xs / 3 ≤ i → bad < length xs / 3 → Ok (Err (Record bad)) ≡ surveyed (items_of xs lent)
+  unfolding surveyed
+  survey_broken l f =
+      let r : Err (Record bad) ≡ records 0 (items_of xs lent) = elim h.good [
+        | inl g ↦ absurd (omega (arith, g.0))
+        | inr g ↦ g.2
+      ] in
+      rw (← used_all l, le-ltb _ _ h.below, ← r)
 
   module _ (l : i < length xs / 3) where
-    pub survey_number : ((n : ℕ) × (item_at xs lent i ≡ Retain n)) ⊎ ((n : ℕ) × (item_at xs lent i ≡ Delete n)) → Surveying xs lent (i + 1) sum checked
+    -- an item that is number or text leaves what was found of those that are neither
+    good_after : records i (rest xs lent i) ≡ records (i + 1) (rest xs lent (i + 1))
+        → ((bad ≡ length xs / 3) × (records (i + 1) (rest xs lent (i + 1)) ≡ records 0 (items_of xs lent)))
+        ⊎ ((bad < i + 1) × (bad < length xs / 3) × (Err (Record bad) ≡ records 0 (items_of xs lent)))
+    good_after e = elim h.good [
+      | inl g ↦ inl (g.0, sym e ∙ g.1)
+      | inr g ↦ inr (omega (arith, g.0), g.1, g.2)
+    ]
+
+    pub survey_number : ((n : ℕ) × (item_at xs lent i ≡ Retain n)) ⊎ ((n : ℕ) × (item_at xs lent i ≡ Delete n)) → Surveying xs lent (i + 1) sum bad
     unfolding records used
     survey_number (inl (n, e)) = let m = rest_at xs lent i l e in
-        record { below = h.below; same = omega (arith, h.same, ap used m); good = rw m at h.good }
+        record { below = h.below; same = omega (arith, h.same, ap used m); good = good_after (ap (records i) m) }
     survey_number (inr (n, e)) = let m = rest_at xs lent i l e in
-        record { below = h.below; same = omega (arith, h.same, ap used m); good = rw m at h.good }
+        record { below = h.below; same = omega (arith, h.same, ap used m); good = good_after (ap (records i) m) }
 
-    pub survey_insert : {s n : ℕ} → item_at xs lent i ≡ Insert s n → n ≤ text_most - sum → Surveying xs lent (i + 1) (sum + n) checked
+    pub survey_insert : {s n : ℕ} → item_at xs lent i ≡ Insert s n → n ≤ text_most - sum → Surveying xs lent (i + 1) (sum + n) bad
     unfolding records used
     survey_insert e f = let m = rest_at xs lent i l e in
-        record { below = omega (arith, h.below); same = omega (arith, h.same, ap used m); good = rw m at h.good }
+        record { below = omega (arith, h.below); same = omega (arith, h.same, ap used m); good = good_after (ap (records i) m) }
 
-    -- the texts past an item that is neither are summed all the same
-    pub survey_neither : item_at xs lent i ≡ Neither → Surveying xs lent (i + 1) sum (result_and checked (Err (Record i)))
+    -- the first stands, and the texts past it are summed all the same
+    pub survey_neither : (b : ℕ) → b ≡ min bad i → item_at xs lent i ≡ Neither → Surveying xs lent (i + 1) sum b
     unfolding records used
-    survey_neither e = let m = rest_at xs lent i l e in
-        record { below = h.below; same = omega (arith, h.same, ap used m); good = twice checked i _ ∙ (rw m at h.good) }
+    survey_neither b z e = let m = rest_at xs lent i l e in record {
+      below = h.below;
+      same = omega (arith, h.same, ap used m);
+      good = elim h.good [
+        | inl g ↦ let w : b ≡ i = omega (arith, z, g.0) in
+            let r : Err (Record i) ≡ records 0 (items_of xs lent) = sym (ap (records i) m) ∙ g.1 in
+            rw w (inr (omega arith, l, r))
+        | inr g ↦ let w : b ≡ bad = omega (arith, z, g.0) in rw w (inr (omega (arith, g.0), g.1, g.2))
+      ];
+    }
 
     pub survey_long : {s n : ℕ} → item_at xs lent i ≡ Insert s n → text_most - sum < n → Err Size ≡ surveyed (items_of xs lent)
     unfolding surveyed used

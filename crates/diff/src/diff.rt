@@ -49,13 +49,15 @@ pub fn number_item(number: i64) -> Item
 pub fn text_item(start: i64, length: i64, lent: usize) -> Item
     ensures { result ≡ ranged start length lent }
 {
-    if 0 <= start && 0 <= length && start as usize + length as usize <= lent {
-        Item::Insert {
-            start: start as usize,
-            length: length as usize,
-        }
-    } else {
-        Item::Neither
+    if start < 0 || length < 0 {
+        return Item::Neither;
+    }
+    if lent < start as usize + length as usize {
+        return Item::Neither;
+    }
+    Item::Insert {
+        start: start as usize,
+        length: length as usize,
     }
 }
 
@@ -77,10 +79,12 @@ pub fn item_at(items: &[i64], lent: usize, i: usize) -> Item
 pub fn survey(items: &[i64], lent: usize) -> Result<Result<usize, Refusal>, Refusal>
     ensures { result ≡ surveyed (items_of items.now lent) }
 {
+    let count = items.len() / 3;
     let mut sum: usize = 0;
-    let mut checked = Ok(());
-    // Kept so, here and in `walk`: tried, and slower: an iterator hands each item on as one that may be none, and what it is is asked again.
-    'items: for i in 0..items.len() / 3 {
+    // The place of the first item that is neither, or how many there are. Kept so: with an Option, or with the refusal, was tried, and slower: each turn asks whether there is one.
+    let mut bad = count;
+    // Kept so: `Items`, which has an iterator, wants the text, of which only the length is lent here.
+    'items: for i in 0..count {
         match item_at(items, lent, i) {
             Item::Insert { start: _, length } => {
                 if 131070 - sum < length {
@@ -89,10 +93,13 @@ pub fn survey(items: &[i64], lent: usize) -> Result<Result<usize, Refusal>, Refu
                 sum += length;
             }
             Item::Retain(_) | Item::Delete(_) => {}
-            Item::Neither => checked = checked.and(Err(Refusal::Record { index: i })),
+            Item::Neither => bad = bad.min(i),
         }
     }
-    Ok(checked.and(Ok(sum)))
+    if bad < count {
+        return Ok(Err(Refusal::Record { index: bad }));
+    }
+    Ok(Ok(sum))
 }
 
 // The items of a diff as they are lent: their numbers, and the text that they use.
@@ -162,8 +169,8 @@ impl<'a> Items<'a> {
     {
         let mut position: usize = 0;
         let mut kept: usize = 0;
-        'items: for i in 0..self.numbers.len() / 3 {
-            match item_at(self.numbers, self.text.len(), i) {
+        'items: for item in self.each() {
+            match item {
                 Item::Retain(n) => {
                     let n = asked(position, len, n)?;
                     position += n;

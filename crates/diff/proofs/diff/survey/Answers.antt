@@ -1,4 +1,4 @@
-use Rattle.diff.proofs.Turns.{survey_begins, survey_ends, survey_number, survey_insert, survey_long, survey_neither}
+use Rattle.diff.proofs.Turns.{survey_begins, survey_ends, survey_broken, survey_number, survey_insert, survey_long, survey_neither}
 use Rattle.std.proofs.Common.{◌∙◌, sym}
 use Rattle.diff.proofs.diff.survey.Goals as goal
 use Rattle.diff.proofs.diff.survey.Goals.{in-Insert+else-sum-length, in-Retain, in-Neither}
@@ -15,10 +15,13 @@ items-preserved c =
     let l = c.items-test.true in
     let e = c.item_at.ensures in
     elim c.match-item_at.branch [
-      | in-Insert+else-sum-length w ↦ rw (w.sum-is, w.checked-is) (survey_insert h l (sym e ∙ w.in-Insert.is) w.if-sum-length.false)
-      | in-Retain w ↦ rw (w.sum-is, w.checked-is) (survey_number h l (rw e at w.in-Retain.is))
-      | in-Neither w ↦ rw (w.sum-is, w.checked-is, w.and-checked.ensures) (survey_neither h l (sym e ∙ w.in-Neither.is))
+      | in-Insert+else-sum-length w ↦ rw (w.sum-is, w.bad-is) (survey_insert h l (sym e ∙ w.in-Insert.is) w.if-sum-length.false)
+      | in-Retain w ↦ rw (w.sum-is, w.bad-is) (survey_number h l (rw e at w.in-Retain.is))
+      | in-Neither w ↦ rw (w.sum-is, w.bad-is) (survey_neither h l _ w.min-bad.ensures (sym e ∙ w.in-Neither.is))
     ]
 
+pub returns-then-bad-count : goal.returns-then-bad-count
+returns-then-bad-count c = survey_broken c.items.invariant c.items-test.false c.if-bad-count.true
+
 pub returns : goal.returns
-returns c = rw c.and.ensures (survey_ends c.items.invariant c.items-test.false)
+returns c = survey_ends c.items.invariant c.items-test.false c.if-bad-count.false

@@ -3,4 +3,4 @@ use Rattle.diff.proofs.Turns.{Surveying}
 use Rattle.diff.proofs.diff.survey.Given as goal
 
 abbrev pub invariant-items : goal.invariant-items
-invariant-items l = Surveying l.items l.lent l.i l.sum l.checked
+invariant-items l = Surveying l.items l.lent l.i l.sum l.bad
