@@ -64,6 +64,10 @@ fn with_digit(value: u64, byte: u8) -> u64 {
         return value;
     }
     let digit = u64::from(byte - b'0');
+    // Any digit fits behind it.
+    if value < u64::MAX / 10 {
+        return value * 10 + digit;
+    }
     match value.checked_mul(10) {
         Some(tens) => tens.checked_add(digit).unwrap_or(value),
         None => value,
@@ -80,16 +84,17 @@ fn number_at(bytes: &[u8], at: usize) -> Option<Number>
         return None;
     }
     let rest = &bytes[at + 1..];
-    let length = rest
-        .iter()
-        .position(|b| *b == b' ' || *b == b'\n')
-        .unwrap_or(rest.len());
-    let (digits, behind) = rest.split_at(length);
-    let magnitude = digits
-        .iter()
-        .fold(with_digit(0, first), |value, b| with_digit(value, *b));
+    let mut magnitude = with_digit(0, first);
+    let mut length = rest.len();
+    for (i, b) in rest.iter().enumerate() {
+        if *b == b' ' || *b == b'\n' {
+            length = i;
+            break;
+        }
+        magnitude = with_digit(magnitude, *b);
+    }
     let end = at + 1 + length;
-    let next = if behind.first() == Some(&b' ') {
+    let next = if rest.get(length) == Some(&b' ') {
         end + 1
     } else {
         end
