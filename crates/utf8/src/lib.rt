@@ -11,6 +11,7 @@ use refusal::Refusal;
 
 // How many code points bytes hold: the room to lend to `read`.
 #[tactic(auto, using(crate::proofs::Ways::length_bad, crate::proofs::Ways::length_good))]
+#[inline(always)]
 pub fn read_length(bytes: &[u8]) -> Result<usize, Refusal>
     ensures { result ≡ read_length_of bytes.now }
 {
