@@ -81,7 +81,7 @@ pub fn survey(items: &[i64], lent: usize) -> Result<Result<usize, Refusal>, Refu
 {
     let count = items.len() / 3;
     let mut sum: usize = 0;
-    // The place of the first item that is neither, or how many there are. Kept so: with an Option, or with the refusal, was tried, and slower: each turn asks whether there is one.
+    // The place of the first item that is neither, or how many there are. The refusal in its place was tried, and slower: each turn asks whether there is one. An Option is as quick.
     let mut bad = count;
     // Kept so: `Items`, which has an iterator, wants the text, of which only the length is lent here.
     'items: for i in 0..count {
