@@ -8,17 +8,19 @@ use native.Mathlib.Nat.{sub-zero}
 use native.Mathlib.Omega.{arith}
 use lib.ListN.{length}
 use lib.IntN.{ℤ}
+use lib.Dec.{ltb}
 use borrow.Author.Tests.{lt-ltb, le-ltb}
 use Rattle.refusal.specs.declared.Refusal.TheVariants.{Record, Short, Size}
 use Rattle.diff.specs.declared.diff.Item.{Item}
 use Rattle.diff.specs.declared.diff.Item.TheVariants.{Retain, Delete, Insert, Neither}
 use Rattle.diff.specs.Items.{item_at, items_from, items_of}
 use Rattle.diff.specs.Replay.{Edit, retain, delete, insert, edit_of, edits_of, mentioned, kept}
-use Rattle.diff.specs.Checks.{text_most, used, records, numbers}
+use Rattle.diff.specs.Checks.{text_most, used, records, numbers, refuse_if}
 use Rattle.diff.specs.Passes.{surveyed, walked}
 use Rattle.diff.proofs.Decoding.{items_more, items_none}
 use Rattle.std.specs.Prelude.{Ok, Err}
-use Rattle.verdict.specs.Verdicts.{accepted}
+use Rattle.verdict.specs.Verdicts.{Verdict, accepted, and_then}
+use Rattle.std.specs.Result.{result_and}
 
 -- the items from a place on
 abbrev pub rest : List ℤ → ℕ → ℕ → List Item
@@ -34,85 +36,122 @@ pub rest_all : (xs : List ℤ) (lent : ℕ) → rest xs lent 0 ≡ items_of xs l
 unfolding items_of
 rest_all xs lent = rw (sub-zero (length xs / 3))
 
--- the look at all items: the sum of the texts, and the place of the first item that is neither, or how many there are
-pub record Surveying (xs : List ℤ) (lent i sum bad : ℕ) : Type 0 where
+-- the look at all items: the sum of the texts, and the first item that is neither
+pub record Surveying (xs : List ℤ) (lent i sum : ℕ) (checked : Verdict) : Type 0 where
   pub below : sum ≤ text_most
   pub same : sum + used (rest xs lent i) ≡ used (items_of xs lent)
-  pub good :
-      ((bad ≡ length xs / 3) × (records i (rest xs lent i) ≡ records 0 (items_of xs lent)))
-      ⊎ ((bad < i) × (bad < length xs / 3) × (Err (Record bad) ≡ records 0 (items_of xs lent)))
+  pub good : and_then checked (records i (rest xs lent i)) ≡ records 0 (items_of xs lent)
 
-pub survey_begins : (xs : List ℤ) (lent : ℕ) → Surveying xs lent 0 0 (length xs / 3)
+pub survey_begins : (xs : List ℤ) (lent : ℕ) → Surveying xs lent 0 0 accepted
 survey_begins xs lent = record {
   below = zero-le;
   same = omega (arith, ap used (rest_all xs lent));
-  good = inl (refl, ap (records 0) (rest_all xs lent));
+  good = ap (records 0) (rest_all xs lent);
 }
 
-module _ {xs : List ℤ} {lent i sum bad : ℕ} (h : Surveying xs lent i sum bad) where
+-- a refusal hides those after it, and an answer stands behind both or neither
+twice : (v : Verdict) (i : ℕ) (w : Verdict) → and_then (result_and v (Err (Record i))) w ≡ and_then v (Err (Record i))
+twice (Ok u) i w = refl
+twice (Err r) i w = refl
+
+answer : (v : Verdict) (n : ℕ) → result_and v (Ok n) ≡ and_then (and_then v accepted) (Ok n)
+answer (Ok u) n = refl
+answer (Err r) n = refl
+
+module _ {xs : List ℤ} {lent i sum : ℕ} {checked : Verdict} (h : Surveying xs lent i sum checked) where
   used_all : length xs / 3 ≤ i → sum ≡ used (items_of xs lent)
   unfolding used
   used_all l = omega (arith, h.same, ap used (rest_none xs lent i l))
 
-  pub survey_ends : length xs / 3 ≤ i → length xs / 3 ≤ bad → Ok (Ok sum) ≡ surveyed (items_of xs lent)
+  pub survey_ends : length xs / 3 ≤ i → Ok (result_and checked (Ok sum)) ≡ surveyed (items_of xs lent)
   unfolding surveyed records
-  survey_ends l f =
-      let r : accepted ≡ records 0 (items_of xs lent) = elim h.good [
-        | inl g ↦ (rw (rest_none xs lent i l) at g.1)
-        | inr g ↦ absurd (omega (arith, g.1))
-      ] in
-      rw (← used_all l, le-ltb _ _ h.below, ← r)
-
-  pub survey_broken : length xs / 3 ≤ i → bad < length xs / 3 → Ok (Err (Record bad)) ≡ surveyed (items_of xs lent)
-  unfolding surveyed
-  survey_broken l f =
-      let r : Err (Record bad) ≡ records 0 (items_of xs lent) = elim h.good [
-        | inl g ↦ absurd (omega (arith, g.0))
-        | inr g ↦ g.2
-      ] in
-      rw (← used_all l, le-ltb _ _ h.below, ← r)
+  survey_ends l =
+      let r : and_then checked accepted ≡ records 0 (items_of xs lent) =
+      ap (λ (is : List Item). and_then checked (records i is)) (sym (rest_none xs lent i l)) ∙ h.good
+      in
+      rw (← used_all l, le-ltb _ _ h.below, ← r, answer checked sum)
 
   module _ (l : i < length xs / 3) where
-    -- an item that is number or text leaves what was found of those that are neither
-    good_after : records i (rest xs lent i) ≡ records (i + 1) (rest xs lent (i + 1))
-        → ((bad ≡ length xs / 3) × (records (i + 1) (rest xs lent (i + 1)) ≡ records 0 (items_of xs lent)))
-        ⊎ ((bad < i + 1) × (bad < length xs / 3) × (Err (Record bad) ≡ records 0 (items_of xs lent)))
-    good_after e = elim h.good [
-      | inl g ↦ inl (g.0, sym e ∙ g.1)
-      | inr g ↦ inr (omega (arith, g.0), g.1, g.2)
-    ]
-
-    pub survey_number : ((n : ℕ) × (item_at xs lent i ≡ Retain n)) ⊎ ((n : ℕ) × (item_at xs lent i ≡ Delete n)) → Surveying xs lent (i + 1) sum bad
+    pub survey_number : ((n : ℕ) × (item_at xs lent i ≡ Retain n)) ⊎ ((n : ℕ) × (item_at xs lent i ≡ Delete n)) → Surveying xs lent (i + 1) sum checked
     unfolding records used
     survey_number (inl (n, e)) = let m = rest_at xs lent i l e in
-        record { below = h.below; same = omega (arith, h.same, ap used m); good = good_after (ap (records i) m) }
+        record { below = h.below; same = omega (arith, h.same, ap used m); good = rw m at h.good }
     survey_number (inr (n, e)) = let m = rest_at xs lent i l e in
-        record { below = h.below; same = omega (arith, h.same, ap used m); good = good_after (ap (records i) m) }
+        record { below = h.below; same = omega (arith, h.same, ap used m); good = rw m at h.good }
 
-    pub survey_insert : {s n : ℕ} → item_at xs lent i ≡ Insert s n → n ≤ text_most - sum → Surveying xs lent (i + 1) (sum + n) bad
+    pub survey_insert : {s n : ℕ} → item_at xs lent i ≡ Insert s n → n ≤ text_most - sum → Surveying xs lent (i + 1) (sum + n) checked
     unfolding records used
     survey_insert e f = let m = rest_at xs lent i l e in
-        record { below = omega (arith, h.below); same = omega (arith, h.same, ap used m); good = good_after (ap (records i) m) }
+        record { below = omega (arith, h.below); same = omega (arith, h.same, ap used m); good = rw m at h.good }
 
-    -- the first stands, and the texts past it are summed all the same
-    pub survey_neither : (b : ℕ) → b ≡ min bad i → item_at xs lent i ≡ Neither → Surveying xs lent (i + 1) sum b
+    -- the texts past an item that is neither are summed all the same
+    pub survey_neither : item_at xs lent i ≡ Neither → Surveying xs lent (i + 1) sum (result_and checked (Err (Record i)))
     unfolding records used
-    survey_neither b z e = let m = rest_at xs lent i l e in record {
-      below = h.below;
-      same = omega (arith, h.same, ap used m);
-      good = elim h.good [
-        | inl g ↦ let w : b ≡ i = omega (arith, z, g.0) in
-            let r : Err (Record i) ≡ records 0 (items_of xs lent) = sym (ap (records i) m) ∙ g.1 in
-            rw w (inr (omega arith, l, r))
-        | inr g ↦ let w : b ≡ bad = omega (arith, z, g.0) in rw w (inr (omega (arith, g.0), g.1, g.2))
-      ];
-    }
+    survey_neither e = let m = rest_at xs lent i l e in
+        record { below = h.below; same = omega (arith, h.same, ap used m); good = twice checked i _ ∙ (rw m at h.good) }
 
     pub survey_long : {s n : ℕ} → item_at xs lent i ≡ Insert s n → text_most - sum < n → Err Size ≡ surveyed (items_of xs lent)
     unfolding surveyed used
     survey_long e f =
         let w : text_most < used (items_of xs lent) = omega (arith, h.same, ap used (rest_at xs lent i l e)) in
         rw (lt-ltb _ _ w)
+
+-- what the look has found, told by a place: that of the first item that is neither, or how many items there are
+abbrev pub found : ℕ → ℕ → Verdict
+found bad count = refuse_if (ltb bad count) (Record bad)
+
+-- the look as the code does it, which keeps such a place
+pub record Placing (xs : List ℤ) (lent i sum bad : ℕ) : Type 0 where
+  pub surveying : Surveying xs lent i sum (found bad (length xs / 3))
+  pub place : (bad ≡ length xs / 3) ⊎ ((bad < i) × (bad < length xs / 3))
+
+found_none : (bad count : ℕ) → count ≤ bad → found bad count ≡ accepted
+found_none bad count l = rw (le-ltb bad count l)
+
+found_one : (bad count : ℕ) → bad < count → found bad count ≡ Err (Record bad)
+found_one bad count l = rw (lt-ltb bad count l)
+
+pub place_begins : (xs : List ℤ) (lent : ℕ) → Placing xs lent 0 0 (length xs / 3)
+place_begins xs lent = record {
+  surveying = rw (found_none (length xs / 3) (length xs / 3) (omega arith)) (survey_begins xs lent);
+  place = inl refl;
+}
+
+module _ {xs : List ℤ} {lent i sum bad : ℕ} (h : Placing xs lent i sum bad) where
+  pub place_ends : length xs / 3 ≤ i → length xs / 3 ≤ bad → Ok (Ok sum) ≡ surveyed (items_of xs lent)
+  place_ends l f =
+      let t : Ok (result_and (found bad (length xs / 3)) (Ok sum)) ≡ surveyed (items_of xs lent) = survey_ends h.surveying l in
+      rw (found_none bad (length xs / 3) f) at t
+
+  pub place_broken : length xs / 3 ≤ i → bad < length xs / 3 → Ok (Err (Record bad)) ≡ surveyed (items_of xs lent)
+  place_broken l f =
+      let t : Ok (result_and (found bad (length xs / 3)) (Ok sum)) ≡ surveyed (items_of xs lent) = survey_ends h.surveying l in
+      rw (found_one bad (length xs / 3) f) at t
+
+  module _ (l : i < length xs / 3) where
+    -- an item that is number or text leaves the place
+    stays : {s : ℕ} → Surveying xs lent (i + 1) s (found bad (length xs / 3)) → Placing xs lent (i + 1) s bad
+    stays t = record { surveying = t; place = elim h.place [ inl e ↦ inl e | inr e ↦ inr (omega (arith, e.0), e.1) ] }
+
+    pub place_number : ((n : ℕ) × (item_at xs lent i ≡ Retain n)) ⊎ ((n : ℕ) × (item_at xs lent i ≡ Delete n)) → Placing xs lent (i + 1) sum bad
+    place_number e = stays (survey_number h.surveying l e)
+
+    pub place_insert : {s n : ℕ} → item_at xs lent i ≡ Insert s n → n ≤ text_most - sum → Placing xs lent (i + 1) (sum + n) bad
+    place_insert e f = stays (survey_insert h.surveying l e f)
+
+    -- the first stands
+    pub place_neither : (b : ℕ) → b ≡ min bad i → item_at xs lent i ≡ Neither → Placing xs lent (i + 1) sum b
+    place_neither b z e =
+        let t : Surveying xs lent (i + 1) sum (result_and (found bad (length xs / 3)) (Err (Record i))) = survey_neither h.surveying l e in
+        elim h.place [
+          | inl g ↦ let w : b ≡ i = omega (arith, z, g) in
+              rw w record { surveying = rw (found_one i (length xs / 3) l) (rw (found_none bad (length xs / 3) (omega (arith, g))) at t); place = inr (omega arith, l) }
+          | inr g ↦ let w : b ≡ bad = omega (arith, z, g.0) in
+              rw w record { surveying = rw (found_one bad (length xs / 3) g.1) (rw (found_one bad (length xs / 3) g.1) at t); place = inr (omega (arith, g.0), g.1) }
+        ]
+
+    pub place_long : {s n : ℕ} → item_at xs lent i ≡ Insert s n → text_most - sum < n → Err Size ≡ surveyed (items_of xs lent)
+    place_long e f = survey_long h.surveying l e f
 
 -- the edits from a place on
 abbrev pub rest_edits : List ℤ → List ℕ → ℕ → List Edit

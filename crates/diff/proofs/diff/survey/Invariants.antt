@@ -1,6 +1,6 @@
--- `survey` finds too much text, the first item that is neither, or what is used. Its turns are those of Surveying (Turns).
-use Rattle.diff.proofs.Turns.{Surveying}
+-- `survey` finds too much text, the first item that is neither, or what is used. Its turns are those of Placing (Turns).
+use Rattle.diff.proofs.Turns.{Placing}
 use Rattle.diff.proofs.diff.survey.Given as goal
 
 abbrev pub invariant-items : goal.invariant-items
-invariant-items l = Surveying l.items l.lent l.i l.sum l.bad
+invariant-items l = Placing l.items l.lent l.i l.sum l.bad
