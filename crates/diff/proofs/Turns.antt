@@ -111,6 +111,14 @@ found_none bad count l = rw (le-ltb bad count l)
 found_one : (bad count : ℕ) → bad < count → found bad count ≡ Err (Record bad)
 found_one bad count l = rw (lt-ltb bad count l)
 
+-- one more item that is neither: the first stands
+found_more : {bad i count b : ℕ} → (bad ≡ count) ⊎ ((bad < i) × (bad < count)) → i < count → b ≡ min bad i
+    → result_and (found bad count) (Err (Record i)) ≡ found b count
+found_more {bad} {i} {count} {b} p l z = elim p [
+  | inl g ↦ let w : b ≡ i = omega (arith, z, g) in rw (found_none bad count (omega (arith, g)), w, found_one i count l)
+  | inr g ↦ let w : b ≡ bad = omega (arith, z, g.0) in rw (w, found_one bad count g.1)
+]
+
 pub place_begins : (xs : List ℤ) (lent : ℕ) → Placing xs lent 0 0 (length xs / 3)
 place_begins xs lent = record {
   surveying = rw (found_none (length xs / 3) (length xs / 3) (omega arith)) (survey_begins xs lent);
@@ -118,15 +126,14 @@ place_begins xs lent = record {
 }
 
 module _ {xs : List ℤ} {lent i sum bad : ℕ} (h : Placing xs lent i sum bad) where
+  ends : length xs / 3 ≤ i → Ok (result_and (found bad (length xs / 3)) (Ok sum)) ≡ surveyed (items_of xs lent)
+  ends l = survey_ends h.surveying l
+
   pub place_ends : length xs / 3 ≤ i → length xs / 3 ≤ bad → Ok (Ok sum) ≡ surveyed (items_of xs lent)
-  place_ends l f =
-      let t : Ok (result_and (found bad (length xs / 3)) (Ok sum)) ≡ surveyed (items_of xs lent) = survey_ends h.surveying l in
-      rw (found_none bad (length xs / 3) f) at t
+  place_ends l f = rw (found_none bad (length xs / 3) f) at ends l
 
   pub place_broken : length xs / 3 ≤ i → bad < length xs / 3 → Ok (Err (Record bad)) ≡ surveyed (items_of xs lent)
-  place_broken l f =
-      let t : Ok (result_and (found bad (length xs / 3)) (Ok sum)) ≡ surveyed (items_of xs lent) = survey_ends h.surveying l in
-      rw (found_one bad (length xs / 3) f) at t
+  place_broken l f = rw (found_one bad (length xs / 3) f) at ends l
 
   module _ (l : i < length xs / 3) where
     -- an item that is number or text leaves the place
@@ -139,16 +146,11 @@ module _ {xs : List ℤ} {lent i sum bad : ℕ} (h : Placing xs lent i sum bad) 
     pub place_insert : {s n : ℕ} → item_at xs lent i ≡ Insert s n → n ≤ text_most - sum → Placing xs lent (i + 1) (sum + n) bad
     place_insert e f = stays (survey_insert h.surveying l e f)
 
-    -- the first stands
     pub place_neither : (b : ℕ) → b ≡ min bad i → item_at xs lent i ≡ Neither → Placing xs lent (i + 1) sum b
-    place_neither b z e =
-        let t : Surveying xs lent (i + 1) sum (result_and (found bad (length xs / 3)) (Err (Record i))) = survey_neither h.surveying l e in
-        elim h.place [
-          | inl g ↦ let w : b ≡ i = omega (arith, z, g) in
-              rw w record { surveying = rw (found_one i (length xs / 3) l) (rw (found_none bad (length xs / 3) (omega (arith, g))) at t); place = inr (omega arith, l) }
-          | inr g ↦ let w : b ≡ bad = omega (arith, z, g.0) in
-              rw w record { surveying = rw (found_one bad (length xs / 3) g.1) (rw (found_one bad (length xs / 3) g.1) at t); place = inr (omega (arith, g.0), g.1) }
-        ]
+    place_neither b z e = record {
+      surveying = rw (← found_more h.place l z) (survey_neither h.surveying l e);
+      place = inr (omega (arith, z), omega (arith, z, l));
+    }
 
     pub place_long : {s n : ℕ} → item_at xs lent i ≡ Insert s n → text_most - sum < n → Err Size ≡ surveyed (items_of xs lent)
     place_long e f = survey_long h.surveying l e f
